@@ -1,0 +1,179 @@
+ghost use Rattle.std.specs.Prelude.{◌≡◌, ◌<◌, ◌++◌, ◌∷◌, [], ◌==◌, length, IfOk, OnOk, OnErr, slice_get, option_copied};
+
+use std::alloc::{AllocError, AllocFailed, Global};
+use std::cmp::Ordering;
+use std::marker::Model;
+
+/// A value that can be copied. The copy may take memory.
+pub trait Duplicate: Drop {
+    /// An equal value.
+    fn copy(&self, alloc: Global) -> Result<Self, AllocError>
+        ensures { IfOk result (λ copy. copy ≡ self.now) };
+}
+
+/// A list, which contracts see as one. It is a `Vec` under a name that says no more than what it holds, and turns into
+/// one and back without taking memory.
+#[derive(Debug, Drop)]
+pub struct Listing<T> {
+    members: Vec<T>,
+}
+
+impl<T> Model for Listing<T> {
+    ghost use Rattle.std.specs.Prelude.{List};
+
+    ghost Value = { List T };
+
+    ghost view = { λ list. list.members.items };
+}
+
+impl<T> Listing<T> {
+    /// The empty list. It takes no memory.
+    pub fn new(alloc: Global) -> Self
+        ensures { result ≡ [] }
+    {
+        Listing {
+            members: Vec::new(alloc),
+        }
+    }
+
+    pub fn len(&self) -> usize
+        ensures { result ≡ length self.now }
+    {
+        self.members.len()
+    }
+
+    pub fn is_empty(&self) -> bool
+        ensures { result ≡ (length self.now == 0) }
+    {
+        self.members.is_empty()
+    }
+
+    pub fn as_slice(&self) -> &[T]
+        ensures { result.now ≡ self.now }
+    {
+        self.members.as_slice()
+    }
+
+    pub fn get(&self, at: usize) -> Option<&T>
+        ensures { option_copied result ≡ slice_get self.now at }
+    {
+        self.members.get(at)
+    }
+
+    /// Adds a member at the end. An `Err` changes nothing, and hands the member back.
+    pub fn push(&mut self, member: T) -> Result<(), AllocFailed<T>>
+        ensures ok { OnOk result (self.new ≡ self.old ++ member ∷ []) }
+        ensures err { OnErr result (self.new ≡ self.old) }
+    {
+        self.members.push(member)
+    }
+}
+
+impl<T: Copy> Listing<T> {
+    /// The members of a slice.
+    pub fn from_slice(alloc: Global, members: &[T]) -> Result<Self, AllocError>
+        ensures { IfOk result (λ list. list ≡ members.now) }
+    {
+        let mut list = Listing::new(alloc);
+        list.extend_from_slice(members)?;
+        Ok(list)
+    }
+
+    /// Adds the members of a slice at the end. An `Err` changes nothing.
+    pub fn extend_from_slice(&mut self, members: &[T]) -> Result<(), AllocError>
+        ensures ok { OnOk result (self.new ≡ self.old ++ members.now) }
+        ensures err { OnErr result (self.new ≡ self.old) }
+    {
+        self.members.extend_from_slice(members)
+    }
+}
+
+impl<T: PartialEq> PartialEq for Listing<T> {
+    ghost use Rattle.std.specs.Cmp.Lexicographic.{pointwise, lists_per};
+
+    ghost eq = { pointwise T.eq };
+
+    ghost laws = { lists_per T.laws };
+
+    fn eq(&self, other: &Self) -> bool {
+        self.members == other.members
+    }
+}
+
+impl<T: Eq> Eq for Listing<T> {
+    ghost use Rattle.std.proofs.lemmas.Cmp.{lists_equiv};
+
+    ghost laws = { lists_equiv T.Eq.laws };
+}
+
+impl<T: PartialOrd> PartialOrd for Listing<T> {
+    ghost use Rattle.std.specs.Cmp.Lexicographic.{slice_partial_cmp, lists_po};
+
+    ghost partial_cmp = { slice_partial_cmp T.partial_cmp };
+
+    ghost laws = { lists_po T.PartialOrd.laws };
+
+    fn partial_cmp(&self, other: &Self) -> Option<Ordering> {
+        self.members.partial_cmp(&other.members)
+    }
+}
+
+impl<T: Ord> Ord for Listing<T> {
+    ghost use Rattle.std.specs.Cmp.Lexicographic.{slice_cmp, lists_total, lists_agrees, lists_ties};
+
+    ghost cmp = { slice_cmp T.cmp };
+
+    ghost total = { lists_total T.total };
+
+    ghost matches_partial_cmp = { lists_agrees T.matches_partial_cmp };
+
+    ghost matches_eq = { lists_ties T.cmp T.matches_eq };
+
+    fn cmp(&self, other: &Self) -> Ordering {
+        self.members.cmp(&other.members)
+    }
+}
+
+impl<T> From<Vec<T>> for Listing<T> {
+    ghost from_gives = { λ v list. list ≡ v.items };
+
+    fn from(members: Vec<T>) -> Self {
+        Listing { members }
+    }
+}
+
+impl<T> From<Listing<T>> for Vec<T> {
+    ghost from_gives = { λ list v. v.items ≡ list };
+
+    fn from(list: Listing<T>) -> Self {
+        list.members
+    }
+}
+
+impl Duplicate for u8 {
+    fn copy(&self, _alloc: Global) -> Result<Self, AllocError> {
+        Ok(*self)
+    }
+}
+
+impl Duplicate for u32 {
+    fn copy(&self, _alloc: Global) -> Result<Self, AllocError> {
+        Ok(*self)
+    }
+}
+
+impl Duplicate for u64 {
+    fn copy(&self, _alloc: Global) -> Result<Self, AllocError> {
+        Ok(*self)
+    }
+}
+
+impl<T: Duplicate> Duplicate for Listing<T> {
+    fn copy(&self, alloc: Global) -> Result<Self, AllocError> {
+        let mut members = Vec::new(alloc);
+        for member in self.members.as_slice() {
+            members.push(member.copy(alloc)?)?;
+        }
+        Ok(Listing { members })
+    }
+}

@@ -1,0 +1,24 @@
+use crate::{Duplicate, Listing};
+use std::alloc::{AllocError, Global};
+
+/// A number for each device.
+pub type Counts = Listing<u32>;
+
+/// Why there was no space: how many blocks the first extent without a place needs, or 0 where it was no extent, and
+/// for each device its free buckets and those that are held back.
+#[derive(Debug, PartialEq, Eq, Drop)]
+pub struct Short {
+    pub need: u8,
+    pub free: Counts,
+    pub held: Counts,
+}
+
+impl Duplicate for Short {
+    fn copy(&self, alloc: Global) -> Result<Self, AllocError> {
+        Ok(Short {
+            need: self.need,
+            free: self.free.copy(alloc)?,
+            held: self.held.copy(alloc)?,
+        })
+    }
+}
