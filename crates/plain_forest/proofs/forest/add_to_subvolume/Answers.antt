@@ -1,0 +1,29 @@
+use Rattle.std.proofs.Common.{sym, ap, ◌∙◌}
+use Rattle.std.specs.Map.{set_value}
+use Rattle.std.specs.BTreeMap.{is_at}
+use Rattle.std.proofs.lemmas.Map.Steps.{set_value_same}
+use Rattle.std.proofs.lemmas.Result.{on_ok_weaker, on_err_weaker}
+use Rattle.plain_forest.specs.Maps.{name_cmp}
+use Rattle.plain_forest.specs.Places.{place_of}
+use Rattle.plain_forest.specs.Steps.{with_file}
+use Rattle.plain_forest.proofs.MapLemmas.{set_value-changed_at, changed_at-none}
+use Rattle.plain_forest.proofs.forest.add_to_subvolume.Goals as goal
+
+pub returns-in-Some-clause-ok : goal.returns-in-Some-clause-ok
+returns-in-Some-clause-ok c =
+    let old = c.args.subvolumes.now.entries in
+    on_ok_weaker c.add_file.result (λ added.
+    (c.get_mut.follows.holds c.add_file.new.self).0 ∙ ap (set_value (is_at (name_cmp c.args.sub.now)) old) added
+    ∙ set_value-changed_at name_cmp c.args.sub.now (with_file (place_of c.args.place.now)) old c.in-Some.tree.now (sym c.in-Some.ensures.value)) c.add_file.ensures.ok
+
+pub returns-in-Some-clause-err : goal.returns-in-Some-clause-err
+returns-in-Some-clause-err c =
+    let old = c.args.subvolumes.now.entries in
+    on_err_weaker c.add_file.result (λ same.
+    (c.get_mut.follows.holds c.add_file.new.self).0 ∙ ap (set_value (is_at (name_cmp c.args.sub.now)) old) same
+    ∙ set_value_same (is_at (name_cmp c.args.sub.now)) old c.in-Some.tree.now (sym c.in-Some.ensures.value)) c.add_file.ensures.err
+
+pub returns-in-None-clause-ok : goal.returns-in-None-clause-ok
+returns-in-None-clause-ok c =
+    ap (λ m. m.entries) c.get_mut.follows.holds-at-none
+    ∙ sym (changed_at-none name_cmp c.args.sub.now (with_file (place_of c.args.place.now)) c.args.subvolumes.now.entries (sym c.in-None.ensures.value))

@@ -1,0 +1,6 @@
+pub mod Names
+pub mod Maps
+pub mod Forest
+pub mod Steps
+pub mod History
+pub mod Places
