@@ -1,0 +1,10 @@
+-- What a run of calls leaves of a source, and what it gives to a sink.
+use Rattle.std.specs.Prelude.{◌≡◌, ℕ, ◌≤◌, List, ◌++◌, length, take, drop}
+
+-- At most so many bytes were taken from the front of what was left.
+abbrev pub TakesUpTo : ℕ → List ℕ → List ℕ → Type 0
+TakesUpTo most old new = (n : ℕ) × (n ≤ most) × (new ≡ drop n old)
+
+-- The first of the bytes, none or all of them too, were added to what was held.
+abbrev pub GivesPrefix : List ℕ → List ℕ → List ℕ → Type 0
+GivesPrefix bytes old new = (n : ℕ) × (n ≤ length bytes) × (new ≡ old ++ take n bytes)

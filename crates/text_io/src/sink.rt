@@ -1,0 +1,40 @@
+ghost use Rattle.std.specs.Prelude.{◌≡◌, ◌<◌, ◌≤◌, ◌++◌, ℕ, List, length, take, IfOk, OnOk, OnErr};
+ghost use Rattle.vol_types.specs.Faults.{CountsFaults};
+ghost use Rattle.text_io.specs.Streams.{GivesPrefix};
+
+use vol_types::Failed;
+
+/// Where bytes go to.
+pub trait Sink {
+    /// It tells which bytes it holds, or not.
+    ghost tells: { Type 0 };
+
+    /// The bytes that it holds. They mean something only where they are told.
+    ghost held: { Self → List ℕ };
+
+    /// How many calls have failed. The count stands still at its end.
+    ghost faults: { Self → ℕ };
+
+    /// Adds the first bytes of the piece to what it holds, at least one where the piece isn't empty, and says how
+    /// many. A sink goes on after a failure.
+    fn give(&mut self, from: &[u8]) -> Result<usize, Failed>
+        ensures count { IfOk result (λ n. n ≤ length from.now) }
+        ensures progress { IfOk result (λ n. 0 < length from.now → 1 ≤ n) }
+        ensures bytes { tells → IfOk result (λ n. held self.new ≡ held self.old ++ take n from.now) }
+        ensures failed { tells → OnErr result (held self.new ≡ held self.old) }
+        ensures cause { CountsFaults result (faults self.old) (faults self.new) };
+}
+
+/// Gives all the bytes to the sink. After a failure it holds the first of them, up to the call that failed. It takes
+/// no memory.
+pub fn give_all<K: Sink>(sink: &mut K, bytes: &[u8]) -> Result<(), Failed>
+    ensures ok { K.tells → OnOk result (K.held sink.new ≡ K.held sink.old ++ bytes.now) }
+    ensures failed { K.tells → OnErr result (GivesPrefix bytes.now (K.held sink.old) (K.held sink.new)) }
+    ensures cause { CountsFaults result (K.faults sink.old) (K.faults sink.new) }
+{
+    let mut given = 0;
+    while given < bytes.len() {
+        given += sink.give(&bytes[given..])?;
+    }
+    Ok(())
+}
