@@ -1,5 +1,5 @@
 -- What a block holds, read from its bytes.
-use Rattle.std.specs.Prelude.{ℕ, Bool, ◌&&◌, if_then_else, List, Option, Some, None, take, drop, slice_index, nat_lt, nat_le}
+use Rattle.std.specs.Prelude.{ℕ, Bool, ◌&&◌, if◌then◌else◌, List, Option, Some, None, take, drop, slice_index, nat_lt, nat_le}
 use Rattle.std.specs.Int.{w16, w32, w64, is_in_range, from_le_bytes}
 use Rattle.std.specs.List.{list_all}
 use Rattle.std.specs.Str.{bytes_eq}

@@ -16,8 +16,8 @@ blocks_of bytes = first_chunks 4096 (length bytes / 4096) bytes
 abbrev pub block_at : List (List ℕ) → ℕ → List ℕ
 block_at blocks p = slice_index_or blocks p []
 
--- The head is that of part p of the record whose part 0 has the first head.
-pub record Continues (first : Head) (p : ℕ) (h : Head) : Type 0 where
+-- The two heads are of one record.
+pub record IsOfRecord (first h : Head) : Type 0 where
   pub kind : h.kind ≡ first.kind
   pub version : h.version ≡ first.version
   pub parts : h.parts ≡ first.parts
@@ -25,6 +25,10 @@ pub record Continues (first : Head) (p : ℕ) (h : Head) : Type 0 where
   pub owner : h.owner ≡ first.owner
   pub sequence : h.sequence ≡ first.sequence
   pub whole : h.whole ≡ first.whole
+
+-- The head is that of part p of the record whose part 0 has the first head. Every part but the last is full, and none is empty.
+pub record Continues (first : Head) (p : ℕ) (h : Head) : Type 0 where
+  pub record_is : IsOfRecord first h
   pub part : h.part ≡ p
   pub number : h.number ≡ first.number + p
   pub filled : 0 < h.length

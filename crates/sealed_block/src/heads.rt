@@ -1,6 +1,6 @@
-ghost use Rattle.std.specs.Prelude.{◌↔◌, IsTrue};
+ghost use Rattle.std.specs.Prelude.{◌≡◌, ◌↔◌, IsTrue};
 ghost use Rattle.sealed_block.specs.Blocks.{IsInRanges};
-ghost use Rattle.sealed_block.specs.Records.{Continues};
+ghost use Rattle.sealed_block.specs.Records.{Continues, IsOfRecord};
 
 use crate::{MOST_PARTS, PAYLOAD_BYTES};
 
@@ -59,16 +59,30 @@ impl Head {
     pub fn continues(&self, first: &Head, part: u16) -> bool
         ensures { IsTrue result ↔ Continues first.now part self.now }
     {
-        self.kind == first.kind
-            && self.version == first.version
-            && self.parts == first.parts
-            && self.id == first.id
-            && self.owner == first.owner
-            && self.sequence == first.sequence
-            && self.whole == first.whole
+        self.is_of_record(first)
             && self.part == part
-            && first.number.checked_add(part as u64) == Some(self.number)
+            && self.number >= first.number
+            && self.number - first.number == part as u64
             && 0 < self.length
             && (first.parts.saturating_sub(part) <= 1 || self.length as usize == PAYLOAD_BYTES)
     }
+
+    fn is_of_record(&self, first: &Head) -> bool
+        ensures { IsTrue result ↔ IsOfRecord first.now self.now }
+    {
+        self.kind == first.kind
+            && self.version == first.version
+            && self.parts == first.parts
+            && self.owner == first.owner
+            && self.sequence == first.sequence
+            && are_same(&self.id, &first.id)
+            && are_same(&self.whole, &first.whole)
+    }
+}
+
+/// Whether the bytes are the same.
+pub(crate) fn are_same(some: &[u8], others: &[u8]) -> bool
+    ensures { IsTrue result ↔ (some.now ≡ others.now) }
+{
+    some == others
 }

@@ -1,7 +1,9 @@
-ghost use Rattle.std.specs.Prelude.{◌≡◌, length};
-ghost use Rattle.sealed_block.specs.Blocks.{IsInRanges, Opens, spelling};
+ghost use Rattle.std.specs.Prelude.{◌≡◌, ◌+◌, ◌-◌, ◌≤◌, ◌++◌, length, take, replicate};
+ghost use Rattle.sha2.specs.Sha256.{sha256};
+ghost use Rattle.sealed_block.specs.Blocks.{AreBytes, HasWidths, IsInRanges, Opens, covered, head_bytes, spelling};
 
-use crate::Head;
+use crate::{DIGEST_AT, Head, PAYLOAD_AT};
+use vol_digest::digest;
 
 /// Writes the block with this head and this payload over `into`, in one pass and without memory. The digest of the whole
 /// record is taken from the head as it is.
@@ -11,4 +13,66 @@ pub fn seal(head: &Head, payload: &[u8], into: &mut [u8])
     requires room { length into.old ≡ 4096 }
     ensures spelled { into.new ≡ spelling head.now payload.now }
     ensures opens { Opens into.new head.now payload.now }
-{}
+{
+    put_covered(head, payload, into);
+    let digest = covered_digest(into);
+    put(into, DIGEST_AT, &digest);
+}
+
+// Writes all that the digest covers.
+fn put_covered(head: &Head, payload: &[u8], into: &mut [u8])
+    requires fits { length payload.now ≤ 3968 }
+    requires room { length into.old ≡ 4096 }
+    ensures written { take 4064 into.new ≡ covered head.now payload.now }
+    ensures widths { HasWidths head.now }
+    ensures bytes { AreBytes payload.now }
+{
+    put_head(head, into);
+    put(into, PAYLOAD_AT, payload);
+    put_zeros(into, PAYLOAD_AT + payload.len(), DIGEST_AT);
+}
+
+/// The digest of what a block's digest covers.
+pub(crate) fn covered_digest(block: &[u8]) -> [u8; 32]
+    requires { 4064 ≤ length block.now }
+    ensures { result ≡ sha256 (take 4064 block.now) }
+{
+    digest(&block[..DIGEST_AT])
+}
+
+/// Writes the head over the first bytes.
+pub(crate) fn put_head(head: &Head, into: &mut [u8])
+    requires { 96 ≤ length into.old }
+    ensures written { take 96 into.new ≡ head_bytes head.now }
+    ensures widths { HasWidths head.now }
+{
+    put(into, 0, b"bvolseal");
+    put(into, 8, &[head.kind, head.version, 0, 0]);
+    put(into, 12, &head.part.to_le_bytes());
+    put(into, 14, &head.parts.to_le_bytes());
+    put(into, 16, &head.id);
+    put(into, 32, &head.owner.to_le_bytes());
+    put(into, 40, &head.number.to_le_bytes());
+    put(into, 48, &head.sequence.to_le_bytes());
+    put(into, 56, &head.length.to_le_bytes());
+    put(into, 60, &[0; 4]);
+    put(into, 64, &head.whole);
+}
+
+// Writes the bytes behind the first `at` ones.
+fn put(into: &mut [u8], at: usize, bytes: &[u8])
+    requires { at + length bytes.now ≤ length into.old }
+    ensures written { take (at + length bytes.now) into.new ≡ take at into.old ++ bytes.now }
+    ensures bytes { AreBytes bytes.now }
+{
+    into[at..at + bytes.len()].copy_from_slice(bytes);
+}
+
+// Writes zeros behind the first `at` bytes, up to `end`.
+fn put_zeros(into: &mut [u8], at: usize, end: usize)
+    requires order { at ≤ end }
+    requires room { end ≤ length into.old }
+    ensures { take end into.new ≡ take at into.old ++ replicate (end - at) 0 }
+{
+    into[at..end].fill(0);
+}
