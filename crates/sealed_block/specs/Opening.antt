@@ -1,5 +1,5 @@
 -- What a block holds, read from its bytes.
-use Rattle.std.specs.Prelude.{ℕ, Bool, ◌&&◌, if◌then◌else◌, List, Option, Some, None, take, drop, slice_index, nat_lt, nat_le}
+use Rattle.std.specs.Prelude.{ℕ, Bool, ◌&&◌, ◌==◌, length, if◌then◌else◌, List, Option, Some, None, take, drop, slice_index, nat_lt, nat_le}
 use Rattle.std.specs.Int.{w16, w32, w64, is_in_range, from_le_bytes}
 use Rattle.std.specs.List.{list_all}
 use Rattle.std.specs.Str.{bytes_eq}
@@ -36,6 +36,6 @@ is_in_ranges h = is_in_range 1 4 h.kind && is_in_range 1 255 h.version && nat_lt
 -- the head of a block that is sealed, and none of another block
 unfoldable pub opened : List ℕ → Option Head
 opened block =
-    if list_all (λ b. nat_lt b 256) block && is_in_ranges (head_in block) && bytes_eq block (spelling (head_in block) (payload_in block))
+    if length block == 4096 && list_all (λ b. nat_lt b 256) block && is_in_ranges (head_in block) && bytes_eq block (spelling (head_in block) (payload_in block))
     then Some (head_in block)
     else None

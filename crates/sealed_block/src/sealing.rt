@@ -32,15 +32,15 @@ fn put_covered(head: &Head, payload: &[u8], into: &mut [u8])
     put_zeros(into, PAYLOAD_AT + payload.len(), DIGEST_AT);
 }
 
-/// The digest of what a block's digest covers.
-pub(crate) fn covered_digest(block: &[u8]) -> [u8; 32]
+// The digest of all that a block's digest covers.
+fn covered_digest(block: &[u8]) -> [u8; 32]
     requires { 4064 ≤ length block.now }
     ensures { result ≡ sha256 (take 4064 block.now) }
 {
     digest(&block[..DIGEST_AT])
 }
 
-/// Writes the head over the first bytes.
+/// Writes the head over the first 96 bytes.
 pub(crate) fn put_head(head: &Head, into: &mut [u8])
     requires { 96 ≤ length into.old }
     ensures written { take 96 into.new ≡ head_bytes head.now }

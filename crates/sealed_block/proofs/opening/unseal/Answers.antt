@@ -1,0 +1,48 @@
+use Rattle.std.proofs.Common.{◌≡◌, ◌<◌, ap, sym, subst, ◌∙◌}
+use Rattle.std.proofs.lemmas.Bool.Decides.{not_from_Decides}
+use Rattle.std.proofs.lemmas.List.Elements.{All-from_get_or}
+use Rattle.sealed_block.specs.Blocks.{AreBytes, IsInRanges, Opens, spelling}
+use Rattle.sealed_block.specs.Opening.{head_in, payload_in, opened}
+use Rattle.sealed_block.proofs.Opened.{length-block, opened-None, opened-block, opens_where, shut_where}
+use Rattle.sealed_block.proofs.opening.unseal.Goals as goal
+
+other_size : (c : goal.Then-block-ne-BLOCK_BYTES) → Opens c.args.block.now (head_in c.args.block.now) (payload_in c.args.block.now) → ⊥
+other_size c o = c.if-block-ne-BLOCK_BYTES.true (length-block c.args.block.now _ _ o)
+
+pub returns-then-block-ne-BLOCK_BYTES-clause-head :
+    goal.returns-then-block-ne-BLOCK_BYTES-clause-head
+returns-then-block-ne-BLOCK_BYTES-clause-head c = sym (opened-None c.args.block.now (other_size c))
+
+pub returns-then-block-ne-BLOCK_BYTES-clause-shut :
+    goal.returns-then-block-ne-BLOCK_BYTES-clause-shut
+returns-then-block-ne-BLOCK_BYTES-clause-shut c = shut_where c.args.block.now (other_size c)
+
+out_of_range : (c : goal.Then-not-is_in_ranges) → Opens c.args.block.now (head_in c.args.block.now) (payload_in c.args.block.now) → ⊥
+out_of_range c o = not_from_Decides c.is_in_ranges.result c.is_in_ranges.ensures c.if-not-is_in_ranges.true (subst IsInRanges (sym c.head_of-head.ensures) o.ranges)
+
+pub returns-then-not-is_in_ranges-clause-head : goal.returns-then-not-is_in_ranges-clause-head
+returns-then-not-is_in_ranges-clause-head c = sym (opened-None c.args.block.now (out_of_range c))
+
+pub returns-then-not-is_in_ranges-clause-shut : goal.returns-then-not-is_in_ranges-clause-shut
+returns-then-not-is_in_ranges-clause-shut c = shut_where c.args.block.now (out_of_range c)
+
+other_bytes : (c : goal.Then-not-is_spelled) → Opens c.args.block.now (head_in c.args.block.now) (payload_in c.args.block.now) → ⊥
+other_bytes c o = not_from_Decides c.is_spelled.result c.is_spelled.ensures c.if-not-is_spelled.true (o.spelled ∙ ap (λ h. spelling h (payload_in c.args.block.now)) (sym c.head_of-head.ensures))
+
+pub returns-then-not-is_spelled-clause-head : goal.returns-then-not-is_spelled-clause-head
+returns-then-not-is_spelled-clause-head c = sym (opened-None c.args.block.now (other_bytes c))
+
+pub returns-then-not-is_spelled-clause-shut : goal.returns-then-not-is_spelled-clause-shut
+returns-then-not-is_spelled-clause-shut c = shut_where c.args.block.now (other_bytes c)
+
+pub returns-clause-open : goal.returns-clause-open
+returns-clause-open c =
+    let block = c.args.block.now in
+    let named = c.head_of-head.ensures in
+    let are : AreBytes block = All-from_get_or (λ b. b < 256) block 0 (λ i within. (c.type_inv.block i).fits) in
+    let ranges : IsInRanges (head_in block) = subst IsInRanges named (c.is_in_ranges.ensures.0 c.if-not-is_in_ranges.false) in
+    let spelled : block ≡ spelling (head_in block) (payload_in block) = c.is_spelled.ensures.0 c.if-not-is_spelled.false ∙ ap (λ h. spelling h (payload_in block)) named in
+    subst (λ h. Opens block h (payload_in block)) (sym named) (opens_where block c.if-block-ne-BLOCK_BYTES.false are ranges spelled)
+
+pub returns-clause-head : goal.returns-clause-head
+returns-clause-head c = sym (opened-block c.args.block.now _ _ (returns-clause-open c))
