@@ -1,5 +1,5 @@
 -- Which lists are bytes, and which numbers bytes make.
-use Rattle.std.proofs.Common.{◌≡◌, ℕ, zero, suc, ◌+◌, ◌*◌, ◌/◌, ◌^◌, ◌<◌, ◌++◌, List, [], ◌∷◌, length, slice_index, refl, subst, sym, arith, true, nat_lt, lit<}
+use Rattle.std.proofs.Common.{◌≡◌, ℕ, zero, suc, ◌/◌, ◌^◌, ◌<◌, List, length, slice_index, refl, arith, true, nat_lt, lit<}
 use Rattle.std.proofs.lemmas.List.Elements.{All-nil, All-cons, All-append}
 use Rattle.std.proofs.lemmas.Nat.{mod_below}
 use Rattle.std.specs.Int.{w16, w32, w64, byte_at, bytes_low_first, bytes_high_first, from_le_bytes, to_be_bytes}

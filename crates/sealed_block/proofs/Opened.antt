@@ -1,5 +1,5 @@
 -- Sealed blocks open, and what opens is sealed.
-use Rattle.std.proofs.Common.{◌≡◌, ℕ, ◌+◌, ◌-◌, ◌≤◌, ◌<◌, ◌^◌, ◌++◌, List, [], ◌∷◌, length, take, drop, replicate, refl, sym, ◌∙◌, ap, subst, append_assoc, length-append, arith, Option, Some, None, Bool, true, false, ◌&&◌, cond, nat_lt, nat_le, ◌==◌}
+use Rattle.std.proofs.Common.{◌≡◌, ℕ, ◌+◌, ◌-◌, ◌≤◌, ◌<◌, ◌++◌, List, length, take, drop, replicate, refl, sym, ◌∙◌, ap, subst, append_assoc, length-append, arith, Some, None, Bool, true, false, ◌&&◌, cond, nat_lt, nat_le, ◌==◌}
 use Rattle.std.proofs.lemmas.List.{take_at, drop_at, length-replicate, length-take-le, length-drop}
 use Rattle.std.proofs.lemmas.List.Elements.{All-append, All-replicate, All-same, All-take, All-drop}
 use Rattle.std.proofs.lemmas.Bool.Decides.{Decides-and, Decides-like, Decides-eqb, Decides-ltb}
@@ -36,15 +36,15 @@ AreBytes-covered : (h : Head) (payload : List ℕ) → HasWidths h → IsInRange
 unfolding covered
 AreBytes-covered h payload widths ranges are =
     All-append (λ b. b < 256) (head_bytes h ++ payload) (zeros_behind payload)
-      (All-append (λ b. b < 256) (head_bytes h) payload (AreBytes-head_bytes h widths ranges) are)
-      (All-replicate (λ b. b < 256) (3968 - length payload) 0 (omega arith))
+    (All-append (λ b. b < 256) (head_bytes h) payload (AreBytes-head_bytes h widths ranges) are)
+    (All-replicate (λ b. b < 256) (3968 - length payload) 0 (omega arith))
 
 -- A sealed block is bytes.
 pub AreBytes-block : (block : List ℕ) (h : Head) (payload : List ℕ) → Opens block h payload → AreBytes block
 unfolding spelling
 AreBytes-block block h payload o =
     All-same (λ b. b < 256) block _ o.spelled
-      (All-append (λ b. b < 256) (covered h payload) (sha256 (covered h payload)) (AreBytes-covered h payload o.widths o.ranges o.bytes) (AreBytes-sha256 (covered h payload)))
+    (All-append (λ b. b < 256) (covered h payload) (sha256 (covered h payload)) (AreBytes-covered h payload o.widths o.ranges o.bytes) (AreBytes-sha256 (covered h payload)))
 
 -- A sealed block is 4,096 bytes.
 pub length-block : (block : List ℕ) (h : Head) (payload : List ℕ) → Opens block h payload → length block ≡ 4096
@@ -76,7 +76,7 @@ payload_in-block block h payload o =
 pub opens_as_named : (block : List ℕ) (h : Head) (payload : List ℕ) → Opens block h payload → Opens block (head_in block) (payload_in block)
 opens_as_named block h payload o =
     subst (λ g. Opens block g (payload_in block)) (sym (head_in-block block h payload o))
-      (subst (λ p. Opens block h p) (sym (payload_in-block block h payload o)) o)
+    (subst (λ p. Opens block h p) (sym (payload_in-block block h payload o)) o)
 
 -- The fields that 4,096 bytes name have their widths.
 pub HasWidths-head_in : (block : List ℕ) → length block ≡ 4096 → AreBytes block → HasWidths (head_in block)
@@ -91,7 +91,7 @@ HasWidths-head_in block size are =
       number = from_le_bytes-lt_8 (field block 40 8) (long 40 8 (omega arith)) (bytes 40 8);
       sequence = from_le_bytes-lt_8 (field block 48 8) (long 48 8 (omega arith)) (bytes 48 8);
       whole = long 64 32 (omega arith);
-      whole_bytes = bytes 64 32
+      whole_bytes = bytes 64 32;
     }
 
 Decides-leb : (a b : ℕ) → Decides (nat_le a b) (a ≤ b)
@@ -101,9 +101,9 @@ Decides-leb a b = (leb-true a b, le-leb a b)
 pub is_in_ranges-Decides : (h : Head) → Decides (is_in_ranges h) (IsInRanges h)
 is_in_ranges-Decides h =
     Decides-like (is_in_ranges h)
-      (λ p. record { kind = p.0.0.0.0; version = p.0.0.0.1; part = p.0.0.1; parts = p.0.1; length = p.1 })
-      (λ r. (((((r.kind), r.version), r.part), r.parts), r.length))
-      (Decides-and _ _ (Decides-and _ _ (Decides-and _ _ (Decides-and _ _ (Decides-and _ _ (Decides-leb 1 h.kind) (Decides-leb h.kind 4)) (Decides-and _ _ (Decides-leb 1 h.version) (Decides-leb h.version 255))) (Decides-ltb h.part h.parts)) (Decides-leb h.parts 64)) (Decides-leb h.length 3968))
+    (λ p. record { kind = p.0.0.0.0; version = p.0.0.0.1; part = p.0.0.1; parts = p.0.1; length = p.1 })
+    (λ r. (((((r.kind), r.version), r.part), r.parts), r.length))
+    (Decides-and _ _ (Decides-and _ _ (Decides-and _ _ (Decides-and _ _ (Decides-and _ _ (Decides-leb 1 h.kind) (Decides-leb h.kind 4)) (Decides-and _ _ (Decides-leb 1 h.version) (Decides-leb h.version 255))) (Decides-ltb h.part h.parts)) (Decides-leb h.parts 64)) (Decides-leb h.length 3968))
 
 -- the test of a block
 abbrev is_sealed : List ℕ → Bool
@@ -125,16 +125,16 @@ opens_where block size are ranges spelled = record {
   ranges = ranges;
   bytes = AreBytes-payload_in block are;
   fills = fills-payload_in block size ranges.length;
-  spelled = spelled
+  spelled = spelled;
 }
 
 -- The test of a block says whether it is sealed with the head and the payload that it names.
 is_sealed-Decides : (block : List ℕ) → Decides (is_sealed block) (Opens block (head_in block) (payload_in block))
 is_sealed-Decides block =
     Decides-like (is_sealed block)
-      (λ facts. opens_where block facts.0.0.0 facts.0.0.1 facts.0.1 facts.1)
-      (λ o. (((length-block block _ _ o, AreBytes-block block _ _ o), o.ranges), o.spelled))
-      (Decides-and _ _ (Decides-and _ _ (Decides-and _ _ (Decides-eqb (length block) 4096) (AreBytes-Decides block)) (is_in_ranges-Decides (head_in block))) (bytes_eq-Decides block (spelling (head_in block) (payload_in block))))
+    (λ facts. opens_where block facts.0.0.0 facts.0.0.1 facts.0.1 facts.1)
+    (λ o. (((length-block block _ _ o, AreBytes-block block _ _ o), o.ranges), o.spelled))
+    (Decides-and _ _ (Decides-and _ _ (Decides-and _ _ (Decides-eqb (length block) 4096) (AreBytes-Decides block)) (is_in_ranges-Decides (head_in block))) (bytes_eq-Decides block (spelling (head_in block) (payload_in block))))
 
 -- A sealed block opens with its head.
 pub opened-block : (block : List ℕ) (h : Head) (payload : List ℕ) → Opens block h payload → opened block ≡ Some h

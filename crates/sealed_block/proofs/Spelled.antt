@@ -1,5 +1,5 @@
 -- A block is spelled as its head and payload where its pieces are.
-use Rattle.std.proofs.Common.{◌≡◌, ℕ, ◌+◌, ◌-◌, ◌≤◌, ◌++◌, List, length, take, drop, replicate, refl, sym, ◌∙◌, ap, append_assoc, arith}
+use Rattle.std.proofs.Common.{◌≡◌, ℕ, ◌-◌, ◌≤◌, ◌++◌, List, length, take, drop, replicate, sym, ◌∙◌, ap, append_assoc, arith}
 use Rattle.std.proofs.lemmas.List.{take_at, drop_at, take-take, drop-take, length-replicate, length-take-le, length-drop, take-append-drop}
 use Rattle.sha2.specs.Sha256.{sha256}
 use Rattle.sealed_block.specs.declared.heads.Head.{Head}
@@ -39,11 +39,11 @@ covered-take block h size fits pieces =
     let left : length (padding_of block n) ≡ 3968 - length payload = omega (arith, length-drop n rest, length-drop 96 whole, length-payload_of block n size fits) in
     let padding : replicate (3968 - length payload) 0 ≡ padding_of block n = ap (λ k. replicate k 0) (sym left) ∙ sym pieces.padding in
     append_assoc (head_bytes h) payload (replicate (3968 - length payload) 0)
-      ∙ ap (λ xs. xs ++ (payload ++ replicate (3968 - length payload) 0)) pieces.front
-      ∙ ap (λ xs. take 96 whole ++ (payload ++ xs)) padding
-      ∙ ap (λ xs. take 96 whole ++ (xs ++ padding_of block n)) (sym (payload_covered block n fits))
-      ∙ ap (λ xs. take 96 whole ++ xs) (take-append-drop n rest)
-      ∙ take-append-drop 96 whole
+    ∙ ap (λ xs. xs ++ (payload ++ replicate (3968 - length payload) 0)) pieces.front
+    ∙ ap (λ xs. take 96 whole ++ (payload ++ xs)) padding
+    ∙ ap (λ xs. take 96 whole ++ (xs ++ padding_of block n)) (sym (payload_covered block n fits))
+    ∙ ap (λ xs. take 96 whole ++ xs) (take-append-drop n rest)
+    ∙ take-append-drop 96 whole
 
 -- A block with these pieces is spelled so.
 pub spelled_from_pieces : (block : List ℕ) (h : Head) → length block ≡ 4096 → h.length ≤ 3968 → HasPieces block h → block ≡ spelling h (payload_of block h.length)
@@ -68,5 +68,5 @@ pieces_from_spelled block h widths size fits spelled =
     record {
       front = sym (ap (take 96) (whole ∙ joined) ∙ take_at (head_bytes h) (payload ++ zeros) 96 head_ends);
       padding = padding ∙ ap (λ k. replicate k 0) (sym (ap length padding ∙ length-replicate (3968 - length payload) 0));
-      digest = ap sha256 whole ∙ sym end
+      digest = ap sha256 whole ∙ sym end;
     }

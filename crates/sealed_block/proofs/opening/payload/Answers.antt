@@ -1,5 +1,4 @@
-use Rattle.std.proofs.Common.{rules, ◌≡◌, ◌≤◌, ◌∙◌, ap, sym, length, take, drop, Some, arith}
-use Rattle.sealed_block.specs.Blocks.{Opens}
+use Rattle.std.proofs.Common.{◌≡◌, ◌∙◌, ap, sym, take, drop, arith}
 use Rattle.sealed_block.specs.Opening.{head_in, payload_in}
 use Rattle.sealed_block.proofs.Opened.{head_in-block, length-block, opens_from_opened}
 use Rattle.sealed_block.proofs.opening.payload.Goals as goal

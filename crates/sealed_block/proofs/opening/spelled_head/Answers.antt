@@ -1,4 +1,4 @@
-use Rattle.std.proofs.Common.{rules, ◌≡◌, ◌≤◌, ◌∙◌, length, sym}
+use Rattle.std.proofs.Common.{rules, ◌≤◌, ◌∙◌, length, sym}
 use Rattle.std.proofs.lemmas.List.{take_all}
 use Rattle.sealed_block.proofs.opening.spelled_head.Goals as goal
 

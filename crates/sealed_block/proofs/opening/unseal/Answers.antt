@@ -2,7 +2,7 @@ use Rattle.std.proofs.Common.{◌≡◌, ◌<◌, ap, sym, subst, ◌∙◌}
 use Rattle.std.proofs.lemmas.Bool.Decides.{not_from_Decides}
 use Rattle.std.proofs.lemmas.List.Elements.{All-from_get_or}
 use Rattle.sealed_block.specs.Blocks.{AreBytes, IsInRanges, Opens, spelling}
-use Rattle.sealed_block.specs.Opening.{head_in, payload_in, opened}
+use Rattle.sealed_block.specs.Opening.{head_in, payload_in}
 use Rattle.sealed_block.proofs.Opened.{length-block, opened-None, opened-block, opens_where, shut_where}
 use Rattle.sealed_block.proofs.opening.unseal.Goals as goal
 

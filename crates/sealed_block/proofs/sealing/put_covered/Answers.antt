@@ -1,4 +1,4 @@
-use Rattle.std.proofs.Common.{rules, ◌≡◌, ◌++◌, ◌+◌, ◌-◌, length, replicate, ℕ, refl, ap, arith, ◌∙◌}
+use Rattle.std.proofs.Common.{◌≡◌, ◌++◌, ◌+◌, ◌-◌, length, replicate, refl, ap, arith, ◌∙◌}
 use Rattle.sealed_block.specs.Blocks.{covered, head_bytes}
 use Rattle.sealed_block.proofs.Pieces.{written}
 use Rattle.sealed_block.proofs.sealing.put_covered.Goals as goal

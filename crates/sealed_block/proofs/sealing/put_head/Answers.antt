@@ -1,4 +1,4 @@
-use Rattle.std.proofs.Common.{rules, ◌≡◌, ◌+◌, ◌++◌, length, List, ℕ, [], ◌∷◌, codes, refl, ap}
+use Rattle.std.proofs.Common.{rules, ◌≡◌, ◌+◌, length, [], ◌∷◌, codes, refl}
 use Rattle.std.specs.Int.{w16, w32, w64, to_le_bytes}
 use Rattle.sealed_block.specs.Blocks.{head_bytes}
 use Rattle.sealed_block.proofs.Pieces.{written}
@@ -12,7 +12,7 @@ returns-clause-widths c = record {
   number = search rules;
   sequence = search rules;
   whole = search rules;
-  whole_bytes = c.put-11.ensures.bytes
+  whole_bytes = c.put-11.ensures.bytes;
 }
 
 pub returns-clause-written : goal.returns-clause-written

@@ -1,4 +1,4 @@
-use Rattle.std.proofs.Common.{rules, ◌≡◌, ◌++◌, ◌+◌, ◌≤◌, length, take, List, ℕ, sym, ap, arith, ◌∙◌}
+use Rattle.std.proofs.Common.{rules, ◌≡◌, ◌+◌, ◌≤◌, length, sym, ap, arith, ◌∙◌}
 use Rattle.std.proofs.lemmas.List.{take_all}
 use Rattle.sha2.specs.Sha256.{sha256}
 use Rattle.sha2.proofs.Facts256.{length-sha256}
@@ -21,5 +21,5 @@ returns-clause-opens c = record {
   ranges = c.requires.ranges;
   bytes = c.put_covered.ensures.bytes;
   fills = c.requires.fills;
-  spelled = returns-clause-spelled c
+  spelled = returns-clause-spelled c;
 }
