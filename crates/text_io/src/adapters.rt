@@ -6,8 +6,8 @@ use crate::{Sink, Source};
 use std::io::{Read, Write};
 use vol_types::Failed;
 
-/// A source over a reader. It tells nothing of the reader's bytes, and counts each error of the reader as a fault,
-/// whatever its kind. std's files and standard input try a read that a signal interrupted again themselves.
+/// A source over a reader. It tells nothing of the reader's bytes. Each error of the reader is a fault, whatever its
+/// kind: `Interrupted` too, which comes only to a program that handles signals.
 #[derive(Drop)]
 pub struct StdSource<R> {
     inner: R,
@@ -59,8 +59,8 @@ impl<R: Read> Source for StdSource<R> {
     }
 }
 
-/// A sink over a writer. It tells nothing of what the writer holds, and counts as a fault each error of the writer,
-/// whatever its kind, and a write of nothing where there was something to write. It doesn't flush the writer.
+/// A sink over a writer. It tells nothing of what the writer holds. Each error of the writer is a fault, whatever its
+/// kind, and so is a write of nothing where there was something to write. It doesn't flush the writer.
 #[derive(Drop)]
 pub struct StdSink<W> {
     inner: W,

@@ -99,8 +99,8 @@ impl Source for MemSource {
     }
 }
 
-/// A sink in memory. It tells which bytes it holds. A call fails where it is to, and for want of memory: for as many
-/// bytes as it has the room there is none. Such a failure is counted as any other.
+/// A sink in memory. It tells which bytes it holds. A call fails where it is to, and where memory for the bytes is
+/// wanting, which can't be while they fit the room that `reserve` made. Either failure is counted.
 #[derive(Drop)]
 pub struct MemSink {
     bytes: Vec<u8>,

@@ -1,6 +1,6 @@
 ghost use Rattle.std.specs.Prelude.{◌≡◌, ◌≢◌, ◌+◌, ◌<◌, ◌≤◌, ◌++◌, [], ℕ, List, length, take, drop, IfOk, OnOk, OnErr, IsErrOf};
 ghost use Rattle.vol_types.specs.Faults.{CountsFaults, RoseBy};
-ghost use Rattle.text_io.specs.Streams.{TakesUpTo};
+ghost use Rattle.text_io.specs.Streams.{TakesUpTo, MovesOver};
 
 use std::alloc::{AllocError, Global};
 use vol_types::{Bytes, Failed};
@@ -106,7 +106,7 @@ fn take_piece<S: Source>(
     ensures piece { 0 < length piece.new.items }
     ensures count { IfOk result (λ n. n ≤ most) }
     ensures size { IfOk result (λ n. length bytes.new ≡ length bytes.old + n) }
-    ensures moved { S.tells → OnOk result (bytes.old ++ S.left source.old ≡ bytes.new ++ S.left source.new) }
+    ensures moved { S.tells → OnOk result (MovesOver bytes.old (S.left source.old) bytes.new (S.left source.new)) }
     ensures end { S.tells → IfOk result (λ n. n ≡ 0 → S.left source.old ≡ []) }
     ensures failed { S.tells → OnErr result (TakesUpTo most (S.left source.old) (S.left source.new)) }
     ensures not_too_long { result ≢ Err TakeFault.TooLong }

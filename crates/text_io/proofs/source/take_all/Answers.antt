@@ -1,8 +1,16 @@
-use Rattle.std.proofs.Common.{◌≡◌, ℕ, ◌∙◌, ap, length, drop, ◌+◌, arith}
+use Rattle.std.proofs.Common.{◌≡◌, ◌∙◌, ◌+◌, arith}
 use Rattle.text_io.specs.declared.source.TakeFault.TheVariants.{ReadFault}
-use Rattle.text_io.proofs.Lists.{rest_is, longer, at_the_end, takes_more}
+use Rattle.text_io.proofs.Lists.{splits_on, rest_after, longer, at_the_end, takes_front, takes_more}
 use Rattle.text_io.proofs.Results.{same_error}
 use Rattle.text_io.proofs.source.take_all.Goals as goal
+
+pub loop-bytes-preserved : goal.loop-bytes-preserved
+loop-bytes-preserved g c = record {
+  size = omega (arith, c.in_ok-take_piece.ensures.size, c.in_ok-take_piece.ensures.count);
+  piece = c.in_ok-take_piece.ensures.piece;
+  split = λ told. splits_on (c.loop-bytes.invariant.split told) (c.in_ok-take_piece.ensures.moved told);
+  still = c.in_ok-take_piece.ensures.no_fault (λ wrong. cc) ∙ c.loop-bytes.invariant.still;
+}
 
 pub returns-in_err-take_piece-clause-no_fault : goal.returns-in_err-take_piece-clause-no_fault
 returns-in_err-take_piece-clause-no_fault g c = λ differs.
@@ -10,36 +18,25 @@ returns-in_err-take_piece-clause-no_fault g c = λ differs.
 
 pub returns-in_err-take_piece-clause-taken : goal.returns-in_err-take_piece-clause-taken
 returns-in_err-take_piece-clause-taken g c = λ told.
-    takes_more (g.S.Source.left c.args.source.now) c.loop-bytes.bytes (g.S.Source.left c.loop-bytes.source) (g.S.Source.left c.take_piece.new.source) c.saturating_add-most.result (c.args.limit + 1) (c.loop-bytes.invariant.moved told) (c.in_err-take_piece.ensures.failed told) (omega arith)
+    takes_more _ _ _ (c.loop-bytes.invariant.split told) (c.in_err-take_piece.ensures.failed told) (omega arith)
 
 pub returns-then-branch-eq0-clause-all : goal.returns-then-branch-eq0-clause-all
 returns-then-branch-eq0-clause-all g c = λ told.
-    (at_the_end (g.S.Source.left c.args.source.now) c.loop-bytes.bytes (g.S.Source.left c.loop-bytes.source) c.take_piece.new.bytes (g.S.Source.left c.take_piece.new.source) (c.loop-bytes.invariant.moved told) (c.in_ok-take_piece.ensures.moved told) (c.in_ok-take_piece.ensures.end told (omega arith)) (omega (arith, c.in_ok-take_piece.ensures.size))).0
+    (at_the_end (c.loop-bytes.invariant.split told) (c.in_ok-take_piece.ensures.moved told) (c.in_ok-take_piece.ensures.end told (omega arith)) (omega (arith, c.in_ok-take_piece.ensures.size))).0
 
 pub returns-then-branch-eq0-clause-end : goal.returns-then-branch-eq0-clause-end
 returns-then-branch-eq0-clause-end g c = λ told.
-    (at_the_end (g.S.Source.left c.args.source.now) c.loop-bytes.bytes (g.S.Source.left c.loop-bytes.source) c.take_piece.new.bytes (g.S.Source.left c.take_piece.new.source) (c.loop-bytes.invariant.moved told) (c.in_ok-take_piece.ensures.moved told) (c.in_ok-take_piece.ensures.end told (omega arith)) (omega (arith, c.in_ok-take_piece.ensures.size))).1
+    (at_the_end (c.loop-bytes.invariant.split told) (c.in_ok-take_piece.ensures.moved told) (c.in_ok-take_piece.ensures.end told (omega arith)) (omega (arith, c.in_ok-take_piece.ensures.size))).1
 
 pub returns-then-branch-eq0-clause-taken : goal.returns-then-branch-eq0-clause-taken
 returns-then-branch-eq0-clause-taken g c = λ told.
-    (length c.take_piece.new.bytes, omega (arith, c.in_ok-take_piece.ensures.size, c.in_ok-take_piece.ensures.count), rest_is (g.S.Source.left c.args.source.now) c.take_piece.new.bytes (g.S.Source.left c.take_piece.new.source) (c.loop-bytes.invariant.moved told ∙ c.in_ok-take_piece.ensures.moved told))
-
-pub loop-bytes-preserved : goal.loop-bytes-preserved
-loop-bytes-preserved g c = record {
-  size = omega (arith, c.in_ok-take_piece.ensures.size, c.in_ok-take_piece.ensures.count);
-  piece = c.in_ok-take_piece.ensures.piece;
-  moved = λ told. c.loop-bytes.invariant.moved told ∙ c.in_ok-take_piece.ensures.moved told;
-  still = c.in_ok-take_piece.ensures.no_fault (λ wrong. cc) ∙ c.loop-bytes.invariant.still;
-}
+    takes_front _ (splits_on (c.loop-bytes.invariant.split told) (c.in_ok-take_piece.ensures.moved told)) (omega (arith, c.in_ok-take_piece.ensures.size, c.in_ok-take_piece.ensures.count))
 
 pub returns-clause-too_long : goal.returns-clause-too_long
-returns-clause-too_long g c = λ told _.
-    longer (g.S.Source.left c.args.source.now) c.loop-bytes.bytes (g.S.Source.left c.loop-bytes.source) c.args.limit (c.loop-bytes.invariant.moved told) (omega arith)
+returns-clause-too_long g c = λ told _. longer _ (c.loop-bytes.invariant.split told) (omega arith)
 
 pub returns-clause-one_more : goal.returns-clause-one_more
-returns-clause-one_more g c = λ told _.
-    rest_is (g.S.Source.left c.args.source.now) c.loop-bytes.bytes (g.S.Source.left c.loop-bytes.source) (c.loop-bytes.invariant.moved told) ∙ ap (λ (n : ℕ). drop n (g.S.Source.left c.args.source.now)) (omega arith)
+returns-clause-one_more g c = λ told _. rest_after (c.args.limit + 1) (c.loop-bytes.invariant.split told) (omega arith)
 
 pub returns-clause-taken : goal.returns-clause-taken
-returns-clause-taken g c = λ told.
-    (length c.loop-bytes.bytes, c.loop-bytes.invariant.size, rest_is (g.S.Source.left c.args.source.now) c.loop-bytes.bytes (g.S.Source.left c.loop-bytes.source) (c.loop-bytes.invariant.moved told))
+returns-clause-taken g c = λ told. takes_front _ (c.loop-bytes.invariant.split told) c.loop-bytes.invariant.size

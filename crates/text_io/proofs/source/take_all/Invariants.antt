@@ -1,11 +1,12 @@
-use Rattle.std.proofs.Common.{length, ◌+◌, ◌-◌, ◌≡◌, ◌<◌, ◌≤◌, ◌++◌}
+use Rattle.std.proofs.Common.{length, ◌+◌, ◌-◌, ◌≡◌, ◌<◌, ◌≤◌}
+use Rattle.text_io.proofs.Lists.{Splits}
 use Rattle.text_io.proofs.source.take_all.Given as goal
 
 abbrev pub invariant-loop-bytes : goal.invariant-loop-bytes
 invariant-loop-bytes g l = record {
   size : length l.bytes ≤ l.limit + 1;
   piece : 0 < length l.piece.items;
-  moved : g.S.Source.tells → g.S.Source.left l.fn.source ≡ l.bytes ++ g.S.Source.left l.source;
+  split : g.S.Source.tells → Splits (g.S.Source.left l.fn.source) l.bytes (g.S.Source.left l.source);
   still : g.S.Source.faults l.source ≡ g.S.Source.faults l.fn.source;
 }
 
