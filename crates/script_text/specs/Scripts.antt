@@ -1,0 +1,40 @@
+-- Which script stands in the lines of a text, and which line is the first bad one.
+use Rattle.std.specs.Prelude.{◌≡◌, ℕ, ◌+◌, List, [], ◌∷◌, ◌++◌, length}
+use Rattle.script_text.specs.Grammar.{Says, HasFault}
+use Rattle.script_text.specs.declared.reading.Line.{Line}
+use Rattle.script_text.specs.declared.reading.LineFault.{LineFault}
+use Rattle.script_text.specs.declared.reading.ScriptFault.{ScriptFault}
+use Rattle.script_text.specs.declared.reading.ScriptFault.TheVariants.{Bad, NoMemory}
+
+-- The text of a line says this to client 0, under its number.
+pub record IsLine (number : ℕ) (text : List ℕ) (entry : Line) : Type 0 where
+  pub numbered : entry.line ≡ number
+  pub first_client : entry.client ≡ 0
+  pub said : Says text entry.op
+
+-- the script has one line for each text, in order, numbered from here on
+abbrev pub IsScriptFrom : ℕ → List (List ℕ) → List Line → Type 0
+IsScriptFrom number [] [] = Unit {0}
+IsScriptFrom number [] (entry ∷ script) = ⊥
+IsScriptFrom number (text ∷ texts) [] = ⊥
+IsScriptFrom number (text ∷ texts) (entry ∷ script) = IsLine number text entry × IsScriptFrom (number + 1) texts script
+
+-- the script has one line for each text, in order, numbered from 1
+abbrev pub IsScript : List (List ℕ) → List Line → Type 0
+IsScript texts script = IsScriptFrom 1 texts script
+
+-- The text of this number, counted from 1, has the fault, and those before it are a script.
+pub record IsFirstBad (texts : List (List ℕ)) (number : ℕ) (cause : LineFault) : Type 0 where
+  pub before : List (List ℕ)
+  pub bad : List ℕ
+  pub after : List (List ℕ)
+  pub parts : texts ≡ before ++ bad ∷ after
+  pub place : number ≡ length before + 1
+  pub script : List Line
+  pub readable : IsScript before script
+  pub fault : HasFault bad cause
+
+-- the lines have this fault; want of memory says nothing of them
+abbrev pub IsFaultOf : List (List ℕ) → ScriptFault → Type 0
+IsFaultOf texts (Bad number cause) = IsFirstBad texts number cause
+IsFaultOf texts NoMemory = Unit {0}

@@ -1,0 +1,68 @@
+ghost use Rattle.std.specs.Prelude.{◌≡◌, ◌++◌, ◌≢◌, ℕ, List, [], ◌∷◌, codes, IfOk, IfErr, MatchOption, Some};
+ghost use Rattle.script_text.specs.Bytes.{is_plain, is_name};
+ghost use Rattle.script_text.specs.Grammar.{in_main, Says, HasFault};
+ghost use Rattle.script_text.specs.Commands.{op_of};
+
+use crate::LineFault;
+use plain_forest::{Op, Path};
+use std::alloc::{AllocError, Global};
+use vol_types::{Bytes, NameList};
+
+/// What a line spells, with its words where they stand in the line.
+#[derive(Clone, Copy)]
+pub(crate) enum Command<'a> {
+    Mkfile(&'a [u8]),
+    Ls,
+}
+
+/// Whether the byte stands for itself in a name.
+pub(crate) fn is_byte_plain(byte: u8) -> bool
+    ensures { result ≡ is_plain byte }
+{
+    byte.is_ascii_graphic() && byte != b'%'
+}
+
+// Whether the bytes are a name's.
+fn is_name_word(name: &[u8]) -> bool
+    ensures { result ≡ is_name name.now }
+{
+    !name.is_empty()
+        && name
+            .iter()
+            .all(|byte| is_byte_plain(*byte) && *byte != b'/')
+}
+
+impl<'a> Command<'a> {
+    /// What the line spells. It takes no memory.
+    pub(crate) fn parse(line: &'a [u8]) -> Result<Self, LineFault>
+        ensures ok { IfOk result (λ command. Says line.now (Some (op_of command))) }
+        ensures err { IfErr result (HasFault line.now) }
+    {
+        if line == b"ls main:/".as_slice() {
+            return Ok(Command::Ls);
+        }
+        match line.strip_prefix(b"mkfile main:/".as_slice()) {
+            Some(name) if is_name_word(name) => Ok(Command::Mkfile(name)),
+            _ => Err(LineFault::NotBuilt),
+        }
+    }
+
+    /// Its operation, with its words copied.
+    pub(crate) fn to_op(self, alloc: Global) -> Result<Op, AllocError>
+        ensures { IfOk result (λ op. op ≡ op_of self) }
+    {
+        let sub = Bytes::from_slice(alloc, b"main".as_slice())?;
+        let mut names = NameList::new(alloc);
+        match self {
+            Command::Mkfile(name) => {
+                names.push(Bytes::from_slice(alloc, name)?)?;
+                Ok(Op::Mkfile {
+                    path: Path { sub, names },
+                })
+            }
+            Command::Ls => Ok(Op::Ls {
+                path: Path { sub, names },
+            }),
+        }
+    }
+}
