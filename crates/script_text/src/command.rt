@@ -1,9 +1,9 @@
-ghost use Rattle.std.specs.Prelude.{◌≡◌, ◌++◌, ◌≢◌, ℕ, List, [], ◌∷◌, codes, IfOk, IfErr, MatchOption, Some};
-ghost use Rattle.script_text.specs.Bytes.{is_plain, is_name};
-ghost use Rattle.script_text.specs.Grammar.{in_main, Says, HasFault};
+ghost use Rattle.std.specs.Prelude.{◌≡◌, IfOk, IfErr, Some};
+ghost use Rattle.script_text.specs.Grammar.{Says, HasFault};
 ghost use Rattle.script_text.specs.Commands.{op_of};
 
 use crate::LineFault;
+use crate::names::is_name_word;
 use plain_forest::{Op, Path};
 use std::alloc::{AllocError, Global};
 use vol_types::{Bytes, NameList};
@@ -13,23 +13,6 @@ use vol_types::{Bytes, NameList};
 pub(crate) enum Command<'a> {
     Mkfile(&'a [u8]),
     Ls,
-}
-
-/// Whether the byte stands for itself in a name.
-pub(crate) fn is_byte_plain(byte: u8) -> bool
-    ensures { result ≡ is_plain byte }
-{
-    byte.is_ascii_graphic() && byte != b'%'
-}
-
-// Whether the bytes are a name's.
-fn is_name_word(name: &[u8]) -> bool
-    ensures { result ≡ is_name name.now }
-{
-    !name.is_empty()
-        && name
-            .iter()
-            .all(|byte| is_byte_plain(*byte) && *byte != b'/')
 }
 
 impl<'a> Command<'a> {
@@ -49,7 +32,7 @@ impl<'a> Command<'a> {
 
     /// Its operation, with its words copied.
     pub(crate) fn to_op(self, alloc: Global) -> Result<Op, AllocError>
-        ensures { IfOk result (λ op. op ≡ op_of self) }
+        ensures { IfOk result (λ op. op ≡ op_of self.entry) }
     {
         let sub = Bytes::from_slice(alloc, b"main".as_slice())?;
         let mut names = NameList::new(alloc);

@@ -1,8 +1,8 @@
-ghost use Rattle.std.specs.Prelude.{◌≡◌, ◌++◌, OnOk, OnErr, string_bytes};
+ghost use Rattle.std.specs.Prelude.{◌≡◌, ◌++◌, codes, OnOk, OnErr, string_bytes};
 ghost use Rattle.std.specs.List.{flat_map};
 ghost use Rattle.script_text.specs.Replies.{escaped_byte, escaped, listed_name, cause_word, reply_text, reply_line_of, end_line_of};
 
-use crate::command::is_byte_plain;
+use crate::names::is_byte_plain;
 use plain_forest::{Cause, Reply};
 use std::alloc::{AllocError, Global};
 use vol_types::{Bytes, FlaggedName};

@@ -1,0 +1,35 @@
+-- What a line spells is one operation.
+use Rattle.std.proofs.Common.{◌≡◌, ℕ, List, [], ◌∷◌, ◌++◌, Option, Some, None, refl, sym, ap, ◌∙◌}
+use Rattle.std.proofs.lemmas.List.{append_cancel_left}
+use Rattle.std.specs.Prelude.{codes}
+use Rattle.plain_forest.specs.declared.path.Path.{Path}
+use Rattle.plain_forest.specs.declared.operation.Op.{Op}
+use Rattle.plain_forest.specs.declared.operation.Op.TheVariants.{Mkfile, Ls, Sync}
+use Rattle.script_text.specs.Grammar.{in_main, SpellsMkfile, SpellsLs, Spells, Says, HasFault}
+use Rattle.script_text.specs.declared.reading.LineFault.{LineFault}
+use Rattle.script_text.specs.declared.reading.LineFault.TheVariants.{NotBuilt}
+
+-- no line spells both operations
+pub mkfile_or_ls : (line : List ℕ) (p q : Path) → SpellsMkfile line p → SpellsLs line q → ⊥
+mkfile_or_ls line p q made listed =
+    let same : codes "mkfile main:/" ++ made.name ≡ codes "ls main:/" = sym made.text ∙ listed.text in cc
+
+pub one_op : (line : List ℕ) (a b : Op) → Spells line a → Spells line b → a ≡ b
+one_op line (Mkfile p) (Mkfile q) a b =
+    let same : a.name ≡ b.name = append_cancel_left (codes "mkfile main:/") a.name b.name (sym a.text ∙ b.text) in
+    ap (λ path. Mkfile path) (a.place ∙ ap (λ name. in_main (name ∷ [])) same ∙ sym b.place)
+one_op line (Mkfile p) (Ls q) a b = absurd (mkfile_or_ls line p q a b)
+one_op line (Mkfile p) Sync a b = absurd b
+one_op line (Ls p) (Mkfile q) a b = absurd (mkfile_or_ls line q p b a)
+one_op line (Ls p) (Ls q) a b = ap (λ path. Ls path) (a.place ∙ sym b.place)
+one_op line (Ls p) Sync a b = absurd b
+one_op line Sync b a c = absurd a
+
+pub one_said : (line : List ℕ) (a b : Option Op) → Says line a → Says line b → a ≡ b
+one_said line (Some a) (Some b) said again = ap (λ op. Some op) (one_op line a b said again)
+one_said line (Some a) None said again = absurd again
+one_said line None b said again = absurd said
+
+-- a line with a fault says nothing
+pub not_both : (line : List ℕ) (said : Option Op) (cause : LineFault) → Says line said → HasFault line cause → ⊥
+not_both line said NotBuilt says fault = fault said says
