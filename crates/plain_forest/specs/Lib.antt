@@ -3,4 +3,5 @@ pub mod Maps
 pub mod Forest
 pub mod Steps
 pub mod History
+pub mod HistoryLaws
 pub mod Places
