@@ -1,3 +1,5 @@
+pub mod Names
 pub mod Payloads
 pub mod Scanning
+pub mod Sound
 pub mod Taking

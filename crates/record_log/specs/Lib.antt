@@ -1,2 +1,3 @@
 pub mod Records
 pub mod Found
+pub mod Log

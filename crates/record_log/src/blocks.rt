@@ -1,8 +1,12 @@
-ghost use Rattle.std.specs.Prelude.{◌≡◌, ◌<◌, ◌≤◌, true, length, IfOk, OnOk};
+ghost use Rattle.std.specs.Prelude.{◌≡◌, ◌<◌, ◌≤◌, true, length, IfOk, OnOk, IsErrOf};
+ghost use Rattle.vol_types.specs.Faults.{RoseBy};
+ghost use Rattle.dev_model.specs.Devices.{IsPlace};
 ghost use Rattle.sealed_block.specs.Blocks.{IsInRanges};
 ghost use Rattle.record_log.specs.Records.{is_log_head, record_in};
 
+use crate::fault::LogFault;
 use crate::files::{MadeFile, read_payload};
+use dev_model::Devices;
 use sealed_block::{Head, JOURNAL_ENTRY, payload, seal, sealed_blocks_open, unseal};
 use std::alloc::{AllocError, Global};
 use vol_digest::digest;
@@ -77,4 +81,25 @@ pub fn read_record(alloc: Global, place: u32, block: &[u8]) -> Result<Option<Mad
         return Ok(None);
     }
     read_payload(alloc, payload)
+}
+
+/// Writes the record of a file at a place of the log, and flushes it.
+pub fn write_record<D: Devices>(
+    alloc: Global,
+    devices: &mut D,
+    place: u32,
+    file: &MadeFile,
+) -> Result<(), LogFault>
+    requires place { IsPlace (D.sizes devices.old) 0 place }
+    requires device { 0 < length (D.sizes devices.old) }
+    requires name { length file.now.name < 256 }
+    ensures cause { IsErrOf result LogFault.DeviceFault → RoseBy 1 (D.faults devices.old) (D.faults devices.new) }
+    ensures faults { D.faults devices.old ≤ D.faults devices.new }
+    ensures sizes { D.sizes devices.new ≡ D.sizes devices.old }
+{
+    let mut block = vec![in alloc; 0; 4096]?;
+    seal_record(alloc, place, file, &mut block)?;
+    devices.write(0, place, &block)?;
+    devices.flush(0)?;
+    Ok(())
 }

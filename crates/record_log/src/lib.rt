@@ -5,10 +5,14 @@
 #![tactic(auto)]
 
 mod blocks;
+mod fault;
 mod files;
+mod log;
 mod mounting;
 mod opening;
 
+pub use fault::LogFault;
 pub use files::MadeFile;
-pub use mounting::{LoadFault, Loaded, load};
+pub use log::RecordLog;
+pub use mounting::{Loaded, load};
 pub use opening::{Acks, Opening, Shorts};

@@ -5,42 +5,12 @@ ghost use Rattle.dev_model.specs.Disk.{as_read, block_at};
 ghost use Rattle.record_log.specs.Found.{in_main, forest_with, forest_with_block, IsMounted};
 
 use crate::blocks::read_record;
+use crate::fault::LogFault;
 use crate::files::MadeFile;
 use dev_model::Devices;
 use plain_forest::{Forest, Op, Path, Reply};
 use std::alloc::{AllocError, Global};
-use vol_types::{Bytes, Duplicate, Failed, NameList};
-
-/// Why a log wasn't read.
-#[derive(Clone, Copy, Debug, PartialEq, Eq)]
-pub enum LoadFault {
-    /// Memory was wanting.
-    NoMemory,
-    /// A read of the device failed.
-    DeviceFault,
-}
-
-impl From<AllocError> for LoadFault {
-    ghost use Rattle.std.specs.Prelude.{◌≡◌};
-    ghost use Rattle.record_log.specs.declared.mounting.LoadFault.TheVariants.{NoMemory};
-
-    ghost from_gives = { λ _ e. e ≡ NoMemory };
-
-    fn from(_: AllocError) -> Self {
-        LoadFault::NoMemory
-    }
-}
-
-impl From<Failed> for LoadFault {
-    ghost use Rattle.std.specs.Prelude.{◌≡◌};
-    ghost use Rattle.record_log.specs.declared.mounting.LoadFault.TheVariants.{DeviceFault};
-
-    ghost from_gives = { λ _ e. e ≡ DeviceFault };
-
-    fn from(_: Failed) -> Self {
-        LoadFault::DeviceFault
-    }
-}
+use vol_types::{Bytes, Duplicate, NameList};
 
 /// What a log says: the forest, and the number of records that made it.
 #[derive(Drop)]
@@ -96,11 +66,11 @@ fn take_block(
     }
 }
 
-fn read_block<D: Devices>(alloc: Global, devices: &mut D, block: u32) -> Result<Bytes, LoadFault>
+fn read_block<D: Devices>(alloc: Global, devices: &mut D, block: u32) -> Result<Bytes, LogFault>
     requires { IsPlace (D.sizes devices.old) 0 block }
     ensures bytes { D.tells → IfOk result (λ bytes. block_at (as_read (now (D.history devices.old))) 0 block ≡ Some bytes) }
     ensures same { D.tells → now (D.history devices.new) ≡ now (D.history devices.old) }
-    ensures cause { IsErrOf result LoadFault.DeviceFault → RoseBy 1 (D.faults devices.old) (D.faults devices.new) }
+    ensures cause { IsErrOf result LogFault.DeviceFault → RoseBy 1 (D.faults devices.old) (D.faults devices.new) }
     ensures faults { D.faults devices.old ≤ D.faults devices.new }
     ensures sizes { D.sizes devices.new ≡ D.sizes devices.old }
 {
@@ -110,11 +80,11 @@ fn read_block<D: Devices>(alloc: Global, devices: &mut D, block: u32) -> Result<
 }
 
 /// Reads the log of the first device. Each record costs a read of one block and its digest.
-pub fn load<D: Devices>(alloc: Global, devices: &mut D) -> Result<Loaded, LoadFault>
+pub fn load<D: Devices>(alloc: Global, devices: &mut D) -> Result<Loaded, LogFault>
     ensures found { D.tells → IfOk result (λ loaded. IsMounted (as_read (now (D.history devices.old))) loaded.records loaded.forest) }
     ensures room { IfOk result (λ loaded. loaded.records ≤ slice_index (D.sizes devices.new) 0) }
     ensures same { D.tells → now (D.history devices.new) ≡ now (D.history devices.old) }
-    ensures cause { IsErrOf result LoadFault.DeviceFault → RoseBy 1 (D.faults devices.old) (D.faults devices.new) }
+    ensures cause { IsErrOf result LogFault.DeviceFault → RoseBy 1 (D.faults devices.old) (D.faults devices.new) }
     ensures faults { D.faults devices.old ≤ D.faults devices.new }
     ensures sizes { D.sizes devices.new ≡ D.sizes devices.old }
 {
