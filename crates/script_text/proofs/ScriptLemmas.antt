@@ -2,8 +2,8 @@
 use Rattle.std.proofs.Common.{◌≡◌, ℕ, ◌+◌, ◌≤◌, List, [], ◌∷◌, ◌++◌, length, Option, refl, sym, subst, ap, ◌∙◌, arith, length-append, append_assoc, append-nil}
 use Rattle.plain_forest.specs.declared.operation.Op.{Op}
 use Rattle.script_text.specs.Lines.{lines_of}
-use Rattle.script_text.specs.Grammar.{Says, HasFault}
-use Rattle.script_text.specs.Scripts.{IsLine, IsScriptFrom, IsScript, IsFirstBad, IsFaultOf}
+use Rattle.script_text.specs.Grammar.{HasFault}
+use Rattle.script_text.specs.Scripts.{IsLine, IsScriptFrom, IsScript, IsFaultOf}
 use Rattle.script_text.specs.Readings.{IsFaultOfLine}
 use Rattle.script_text.specs.declared.reading.Line.{Line}
 use Rattle.script_text.specs.declared.reading.LineFault.{LineFault}

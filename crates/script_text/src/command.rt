@@ -11,7 +11,9 @@ use vol_types::{Bytes, NameList};
 /// What a line spells, with its words where they stand in the line.
 #[derive(Clone, Copy)]
 pub(crate) enum Command<'a> {
+    /// `mkfile` of this name in the root of `main`.
     Mkfile(&'a [u8]),
+    /// `ls` of the root of `main`.
     Ls,
 }
 

@@ -16,6 +16,7 @@ fn is_byte_of_name(byte: u8) -> bool
     is_byte_plain(byte) && byte != b'/'
 }
 
+// Whether each byte may spell a name.
 fn are_bytes_of_name(name: &[u8]) -> bool
     ensures { result ≡ list_all is_name_byte name.now }
 {

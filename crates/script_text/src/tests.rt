@@ -91,9 +91,18 @@ fn replies_are_printed(rt: HostRuntime) -> Result<(), Fail> {
     };
     for (reply, text) in [
         (Reply::Okay, b">@15 407 ok\n".as_slice()),
-        (Reply::Synced(18_446_744_073_709_551_615), b">@15 407 ok 18446744073709551615\n".as_slice()),
-        (Reply::List(FlagList::new(alloc)), b">@15 407 list\n".as_slice()),
-        (Reply::NoSpace(short), b">@15 407 err no-space need 16\n".as_slice()),
+        (
+            Reply::Synced(18_446_744_073_709_551_615),
+            b">@15 407 ok 18446744073709551615\n".as_slice(),
+        ),
+        (
+            Reply::List(FlagList::new(alloc)),
+            b">@15 407 list\n".as_slice(),
+        ),
+        (
+            Reply::NoSpace(short),
+            b">@15 407 err no-space need 16\n".as_slice(),
+        ),
         (Reply::DeviceFault(7), b">@15 407 err device 7\n".as_slice()),
         (Reply::NoMemory, b">@15 407 err no-memory\n".as_slice()),
     ] {
@@ -101,7 +110,10 @@ fn replies_are_printed(rt: HostRuntime) -> Result<(), Fail> {
     }
     for (cause, text) in [
         (Cause::BadPath, b">@15 407 err bad-path\n".as_slice()),
-        (Cause::NoSubvolume, b">@15 407 err no-subvolume\n".as_slice()),
+        (
+            Cause::NoSubvolume,
+            b">@15 407 err no-subvolume\n".as_slice(),
+        ),
         (Cause::NotFound, b">@15 407 err not-found\n".as_slice()),
         (Cause::NotDir, b">@15 407 err not-dir\n".as_slice()),
         (Cause::ReadOnly, b">@15 407 err read-only\n".as_slice()),
@@ -128,7 +140,10 @@ fn names_are_printed(rt: HostRuntime) -> Result<(), Fail> {
             flag,
         })?;
     }
-    assert_eq!(rt; printed(alloc, &Reply::List(names))?.as_slice(), b">@15 407 list !~ %00a%20b%25%FF d/%7F/\n".as_slice());
+    assert_eq!(rt;
+        printed(alloc, &Reply::List(names))?.as_slice(),
+        b">@15 407 list !~ %00a%20b%25%FF d/%7F/\n".as_slice()
+    );
     Ok(())
 }
 

@@ -1,5 +1,4 @@
-use Rattle.std.proofs.Common.{rules, ◌≡◌, ◌<◌, ◌∷◌, length, ℕ, ◌+◌, ◌-◌, ◌≤◌, true, List, [], ◌++◌, take, drop, get_or, sym, ap, ◌∙◌, arith}
-use Rattle.script_text.specs.Lines.{lines_of}
+use Rattle.std.proofs.Common.{arith}
 use Rattle.script_text.proofs.LineCuts.{cut_at, cut_last}
 use Rattle.script_text.proofs.lines.cut_line.Goals as goal
 

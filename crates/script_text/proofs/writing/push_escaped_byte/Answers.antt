@@ -1,4 +1,4 @@
-use Rattle.std.proofs.Common.{rules, ◌≡◌, true}
+use Rattle.std.proofs.Common.{rules, true}
 use Rattle.std.proofs.lemmas.Fmt.{hex_byte}
 use Rattle.script_text.proofs.writing.push_escaped_byte.Goals as goal
 
