@@ -19,11 +19,11 @@ one_op line (Mkfile p) (Mkfile q) a b =
     let same : a.name ≡ b.name = append_cancel_left (codes "mkfile main:/") a.name b.name (sym a.text ∙ b.text) in
     ap (λ path. Mkfile path) (a.place ∙ ap (λ name. in_main (name ∷ [])) same ∙ sym b.place)
 one_op line (Mkfile p) (Ls q) a b = absurd (mkfile_or_ls line p q a b)
-one_op line (Mkfile p) Sync a b = absurd b
+one_op line (Mkfile p) Sync said again = absurd again
 one_op line (Ls p) (Mkfile q) a b = absurd (mkfile_or_ls line q p b a)
 one_op line (Ls p) (Ls q) a b = ap (λ path. Ls path) (a.place ∙ sym b.place)
-one_op line (Ls p) Sync a b = absurd b
-one_op line Sync b a c = absurd a
+one_op line (Ls p) Sync said again = absurd again
+one_op line Sync b said again = absurd said
 
 pub one_said : (line : List ℕ) (a b : Option Op) → Says line a → Says line b → a ≡ b
 one_said line (Some a) (Some b) said again = ap (λ op. Some op) (one_op line a b said again)

@@ -43,9 +43,9 @@ reply_text (DeviceFault dev) = codes "err device " ++ decimal dev
 reply_text NoMemory = codes "err no-memory"
 
 -- the line of a reply: the client, the number of the script's line, the text and LF
-abbrev pub reply_line_of : ℕ → ℕ → Reply → List ℕ
+unfoldable pub reply_line_of : ℕ → ℕ → Reply → List ℕ
 reply_line_of client line reply = codes "@" ++ decimal client ++ codes " " ++ decimal line ++ codes " " ++ reply_text reply ++ 10 ∷ []
 
 -- the last line: how many commits the session made, how many of them a sync acknowledged, and LF
-abbrev pub end_line_of : ℕ → ℕ → List ℕ
+unfoldable pub end_line_of : ℕ → ℕ → List ℕ
 end_line_of commits synced = codes "end commits " ++ decimal commits ++ codes " synced " ++ decimal synced ++ 10 ∷ []

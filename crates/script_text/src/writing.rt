@@ -7,7 +7,9 @@ use plain_forest::{Cause, Reply};
 use std::alloc::{AllocError, Global};
 use vol_types::{Bytes, FlaggedName};
 
-/// Adds the line of a reply to what is printed. An `Err` changes nothing. It costs time linear in the line.
+/// Adds the line of a reply to what is printed: whose it is, which line of the script it answers, and its text. An `Err`
+/// changes nothing. It costs time linear in the line.
+#[tactic(auto, unfolding(crate::specs::Replies::reply_line_of))]
 pub fn reply_line(
     into: &mut Bytes,
     alloc: Global,
