@@ -1,5 +1,6 @@
 -- Which script stands in the lines of a text, and which line is the first bad one.
-use Rattle.std.specs.Prelude.{◌≡◌, ℕ, ◌+◌, List, [], ◌∷◌, ◌++◌, length}
+use Rattle.std.specs.Prelude.{◌≡◌, ℕ, ◌+◌, List, ◌∷◌, ◌++◌, length}
+use Rattle.std.specs.List.{AllZip, enumerate_from}
 use Rattle.script_text.specs.Grammar.{Says, HasFault}
 use Rattle.script_text.specs.declared.reading.Line.{Line}
 use Rattle.script_text.specs.declared.reading.LineFault.{LineFault}
@@ -14,10 +15,7 @@ pub record IsLine (number : ℕ) (text : List ℕ) (entry : Line) : Type 0 where
 
 -- the script has one line for each text, in order, numbered from here on
 abbrev pub IsScriptFrom : ℕ → List (List ℕ) → List Line → Type 0
-IsScriptFrom number [] [] = Unit {0}
-IsScriptFrom number [] (entry ∷ script) = ⊥
-IsScriptFrom number (text ∷ texts) [] = ⊥
-IsScriptFrom number (text ∷ texts) (entry ∷ script) = IsLine number text entry × IsScriptFrom (number + 1) texts script
+IsScriptFrom number texts script = AllZip (λ text entry. IsLine text.0 text.1 entry) (enumerate_from number texts) script
 
 -- the script has one line for each text, in order, numbered from 1
 abbrev pub IsScript : List (List ℕ) → List Line → Type 0

@@ -74,10 +74,10 @@ fn bad_lines_are_named(rt: HostRuntime) {
     }
 }
 
-// What stands behind a byte that was there before.
+// The line of a reply to line 1 of client 0, behind a byte that was there before.
 fn printed(alloc: Global, reply: &Reply) -> Result<Bytes, AllocError> {
     let mut into = Bytes::from_slice(alloc, b">".as_slice())?;
-    reply_line(&mut into, alloc, 15, 407, reply)?;
+    reply_line(&mut into, alloc, 0, 1, reply)?;
     Ok(into)
 }
 
@@ -90,36 +90,39 @@ fn replies_are_printed(rt: HostRuntime) -> Result<(), Fail> {
         held: Counts::new(alloc),
     };
     for (reply, text) in [
-        (Reply::Okay, b">@15 407 ok\n".as_slice()),
+        (Reply::Okay, b">@0 1 ok\n".as_slice()),
         (
             Reply::Synced(18_446_744_073_709_551_615),
-            b">@15 407 ok 18446744073709551615\n".as_slice(),
+            b">@0 1 ok 18446744073709551615\n".as_slice(),
         ),
         (
             Reply::List(FlagList::new(alloc)),
-            b">@15 407 list\n".as_slice(),
+            b">@0 1 list\n".as_slice(),
         ),
         (
             Reply::NoSpace(short),
-            b">@15 407 err no-space need 16\n".as_slice(),
+            b">@0 1 err no-space need 16\n".as_slice(),
         ),
-        (Reply::DeviceFault(7), b">@15 407 err device 7\n".as_slice()),
-        (Reply::NoMemory, b">@15 407 err no-memory\n".as_slice()),
+        (Reply::DeviceFault(7), b">@0 1 err device 7\n".as_slice()),
+        (Reply::NoMemory, b">@0 1 err no-memory\n".as_slice()),
     ] {
         assert_eq!(rt; printed(alloc, &reply)?.as_slice(), text);
     }
+    Ok(())
+}
+
+#[test]
+fn causes_are_printed(rt: HostRuntime) -> Result<(), Fail> {
+    let alloc = rt.alloc();
     for (cause, text) in [
-        (Cause::BadPath, b">@15 407 err bad-path\n".as_slice()),
-        (
-            Cause::NoSubvolume,
-            b">@15 407 err no-subvolume\n".as_slice(),
-        ),
-        (Cause::NotFound, b">@15 407 err not-found\n".as_slice()),
-        (Cause::NotDir, b">@15 407 err not-dir\n".as_slice()),
-        (Cause::ReadOnly, b">@15 407 err read-only\n".as_slice()),
-        (Cause::Exists, b">@15 407 err exists\n".as_slice()),
-        (Cause::Crowded, b">@15 407 err crowded\n".as_slice()),
-        (Cause::IdsSpent, b">@15 407 err ids-spent\n".as_slice()),
+        (Cause::BadPath, b">@0 1 err bad-path\n".as_slice()),
+        (Cause::NoSubvolume, b">@0 1 err no-subvolume\n".as_slice()),
+        (Cause::NotFound, b">@0 1 err not-found\n".as_slice()),
+        (Cause::NotDir, b">@0 1 err not-dir\n".as_slice()),
+        (Cause::ReadOnly, b">@0 1 err read-only\n".as_slice()),
+        (Cause::Exists, b">@0 1 err exists\n".as_slice()),
+        (Cause::Crowded, b">@0 1 err crowded\n".as_slice()),
+        (Cause::IdsSpent, b">@0 1 err ids-spent\n".as_slice()),
     ] {
         assert_eq!(rt; printed(alloc, &Reply::Refused(cause))?.as_slice(), text);
     }
@@ -142,16 +145,20 @@ fn names_are_printed(rt: HostRuntime) -> Result<(), Fail> {
     }
     assert_eq!(rt;
         printed(alloc, &Reply::List(names))?.as_slice(),
-        b">@15 407 list !~ %00a%20b%25%FF d/%7F/\n".as_slice()
+        b">@0 1 list !~ %00a%20b%25%FF d/%7F/\n".as_slice()
     );
     Ok(())
 }
 
 #[test]
-fn the_end_is_printed(rt: HostRuntime) -> Result<(), Fail> {
+fn lines_are_added(rt: HostRuntime) -> Result<(), Fail> {
     let alloc = rt.alloc();
-    let mut into = Bytes::from_slice(alloc, b">".as_slice())?;
+    let mut into = Bytes::new(alloc);
+    reply_line(&mut into, alloc, 15, 4_294_967_295, &Reply::Okay)?;
     end_line(&mut into, alloc, 20, 0)?;
-    assert_eq!(rt; into.as_slice(), b">end commits 20 synced 0\n".as_slice());
+    assert_eq!(rt;
+        into.as_slice(),
+        b"@15 4294967295 ok\nend commits 20 synced 0\n".as_slice()
+    );
     Ok(())
 }
