@@ -1,3 +1,4 @@
 pub mod Checks
+pub mod Copies
 pub mod Counting
 pub mod MapLemmas

@@ -3,6 +3,7 @@ ghost use Rattle.plain_forest.specs.Maps.{name_cmp, value_at, with_value};
 ghost use Rattle.plain_forest.specs.Steps.{count_in_slot, check_name};
 
 use crate::Cause;
+use crate::maps::copy_map;
 use crate::operation::refuse_if;
 use std::alloc::{AllocError, Global};
 use std::collections::{BTreeMap, btree_map};
@@ -91,5 +92,14 @@ impl NameTable {
         ensures { result ≡ self.now }
     {
         self.numbers.iter()
+    }
+}
+
+impl Duplicate for NameTable {
+    fn copy(&self, alloc: Global) -> Result<Self, AllocError> {
+        Ok(NameTable {
+            numbers: copy_map(alloc, &self.numbers)?,
+            slot_counts: copy_map(alloc, &self.slot_counts)?,
+        })
     }
 }

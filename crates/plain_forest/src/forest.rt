@@ -4,13 +4,14 @@ ghost use Rattle.plain_forest.specs.Forest.{fresh, Tree};
 ghost use Rattle.plain_forest.specs.Places.{place_of};
 ghost use Rattle.plain_forest.specs.Steps.{result_map, tree_of, new_place, directory_at, with_file, made_file, reply_of, forest_after, refusal_of, next_number, IsFree};
 
+use crate::maps::copy_map;
 use crate::operation::refuse_if;
 use crate::place::NewPlace;
 use crate::{Cause, NameTable, Op, Path, Reply, Subvolume};
 use std::alloc::{AllocError, Global};
 use std::collections::BTreeMap;
 use std::marker::Model;
-use vol_types::Bytes;
+use vol_types::{Bytes, Duplicate};
 
 /// How many clients a volume serves.
 pub const CLIENTS: u8 = 16;
@@ -56,6 +57,13 @@ impl Forest {
             next: [2, 1, 1, 1, 1, 1, 1, 1, 1, 1, 1, 1, 1, 1, 1, 1],
             ids_left: 4_294_967_294,
         })
+    }
+
+    /// An equal forest. It goes over all that the forest holds, the bytes of each file too.
+    pub fn copy(&self) -> Result<Self, AllocError>
+        ensures { IfOk result (λ forest. forest ≡ self.now) }
+    {
+        Duplicate::copy(self, self.alloc)
     }
 
     /// The operation of a client. An `Err` changes nothing. A sync answers with 0 commits, since a forest has no
@@ -160,6 +168,17 @@ impl Forest {
         let number = tree.walk(path.names.as_slice())?;
         let names = tree.directory(number).ok_or(Cause::NotDir)?;
         Ok((tree, names))
+    }
+}
+
+impl Duplicate for Forest {
+    fn copy(&self, alloc: Global) -> Result<Self, AllocError> {
+        Ok(Forest {
+            alloc,
+            subvolumes: copy_map(alloc, &self.subvolumes)?,
+            next: self.next,
+            ids_left: self.ids_left,
+        })
     }
 }
 

@@ -6,6 +6,7 @@
 
 mod directory;
 mod forest;
+mod maps;
 mod operation;
 mod path;
 mod place;
@@ -13,6 +14,6 @@ mod subvolume;
 
 pub use directory::NameTable;
 pub use forest::Forest;
-pub use operation::{Cause, Entry, Op, Reply};
+pub use operation::{Cause, Entry, Op, Reply, Trace};
 pub use path::Path;
 pub use subvolume::Subvolume;

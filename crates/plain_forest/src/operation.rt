@@ -3,7 +3,7 @@ ghost use Rattle.plain_forest.specs.Steps.{refused_if};
 
 use crate::Path;
 use std::alloc::{AllocError, Global};
-use vol_types::{Duplicate, FlagList, Short};
+use vol_types::{Duplicate, FlagList, Listing, Short};
 
 /// An operation on the forest.
 #[derive(Debug, PartialEq, Eq, Drop)]
@@ -91,6 +91,19 @@ pub struct Entry {
     pub op: Op,
     pub reply: Reply,
 }
+
+impl Duplicate for Entry {
+    fn copy(&self, alloc: Global) -> Result<Self, AllocError> {
+        Ok(Entry {
+            client: self.client,
+            op: self.op.copy(alloc)?,
+            reply: self.reply.copy(alloc)?,
+        })
+    }
+}
+
+/// The entries of a session, in their order.
+pub type Trace = Listing<Entry>;
 
 /// A refusal where the test holds.
 pub(crate) fn refuse_if(test: bool, cause: Cause) -> Result<(), Cause>

@@ -5,6 +5,7 @@ ghost use Rattle.plain_forest.specs.Places.{place_of};
 ghost use Rattle.plain_forest.specs.Steps.{check_name, step, walk, flagged, with_file, IsFree};
 ghost use Rattle.plain_forest.specs.Forest.{Names};
 
+use crate::maps::copy_map;
 use crate::place::NewPlace;
 use crate::{Cause, NameTable};
 use std::alloc::{AllocError, Global};
@@ -122,6 +123,17 @@ impl Subvolume {
             }
         }
         Ok(())
+    }
+}
+
+impl Duplicate for Subvolume {
+    fn copy(&self, alloc: Global) -> Result<Self, AllocError> {
+        Ok(Subvolume {
+            locked: self.locked,
+            root: self.root,
+            files: copy_map(alloc, &self.files)?,
+            directories: copy_map(alloc, &self.directories)?,
+        })
     }
 }
 
