@@ -5,12 +5,24 @@
 #![tactic(auto)]
 
 mod failure;
+mod keys;
+mod layout;
 mod lists;
+mod pointers;
+mod positions;
+mod queries;
 mod space;
+mod values;
 
 pub use failure::Failed;
+pub use keys::{Key, Update, key_length};
+pub use layout::{Layout, Lost};
 pub use lists::{Duplicate, Listing};
-pub use space::{Counts, Short};
+pub use pointers::{NodeEnd, NodePtr, Place, Pointer};
+pub use positions::{Btree, Pos};
+pub use queries::{Look, Query};
+pub use space::Short;
+pub use values::{Extent, FileKind, Inode, Link, Live, Snap, SnapState, Sub, Value};
 
 /// A list of bytes.
 pub type Bytes = Listing<u8>;
@@ -20,6 +32,51 @@ pub type NameList = Listing<Bytes>;
 
 /// A list of names with a flag each.
 pub type FlagList = Listing<FlaggedName>;
+
+/// The names of a directory that share a slot.
+pub type LinkList = Listing<Link>;
+
+/// The subvolumes whose names share a slot.
+pub type SubList = Listing<Sub>;
+
+/// A list of places, one for each copy.
+pub type Places = Listing<Place>;
+
+/// A list of pointers, one for each copy.
+pub type Pointers = Listing<Pointer>;
+
+/// A digest for each block.
+pub type Digests = Listing<u64>;
+
+/// For each place the digest of what it gave, or none where reading it failed.
+pub type Reads = Listing<Option<u64>>;
+
+/// A list of keys.
+pub type Keys = Listing<Key>;
+
+/// A list of updates, in their order.
+pub type Updates = Listing<Update>;
+
+/// A list of queries with their answers.
+pub type Looks = Listing<Look>;
+
+/// A list of snapshot ids.
+pub type Ids = Listing<u32>;
+
+/// A number of blocks for each device.
+pub type Blocks = Listing<u32>;
+
+/// A number for each device.
+pub type Counts = Listing<u32>;
+
+/// The root of each btree, in the order of their numbers.
+pub type Roots = Listing<NodePtr>;
+
+/// For each node up to where its bucket is written.
+pub type Ends = Listing<NodeEnd>;
+
+/// A list of births of nodes.
+pub type Births = Listing<u64>;
 
 /// A name with a flag. What the flag means depends on the list that it stands in.
 #[derive(Debug, PartialEq, Eq, Drop)]
@@ -36,3 +93,6 @@ impl Duplicate for FlaggedName {
         })
     }
 }
+
+#[cfg(test)]
+mod tests;

@@ -168,6 +168,15 @@ impl Duplicate for u64 {
     }
 }
 
+impl<T: Duplicate> Duplicate for Option<T> {
+    fn copy(&self, alloc: Global) -> Result<Self, AllocError> {
+        match self {
+            None => Ok(None),
+            Some(member) => Ok(Some(member.copy(alloc)?)),
+        }
+    }
+}
+
 impl<T: Duplicate> Duplicate for Listing<T> {
     fn copy(&self, alloc: Global) -> Result<Self, AllocError> {
         let mut members = Vec::new(alloc);

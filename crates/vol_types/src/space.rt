@@ -1,8 +1,5 @@
-use crate::{Duplicate, Listing};
+use crate::{Counts, Duplicate};
 use std::alloc::{AllocError, Global};
-
-/// A number for each device.
-pub type Counts = Listing<u32>;
 
 /// Why there was no space: how many blocks the first extent without a place needs, or 0 where it was no extent, and
 /// for each device its free buckets and those that are held back.

@@ -1,0 +1,78 @@
+ghost use Rattle.std.specs.Prelude.{◌≡◌, ◌≤◌, IfSome, IfNone};
+
+use crate::Duplicate;
+use std::alloc::{AllocError, Global};
+
+/// Where a key stands in its btree. Positions are in the order of their inodes, then of their offsets, then of their
+/// snapshots.
+#[derive(Clone, Copy, Debug, PartialEq, Eq, PartialOrd, Ord)]
+pub struct Pos {
+    pub inode: u64,
+    pub offset: u64,
+    pub snapshot: u32,
+}
+
+impl Duplicate for Pos {
+    fn copy(&self, _alloc: Global) -> Result<Self, AllocError> {
+        Ok(*self)
+    }
+}
+
+/// The btrees of a volume.
+#[derive(Clone, Copy, Debug, PartialEq, Eq, PartialOrd, Ord)]
+pub enum Btree {
+    /// What the blocks of files hold, under the file's number and the end of the extent.
+    Extents,
+    /// Files and directories, by their number.
+    Inodes,
+    /// Names, under their directory's number and their slot.
+    Dirents,
+    /// Subvolumes, by the slot of their name.
+    Subvols,
+    /// The snapshot ids, by their number.
+    Snapshots,
+    /// The buckets, under their device.
+    Alloc,
+    /// The extents that own blocks, under the device and its block.
+    Backptrs,
+    /// The files whose last name is gone.
+    Deleted,
+    /// The numbers that are drawn next.
+    Counters,
+}
+
+impl Btree {
+    ghost use Rattle.vol_types.specs.Btrees.{btree_code};
+
+    /// The btree's number on disk.
+    pub fn code(self) -> u8
+        ensures { result ≡ btree_code self }
+    {
+        self as u8
+    }
+
+    /// The btree with this number on disk.
+    pub fn from_code(code: u8) -> Option<Btree>
+        ensures found { IfSome result (λ btree. btree_code btree ≡ code) }
+        ensures none { IfNone result (9 ≤ code) }
+    {
+        match code {
+            0 => Some(Btree::Extents),
+            1 => Some(Btree::Inodes),
+            2 => Some(Btree::Dirents),
+            3 => Some(Btree::Subvols),
+            4 => Some(Btree::Snapshots),
+            5 => Some(Btree::Alloc),
+            6 => Some(Btree::Backptrs),
+            7 => Some(Btree::Deleted),
+            8 => Some(Btree::Counters),
+            _ => None,
+        }
+    }
+}
+
+impl Duplicate for Btree {
+    fn copy(&self, _alloc: Global) -> Result<Self, AllocError> {
+        Ok(*self)
+    }
+}
