@@ -1,0 +1,17 @@
+use plain_forest::Trace;
+use record_log::{Acks, Shorts};
+
+/// How a run ended.
+#[derive(Drop)]
+pub struct Ended<D> {
+    /// 0 where all went well; the program ends with it.
+    pub status: u8,
+    /// The devices as the run left them.
+    pub devices: D,
+    /// The history: each operation that was answered, with its reply.
+    pub trace: Trace,
+    /// The acknowledgements, in order.
+    pub acks: Acks,
+    /// The answers that there was no space, in order.
+    pub shorts: Shorts,
+}

@@ -1,0 +1,12 @@
+//! The top call of the program: from the words and the script that come in to the reply lines that go out.
+#![tactic(auto)]
+
+mod ended;
+mod page;
+mod phases;
+mod prepare;
+mod run;
+mod stop;
+
+pub use ended::Ended;
+pub use run::run_words;
