@@ -6,7 +6,7 @@ use Rattle.std.proofs.lemmas.List.Elements.{All-take, All-drop, All-append, All-
 use Rattle.dev_model.specs.Disk.{IsBlock, IsDisk, MayLeave, at_rest}
 use Rattle.dev_model.specs.Restart.{blocks_left_by, torn}
 use Rattle.dev_model.specs.Stored.{IsStored, restored, stored_by}
-use Rattle.dev_model.specs.StopLaws.{read_may_be_left}
+use Rattle.dev_model.specs.LeftDisks.{read_may_be_left}
 use Rattle.dev_model.specs.declared.disk.Overwritten.{Overwritten}
 use Rattle.dev_model.specs.declared.disk.Pick.{Pick}
 use Rattle.dev_model.specs.declared.disk.Pick.TheVariants.{AllWritten, NoneWritten, Torn}

@@ -5,7 +5,7 @@ use Rattle.std.proofs.lemmas.List.{length-set, set-get_or, set-append_left}
 use Rattle.std.proofs.lemmas.List.Elements.{All-set, All-head, All-tail}
 use Rattle.dev_model.specs.Disk.{IsBlock}
 use Rattle.dev_model.specs.Stored.{restored}
-use Rattle.dev_model.specs.StopLaws.{slice_get-set_other}
+use Rattle.dev_model.specs.LeftDisks.{slice_get-set_other}
 use Rattle.dev_model.specs.declared.disk.Overwritten.{Overwritten}
 
 -- the last write to a place is the one that shows

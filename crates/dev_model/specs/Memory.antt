@@ -1,5 +1,5 @@
 -- What contracts see of devices in memory, beside what they tell as devices.
-use Rattle.std.specs.Prelude.{ℕ}
+use Rattle.std.specs.Prelude.{◌≡◌, ℕ}
 use Rattle.dev_model.specs.Disk.{Image}
 use Rattle.dev_model.specs.Plan.{Plan}
 use Rattle.dev_model.specs.Recorded.{settled_of}
@@ -16,3 +16,8 @@ plan_of devices = devices.plan
 -- how many calls failed for want of memory
 abbrev pub shortages_of : MemDevices → ℕ
 shortages_of devices = devices.faults.shortages
+
+-- only the plan may be another
+pub record ChangesPlan (old new : MemDevices) : Type 0 where
+  pub recording : new.recording ≡ old.recording
+  pub faults : new.faults ≡ old.faults

@@ -33,6 +33,15 @@ impl FaultPlan {
         }
     }
 
+    /// Forgets the calls that are to fail, and those that there were.
+    pub fn clear(&mut self)
+        ensures { self.new ≡ no_faults }
+    {
+        self.failing.clear();
+        self.stop = None;
+        self.calls = 0;
+    }
+
     /// How many calls there were.
     pub fn calls(&self) -> u64
         ensures { result ≡ self.now.calls }

@@ -43,7 +43,7 @@ fn a_stop_leaves_what_is_picked(rt: HostRuntime) -> Result<(), Fail> {
     ];
     for (failing, expected) in left.iter() {
         for (pick, bytes) in PICKS.iter().zip(expected.iter()) {
-            let mut after = written(alloc, failing)?.restart(alloc, *pick)?;
+            let mut after = written(alloc, failing)?.restart(*pick)?;
             assert_eq!(rt; ends(&mut after, alloc, 1, 2)?, Some(*bytes));
             assert_eq!(rt; ends(&mut after, alloc, 0, 3)?, Some((0, 0)));
         }
@@ -91,7 +91,7 @@ fn new_blocks_may_be_gone_until_a_flush(rt: HostRuntime) -> Result<(), Fail> {
             devices.extend(0, 6)?;
             let _ = devices.write(0, 5, &ones);
             let _ = devices.flush(0);
-            let mut after = devices.restart(alloc, *pick)?;
+            let mut after = devices.restart(*pick)?;
             assert_eq!(rt; ends(&mut after, alloc, 0, 5)?, *bytes);
         }
     }
@@ -104,7 +104,7 @@ fn a_patch_stays(rt: HostRuntime) -> Result<(), Fail> {
     let twos = vec![in alloc; 2; 4096]?;
     let mut devices = MemDevices::blank(alloc, &[4])?;
     devices.patch(0, 1, &twos)?;
-    let mut after = devices.restart(alloc, Pick::NoneWritten)?;
+    let mut after = devices.restart(Pick::NoneWritten)?;
     assert_eq!(rt; ends(&mut after, alloc, 0, 1)?, Some((2, 2)));
     NoGate.at(0, 1);
     Ok(())
