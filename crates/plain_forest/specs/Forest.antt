@@ -21,11 +21,13 @@ pub record Forest : Type 0 where
   pub next : List ℕ
   pub ids_left : ℕ
 
+-- how a tree is coded, which the model of a subvolume asks for
 abbrev pub tree_code : Coded Tree
 tree_code =
     code_by (Bool × (ℕ × (List (ℕ × List ℕ) × List (ℕ × Names)))) (coded× coded_bool (coded× coded_ℕ (coded× (coded_list (coded× coded_ℕ (coded_list coded_ℕ))) (coded_list (coded× coded_ℕ (coded_list (coded× (coded_list coded_ℕ) coded_ℕ)))))))
     (λ t. (t.locked, (t.root, (t.files, t.directories)))) (λ p. record { locked = p.0; root = p.1.0; files = p.1.1.0; directories = p.1.1.1 }) (λ _. refl)
 
+-- how a forest is coded
 abbrev pub forest_code : Coded Forest
 forest_code =
     code_by (List (List ℕ × Tree) × (List ℕ × ℕ)) (coded× (coded_list (coded× (coded_list coded_ℕ) tree_code)) (coded× (coded_list coded_ℕ) coded_ℕ))

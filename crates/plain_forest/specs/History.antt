@@ -19,7 +19,7 @@ changes (Mkfile path) = true
 changes (Ls path) = false
 changes Sync = false
 
--- it was done
+-- the reply says that the operation was done
 abbrev pub is_done : Reply → Bool
 is_done Okay = true
 is_done reply = false

@@ -127,13 +127,13 @@ directory_at path forest = do
   names ← names_in tree number
   Ok (tree, names)
 
--- those names with their kinds
+-- the names of the directory at a path, with their kinds
 abbrev pub listed : Path → Forest → Result (List FlaggedName) Cause
 listed path forest = do
   at ← directory_at path forest
   Ok (map (flagged at.0) at.1)
 
--- the reply, or the refusal
+-- the reply to what was done, or the refusal
 abbrev pub reply_or : {A : Type 0} → (A → Reply) → Result A Cause → Reply
 reply_or reply (Ok x) = reply x
 reply_or reply (Err cause) = Refused cause

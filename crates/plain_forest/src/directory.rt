@@ -81,6 +81,7 @@ impl NameTable {
         let count = self.count_in_slot(slot);
         self.slot_counts.insert(slot, count + 1)?;
         if self.numbers.insert(key, number).is_err() {
+            // The slot is counted by now, so this takes no memory.
             let _ = self.slot_counts.insert(slot, count);
             return Err(AllocError);
         }

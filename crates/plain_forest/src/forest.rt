@@ -13,9 +13,6 @@ use std::collections::BTreeMap;
 use std::marker::Model;
 use vol_types::{Bytes, Duplicate};
 
-/// How many clients a volume serves.
-pub const CLIENTS: u8 = 16;
-
 /// How many inode numbers a client has.
 pub const NUMBERS_PER_CLIENT: u64 = 1 << 48;
 
@@ -24,7 +21,9 @@ pub const NUMBERS_PER_CLIENT: u64 = 1 << 48;
 pub struct Forest {
     alloc: Global,
     subvolumes: BTreeMap<Bytes, Subvolume>,
+    // For each client the next of its inode numbers, counted from 1.
     next: [u64; 16],
+    // How many snapshot ids are left.
     ids_left: u64,
 }
 
@@ -88,7 +87,7 @@ impl Forest {
         }
     }
 
-    /// Why the forest refuses the operation of a client, if it does.
+    /// Why the forest refuses the operation of a client, if it does. It takes no memory.
     pub fn refusal(&self, client: u8, op: &Op) -> Option<Cause>
         requires { client < 16 }
         ensures { result ≡ refusal_of client op.now self.now }

@@ -17,3 +17,6 @@ pub use forest::Forest;
 pub use operation::{Cause, Entry, Op, Reply, Trace};
 pub use path::Path;
 pub use subvolume::Subvolume;
+
+#[cfg(test)]
+mod tests;

@@ -84,7 +84,7 @@ impl Duplicate for Reply {
     }
 }
 
-/// An operation of a client in a history, with its reply.
+/// An operation of a client, below 16, in a history, with its reply.
 #[derive(Debug, PartialEq, Eq, Drop)]
 pub struct Entry {
     pub client: u8,

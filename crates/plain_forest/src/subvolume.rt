@@ -106,7 +106,8 @@ impl Subvolume {
         Ok(list)
     }
 
-    /// Adds an empty file under a name of a directory. An `Err` changes nothing.
+    /// Adds an empty file under a name of a directory. An `Err` changes nothing: the file's spot takes its memory before
+    /// the name is added.
     pub fn add_file(&mut self, alloc: Global, place: &NewPlace<'_>) -> Result<(), AllocError>
         requires { IsFree (place_of place.now) self.old }
         ensures ok { OnOk result (self.new ≡ with_file (place_of place.now) self.old) }
