@@ -32,7 +32,7 @@ abbrev pub refused_if : Bool → Cause → Result (Unit {0}) Cause
 refused_if true cause = Err cause
 refused_if false cause = Ok tt
 
--- the tree of the path's subvolume
+-- the tree of the subvolume of a good path
 abbrev pub tree_of : Path → Forest → Result Tree Cause
 tree_of path forest = do
   _ ← refused_if (not (is_good_path path)) BadPath
