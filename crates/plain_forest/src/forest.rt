@@ -4,10 +4,12 @@ ghost use Rattle.plain_forest.specs.Forest.{fresh, Tree};
 ghost use Rattle.plain_forest.specs.Places.{place_of};
 ghost use Rattle.plain_forest.specs.Steps.{result_map, tree_of, new_place, directory_at, with_file, made_file, reply_of, forest_after, refusal_of, next_number, IsFree};
 
+use crate::directory::NameTable;
 use crate::maps::copy_map;
 use crate::operation::refuse_if;
 use crate::place::NewPlace;
-use crate::{Cause, NameTable, Op, Path, Reply, Subvolume};
+use crate::subvolume::Subvolume;
+use crate::{Cause, Op, Path, Reply};
 use std::alloc::{AllocError, Global};
 use std::collections::BTreeMap;
 use std::marker::Model;

@@ -12,11 +12,9 @@ mod path;
 mod place;
 mod subvolume;
 
-pub use directory::NameTable;
 pub use forest::Forest;
 pub use operation::{Cause, Entry, Op, Reply, Trace};
 pub use path::Path;
-pub use subvolume::Subvolume;
 
 #[cfg(test)]
 mod tests;

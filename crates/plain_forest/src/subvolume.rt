@@ -5,9 +5,10 @@ ghost use Rattle.plain_forest.specs.Places.{place_of};
 ghost use Rattle.plain_forest.specs.Steps.{check_name, step, walk, flagged, with_file, IsFree};
 ghost use Rattle.plain_forest.specs.Forest.{Names};
 
+use crate::Cause;
+use crate::directory::NameTable;
 use crate::maps::copy_map;
 use crate::place::NewPlace;
-use crate::{Cause, NameTable};
 use std::alloc::{AllocError, Global};
 use std::collections::BTreeMap;
 use std::collections::btree_map::Entry;
