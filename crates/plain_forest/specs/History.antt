@@ -74,6 +74,10 @@ pub record IsAnswer (opening : Forest) (before : History) (entry : Entry) : Type
 abbrev pub IsLegalEntry : Forest → History → Entry → Type 0
 IsLegalEntry opening before entry = IsAnswer opening before entry ⊎ IsTrue (may_fail entry.op entry.reply)
 
+-- each entry of a history is so behind those before it
+abbrev pub EachEntry : (History → Entry → Type 0) → History → Type 0
+EachEntry IsSo history = (place : ℕ) (entry : Entry) → slice_get history place ≡ Some entry → IsSo (take place history) entry
+
 -- a history is legal from a forest where each entry is legal behind those before it
 abbrev pub IsLegal : Forest → History → Type 0
-IsLegal opening history = (place : ℕ) (entry : Entry) → slice_get history place ≡ Some entry → IsLegalEntry opening (take place history) entry
+IsLegal opening history = EachEntry (IsLegalEntry opening) history

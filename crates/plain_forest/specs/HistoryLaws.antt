@@ -6,7 +6,7 @@ use Rattle.std.proofs.lemmas.Option.{same_Some, none-some as none_some}
 use Rattle.std.specs.List.{list_any}
 use Rattle.std.specs.Prelude.{◌==◌}
 use Rattle.plain_forest.specs.Forest.{Forest}
-use Rattle.plain_forest.specs.History.{History, is_commit, after_entry, after_all, commits_of, commit_count, up_to_own, IsLegal, IsLegalEntry}
+use Rattle.plain_forest.specs.History.{History, is_commit, after_entry, after_all, commits_of, commit_count, up_to_own, EachEntry, IsLegal, IsLegalEntry}
 use Rattle.plain_forest.specs.declared.operation.Entry.{Entry}
 
 pub after_all-push : (forest : Forest) (history : History) (entry : Entry) → after_all forest (history ++ entry ∷ []) ≡ after_entry (after_all forest history) entry
@@ -38,10 +38,6 @@ commit_count-up_to_own client forest (first ∷ history) =
     step true part le = grows (is_commit forest first) first _ _ le
     step false part le = omega arith
 
--- the empty history is legal
-pub IsLegal-none : (opening : Forest) → IsLegal opening []
-IsLegal-none opening place entry is = absurd (none_some entry is)
-
 slice_get-push : (history : History) (entry : Entry) (place : ℕ) → place < length history → slice_get (history ++ entry ∷ []) place ≡ slice_get history place
 slice_get-push [] entry place lt = absurd (omega (arith, lt))
 slice_get-push (first ∷ history) entry zero lt = refl
@@ -58,13 +54,26 @@ slice_get-push_last (first ∷ history) entry found (suc place) le is =
 take-push : (history : History) (entry : Entry) (n : ℕ) → n ≤ length history → take n (history ++ entry ∷ []) ≡ take n history
 take-push history entry n le = take-append-le n history (entry ∷ []) le
 
+module _ (IsSo : History → Entry → Type 0) where
+  -- of no entry
+  pub EachEntry-none : EachEntry IsSo []
+  EachEntry-none place entry is = absurd (none_some entry is)
+
+  -- of one entry more, which is so behind the others
+  pub EachEntry-push : (history : History) (entry : Entry) → EachEntry IsSo history → IsSo history entry → EachEntry IsSo (history ++ entry ∷ [])
+  EachEntry-push history entry so_far next place found is = ⊎_elim
+      (λ (before : place < length history).
+      subst (λ h. IsSo h found) (sym (take-push history entry place (omega (arith, before)))) (so_far place found (sym (slice_get-push history entry place before) ∙ is)))
+      (λ (behind : length history ≤ place).
+      let last = slice_get-push_last history entry found place behind is in
+      let all : take place (history ++ entry ∷ []) ≡ history = ap (λ n. take n (history ++ entry ∷ [])) last.0 ∙ take-push history entry (length history) (omega arith) ∙ take_all (length history) history (omega arith) in
+      subst (λ h. IsSo h found) (sym all) (subst (λ e. IsSo history e) last.1 next))
+      (cases_lt place (length history))
+
+-- the empty history is legal
+pub IsLegal-none : (opening : Forest) → IsLegal opening []
+IsLegal-none opening = EachEntry-none (IsLegalEntry opening)
+
 -- a legal history goes on by an entry that is legal behind it
 pub IsLegal-push : (opening : Forest) (history : History) (entry : Entry) → IsLegal opening history → IsLegalEntry opening history entry → IsLegal opening (history ++ entry ∷ [])
-IsLegal-push opening history entry legal next place found is = ⊎_elim
-    (λ (before : place < length history).
-    subst (λ h. IsLegalEntry opening h found) (sym (take-push history entry place (omega (arith, before)))) (legal place found (sym (slice_get-push history entry place before) ∙ is)))
-    (λ (behind : length history ≤ place).
-    let last = slice_get-push_last history entry found place behind is in
-    let all : take place (history ++ entry ∷ []) ≡ history = ap (λ n. take n (history ++ entry ∷ [])) last.0 ∙ take-push history entry (length history) (omega arith) ∙ take_all (length history) history (omega arith) in
-    subst (λ h. IsLegalEntry opening h found) (sym all) (subst (λ e. IsLegalEntry opening history e) last.1 next))
-    (cases_lt place (length history))
+IsLegal-push opening history entry legal next = EachEntry-push (IsLegalEntry opening) history entry legal next
