@@ -7,7 +7,8 @@ use Rattle.dev_model.specs.Disk.{Disk, Image, as_read, block_at, sizes_of}
 use Rattle.plain_forest.specs.Forest.{Forest}
 use Rattle.record_log.specs.Found.{Mounted, mounted_from, mounted, first_of, forest_with_block}
 
-first_at : (image : Image) (place : ℕ) → block_at image 0 place ≡ slice_get (first_of image) place
+-- the blocks of the first device are those at its places
+pub first_at : (image : Image) (place : ℕ) → block_at image 0 place ≡ slice_get (first_of image) place
 first_at [] place = refl
 first_at (blocks ∷ image) place = refl
 

@@ -3,13 +3,14 @@ use Rattle.std.proofs.Common.{◌≡◌, ℕ, ◌+◌, ◌<◌, ◌^◌, false, 
 use Rattle.std.specs.Prelude.{slice_index, ◌&&◌, All}
 use Rattle.std.proofs.lemmas.List.{append-nil, map_push, length_push}
 use Rattle.std.proofs.lemmas.List.Elements.{All-push}
+use Rattle.dev_model.specs.Devices.{History as Moments}
 use Rattle.plain_forest.specs.Forest.{Forest}
 use Rattle.std.specs.Option.{option_map_or}
 use Rattle.std.specs.Result.{result_err}
 use Rattle.std.proofs.lemmas.Option.{same_Some, none-some as none_some}
 use Rattle.plain_forest.specs.declared.path.Path.{Path}
 use Rattle.plain_forest.specs.declared.operation.Cause.{Cause}
-use Rattle.plain_forest.specs.Steps.{◌>>=◌, Place, new_place, reply_or, reply_of, refusal_of, forest_after}
+use Rattle.plain_forest.specs.Steps.{◌>>=◌, Place, new_place, reply_or, reply_of, refusal_of, forest_after, next_number}
 use Rattle.plain_forest.specs.History.{History, IsLegal, IsLegalEntry, after_all, commits_of, commit_count, is_commit, is_done, changes, may_fail}
 use Rattle.plain_forest.specs.HistoryLaws.{after_all-push, commits_of-push, commit_count-up_to_own, IsLegal-push}
 use Rattle.plain_forest.specs.declared.operation.Op.{Op}
@@ -17,9 +18,11 @@ use Rattle.plain_forest.specs.declared.operation.Op.TheVariants.{Mkfile, Ls, Syn
 use Rattle.plain_forest.specs.declared.operation.Reply.{Reply}
 use Rattle.plain_forest.specs.declared.operation.Reply.TheVariants.{Okay, Synced, List as Listed, Refused, NoSpace, DeviceFault, NoMemory}
 use Rattle.plain_forest.specs.declared.operation.Entry.{Entry}
-use Rattle.record_log.specs.Found.{in_main}
-use Rattle.record_log.specs.Log.{Log, IsSound, IsListing, IsLogReply, commit_of, full_reply, log_short}
+use Rattle.record_log.specs.Found.{forest_with, in_main}
+use Rattle.record_log.specs.Log.{Log, IsSound, IsListing, IsLogReply, KeepsDurable, commit_of, full_reply, log_short}
 use Rattle.record_log.specs.declared.files.MadeFile.{MadeFile}
+use Rattle.record_log.specs.Durable.{HoldsRecords, with_files}
+use Rattle.record_log.proofs.Holding.{HoldsRecords-push, made_next, with_files-push}
 use Rattle.record_log.proofs.Names.{made_names_fit}
 
 -- the entry of client 0
@@ -42,10 +45,10 @@ not_done (Mkfile path) NoMemory not = refl
 not_done (Ls path) reply not = refl
 not_done Sync reply not = refl
 
-module _ {D : Type 0} (opening : Forest) (sizes : D → List ℕ) (log : Log D) (forest : Forest) (sound : IsSound opening sizes log forest) where
+module _ {D : Type 0} (opening : Forest) (tells : Type 0) (history : D → Moments) (sizes : D → List ℕ) (log : Log D) (forest : Forest) (sound : IsSound opening tells history sizes log forest) where
   -- an entry that is no commit leaves the forest
   pub sound_entry : (trace : History) (entry : Entry) (after : Forest) → trace ≡ log.trace ++ entry ∷ [] → is_commit (after_all opening log.trace) entry ≡ false → IsLegalEntry opening log.trace entry → after ≡ forest
-      → IsSound opening sizes (record log { trace = trace }) after
+      → IsSound opening tells history sizes (record log { trace = trace }) after
   sound_entry trace entry after is no_commit next same =
       let behind : after_all opening trace ≡ after_all opening log.trace =
       ap (after_all opening) is ∙ after_all-push opening log.trace entry ∙ ap (λ test. cond test (forest_after entry.client entry.op (after_all opening log.trace)) (after_all opening log.trace)) no_commit in
@@ -59,14 +62,17 @@ module _ {D : Type 0} (opening : Forest) (sizes : D → List ℕ) (log : Log D) 
         room = sound.room;
         fits = sound.fits;
         written = sound.written;
+        made = sound.made ∙ ap Some (sym same);
+        held = sound.held;
       }
 
   -- a file that was made
   pub sound_commit : (files : List MadeFile) (file : MadeFile) (trace : History) (after : Forest) → files ≡ log.files ++ file ∷ [] → trace ≡ log.trace ++ commit_of file ∷ []
-      → Okay ≡ reply_of 0 (Mkfile (in_main file.name)) 0 forest → after ≡ forest_after 0 (Mkfile (in_main file.name)) forest
+      → Okay ≡ reply_of 0 (Mkfile (in_main file.name)) 0 forest → after ≡ forest_after 0 (Mkfile (in_main file.name)) forest → next_number 0 forest ≡ file.number
       → log.base + length log.files < slice_index (sizes log.devices) 0 → slice_index (sizes log.devices) 0 < 2 ^ 32
-      → IsSound opening sizes (record log { files = files; trace = trace }) after
-  sound_commit files file trace after are is done made room fits =
+      → IsSound opening tells history sizes (record log { files = files; trace = trace }) after
+  sound_commit files file trace after are is done made number room fits =
+      let next : forest_with file forest ≡ Some after = made_next file forest after number done made in
       let op : Op = Mkfile (in_main file.name) in
       let longer : length files ≡ length log.files + 1 = ap length are ∙ length_push log.files file in
       let done_here : Okay ≡ reply_of 0 op 0 (after_all opening log.trace) = done ∙ ap (reply_of 0 op 0) sound.kept in
@@ -78,6 +84,8 @@ module _ {D : Type 0} (opening : Forest) (sizes : D → List ℕ) (log : Log D) 
         room = omega (arith, longer, room);
         fits = omega (arith, longer, room, fits);
         written = omega (arith, longer, sound.written);
+        made = subst (λ fs. with_files fs opening ≡ Some after) (sym are) (with_files-push log.files file opening forest after sound.made next);
+        held = λ tells image may. subst (λ fs. HoldsRecords log.base log.durable fs image) (sym are) (HoldsRecords-push log.base log.durable log.files file image sound.written (sound.held tells image may));
       }
 
 -- a listing changes nothing, whatever number a sync would answer with
@@ -102,5 +110,10 @@ full opening trace path = full_by (refusal_of 0 (Mkfile path) (after_all opening
 
 -- what a sync answers is legal
 pub synced : {D : Type 0} (sizes : D → List ℕ) (faults : D → ℕ) (opening : Forest) (old new : Log D) (reply : Reply) → IsLogReply sizes faults opening Sync old new reply → IsLegalEntry opening old.trace (entry_of Sync reply)
-synced sizes faults opening old new reply (inl is) = legal_reply opening old.trace Sync reply is
+synced sizes faults opening old new reply (inl is) = legal_reply opening old.trace Sync reply is.0
 synced sizes faults opening old new reply (inr failed) = inr (ap (may_fail Sync) failed.0)
+
+-- what is kept between two sessions is kept between their equals
+pub KeepsDurable-same : {D : Type 0} (history : D → Moments) (old other_old new other_new : Log D) → old ≡ other_old → other_new ≡ new → KeepsDurable history old new → KeepsDurable history other_old other_new
+KeepsDurable-same history old other_old new other_new same_old same_new kept =
+    subst (λ log. KeepsDurable history log other_new) same_old (subst (λ log. KeepsDurable history old log) (sym same_new) kept)

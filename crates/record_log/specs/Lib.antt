@@ -1,3 +1,4 @@
 pub mod Records
 pub mod Found
+pub mod Durable
 pub mod Log

@@ -1,7 +1,9 @@
 ghost use Rattle.std.specs.Prelude.{◌≡◌, ◌<◌, ◌≤◌, true, length, IfOk, OnOk, IsErrOf};
 ghost use Rattle.vol_types.specs.Faults.{RoseBy};
-ghost use Rattle.dev_model.specs.Devices.{IsPlace};
+ghost use Rattle.dev_model.specs.Devices.{IsPlace, now};
+ghost use Rattle.dev_model.specs.Stops.{IsAt, LeavesOnly, MayLeaveBut};
 ghost use Rattle.sealed_block.specs.Blocks.{IsInRanges};
+ghost use Rattle.record_log.specs.Durable.{EachLeft, record_at};
 ghost use Rattle.record_log.specs.Records.{is_log_head, record_in};
 
 use crate::fault::LogFault;
@@ -96,6 +98,8 @@ pub fn write_record<D: Devices>(
     ensures cause { IsErrOf result LogFault.DeviceFault → RoseBy 1 (D.faults devices.old) (D.faults devices.new) }
     ensures faults { D.faults devices.old ≤ D.faults devices.new }
     ensures sizes { D.sizes devices.new ≡ D.sizes devices.old }
+    ensures held { D.tells → OnOk result (EachLeft (λ image. record_at place image ≡ Some file.now) (D.history devices.new)) }
+    ensures stops { D.tells → LeavesOnly (λ _ image. MayLeaveBut (IsAt 0 place) (now (D.history devices.old)) image) (D.history devices.old) (D.history devices.new) }
 {
     let mut block = vec![in alloc; 0; 4096]?;
     seal_record(alloc, place, file, &mut block)?;

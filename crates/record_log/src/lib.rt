@@ -16,3 +16,6 @@ pub use files::MadeFile;
 pub use log::RecordLog;
 pub use mounting::{Loaded, load};
 pub use opening::{Acks, Opening, Shorts};
+
+#[cfg(test)]
+mod tests;

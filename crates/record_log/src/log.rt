@@ -3,7 +3,8 @@ ghost use Rattle.vol_types.specs.Faults.{RoseBy};
 ghost use Rattle.plain_forest.specs.History.{IsLegal, after_all, commit_count};
 ghost use Rattle.plain_forest.specs.Steps.{reply_of};
 ghost use Rattle.record_log.specs.Found.{in_main};
-ghost use Rattle.record_log.specs.Log.{Answers, IsFlat, IsListing, IsLogReply, full_reply, is_full};
+ghost use Rattle.record_log.specs.Durable.{EachLeft};
+ghost use Rattle.record_log.specs.Log.{Answers, HoldsDurable, IsFlat, IsListing, IsLogReply, KeepsDurable, full_reply, is_full};
 
 use crate::blocks::write_record;
 use crate::{Loaded, LogFault, MadeFile, Opening};
@@ -34,7 +35,7 @@ impl<D: Devices, O: Opening> Model for RecordLog<D, O> {
 
     ghost view = { λ l. record { devices = l.devices; base = l.base; files = l.files.items; durable = l.durable; trace = l.trace.items } };
 
-    ghost invariant = { λ l. IsSound O.forest D.sizes (record { devices = l.devices; base = l.base; files = l.files.items; durable = l.durable; trace = l.trace.items }) l.forest };
+    ghost invariant = { λ l. IsSound O.forest D.tells D.history D.sizes (record { devices = l.devices; base = l.base; files = l.files.items; durable = l.durable; trace = l.trace.items }) l.forest };
 }
 
 impl<D: Devices, O: Opening> RecordLog<D, O> {
@@ -88,8 +89,33 @@ impl<D: Devices, O: Opening> RecordLog<D, O> {
         requires { IsFlat op.now }
         ensures answered { OnOk result (Answers D.sizes D.faults O.forest op.now self.old self.new) }
         ensures err { OnErr result (self.new.trace ≡ self.old.trace) }
+        ensures base { self.new.base ≡ self.old.base }
         ensures sizes { D.sizes self.new.devices ≡ D.sizes self.old.devices }
         ensures faults { D.faults self.old.devices ≤ D.faults self.new.devices }
+
+        ensures durable { D.tells → EachLeft (HoldsDurable O.forest self.new) (D.history self.new.devices) }
+        ensures kept { D.tells → KeepsDurable D.history self.old self.new }
+    {
+        let answered = self.answer(op);
+        self.durable_commits_are_held();
+        answered
+    }
+
+    /// The durable commits are on the device, whatever a stop leaves of it now.
+    pub fn durable_commits_are_held(&self)
+        ensures { D.tells → EachLeft (HoldsDurable O.forest self.now) (D.history self.now.devices) }
+    {
+        let _ = &self.alloc;
+    }
+
+    fn answer(&mut self, op: &Op) -> Result<(), AllocError>
+        requires { IsFlat op.now }
+        ensures answered { OnOk result (Answers D.sizes D.faults O.forest op.now self.old self.new) }
+        ensures err { OnErr result (self.new.trace ≡ self.old.trace) }
+        ensures base { self.new.base ≡ self.old.base }
+        ensures sizes { D.sizes self.new.devices ≡ D.sizes self.old.devices }
+        ensures faults { D.faults self.old.devices ≤ D.faults self.new.devices }
+        ensures kept { D.tells → KeepsDurable D.history self.old self.new }
     {
         match op {
             Op::Mkfile { path } => match path.last() {
@@ -115,6 +141,7 @@ impl<D: Devices, O: Opening> RecordLog<D, O> {
         requires { op.now ≡ Op.Mkfile (in_main name.now) }
         ensures answered { OnOk result (Answers D.sizes D.faults O.forest op.now self.old self.new) }
         ensures err { OnErr result (self.new.trace ≡ self.old.trace) }
+        ensures base { self.new.base ≡ self.old.base }
         ensures devices { self.new.devices ≡ self.old.devices }
     {
         if self.is_full() {
@@ -146,6 +173,7 @@ impl<D: Devices, O: Opening> RecordLog<D, O> {
         requires fits { slice_index (D.sizes self.old.devices) 0 < 2 ^ 32 }
         ensures answered { OnOk result (self.new.trace ≡ self.old.trace ++ record { client = 0; op = op.now; reply = reply_of 0 op.now 0 (after_all O.forest self.old.trace) } ∷ []) }
         ensures err { OnErr result (self.new ≡ self.old) }
+        ensures base { self.new.base ≡ self.old.base }
         ensures devices { self.new.devices ≡ self.old.devices }
     {
         self.trace.reserve(1)?;
@@ -187,6 +215,8 @@ impl<D: Devices, O: Opening> RecordLog<D, O> {
         ensures err { OnErr result (self.new.trace ≡ self.old.trace) }
         ensures sizes { D.sizes self.new.devices ≡ D.sizes self.old.devices }
         ensures faults { D.faults self.old.devices ≤ D.faults self.new.devices }
+        ensures base { self.new.base ≡ self.old.base }
+        ensures kept { D.tells → KeepsDurable D.history self.old self.new }
     {
         self.trace.reserve(1)?;
         let reply = self.write_reply()?;
@@ -204,6 +234,7 @@ impl<D: Devices, O: Opening> RecordLog<D, O> {
         ensures others { self.new ≡ record self.old { devices = self.new.devices; durable = self.new.durable } }
         ensures sizes { D.sizes self.new.devices ≡ D.sizes self.old.devices }
         ensures faults { D.faults self.old.devices ≤ D.faults self.new.devices }
+        ensures kept { D.tells → KeepsDurable D.history self.old self.new }
     {
         match self.write_all() {
             Ok(()) => Ok(Reply::Synced(self.commits())),
@@ -214,11 +245,12 @@ impl<D: Devices, O: Opening> RecordLog<D, O> {
 
     // Writes each record that isn't written yet.
     fn write_all(&mut self) -> Result<(), LogFault>
-        ensures ok { OnOk result (self.new.durable ≡ length self.new.files) }
+        ensures ok { OnOk result (self.new.durable ≡ commit_count O.forest self.old.trace) }
         ensures others { self.new ≡ record self.old { devices = self.new.devices; durable = self.new.durable } }
         ensures cause { IsErrOf result LogFault.DeviceFault → RoseBy 1 (D.faults self.old.devices) (D.faults self.new.devices) }
         ensures sizes { D.sizes self.new.devices ≡ D.sizes self.old.devices }
         ensures faults { D.faults self.old.devices ≤ D.faults self.new.devices }
+        ensures kept { D.tells → KeepsDurable D.history self.old self.new }
     {
         while self.durable < self.files.len() {
             self.write_next()?;
@@ -235,6 +267,7 @@ impl<D: Devices, O: Opening> RecordLog<D, O> {
         ensures cause { IsErrOf result LogFault.DeviceFault → RoseBy 1 (D.faults self.old.devices) (D.faults self.new.devices) }
         ensures sizes { D.sizes self.new.devices ≡ D.sizes self.old.devices }
         ensures faults { D.faults self.old.devices ≤ D.faults self.new.devices }
+        ensures kept { D.tells → KeepsDurable D.history self.old self.new }
     {
         let place = self.base + self.durable as u32;
         write_record(

@@ -23,12 +23,13 @@ invariant_of-self-in-Okay g c =
     let same : made ≡ file = λ i. record { number = c.next_number.result; name = c.in_ok-copy.ensures i } in
     let pushed : c.push.new.self.items ≡ l.files.items ++ made ∷ [] = search rules in
     let done : Okay ≡ reply_of 0 op 0 l.forest = sym c.in-Okay.is ∙ c.in_ok-reply.ensures.reply ∙ ap (λ o. reply_of 0 o 0 l.forest) c.requires.op in
-    sound_commit g.O.Opening.forest sizes (record { devices = l.devices; base = l.base; files = l.files.items; durable = l.durable; trace = trace }) l.forest c.self.invariant
+    sound_commit g.O.Opening.forest g.D.Devices.tells g.D.Devices.history sizes (record { devices = l.devices; base = l.base; files = l.files.items; durable = l.durable; trace = trace }) l.forest c.self.invariant
     c.push.new.self.items file c.put_entry.new.trace.items c.apply.new.self
     (pushed ∙ ap (λ f. l.files.items ++ f ∷ []) same)
     (c.put_entry.ensures ∙ ap (λ t. t ++ entry_of c.in_ok-kept.kept Okay ∷ []) c.in_ok-reserve.ensures.items ∙ ap (λ kept. trace ++ entry_of kept Okay ∷ []) (c.in_ok-kept.ensures ∙ c.requires.op))
     done
     (c.in_ok-reply.ensures.forest ∙ ap (λ o. forest_after 0 o l.forest) c.requires.op)
+    (sym c.next_number.ensures)
     (subst (λ (log : Log g.row.D.Denot). log.base + length log.files < slice_index (sizes log.devices) 0) (sym c.self.view_is) c.requires.room)
     (subst (λ (log : Log g.row.D.Denot). slice_index (sizes log.devices) 0 < 2 ^ 32) (sym c.self.view_is) c.requires.fits)
 
@@ -45,8 +46,8 @@ invariant_of-self-in-Synced-1 g c =
     let refused = not_made (made_file 0 path l.forest) l.forest reply is not in
     let files : c.reserve-2.new.self.items ≡ l.files.items = c.in_ok-reserve-2.ensures.items in
     let put : c.put_entry-in_default.new.trace.items ≡ trace ++ entry_of op reply ∷ [] = search rules in
-    subst (λ fs. IsSound opening g.D.Devices.sizes (record { devices = l.devices; base = l.base; files = fs; durable = l.durable; trace = c.put_entry-in_default.new.trace.items }) c.apply.new.self) (sym files)
-    (sound_entry opening g.D.Devices.sizes (record { devices = l.devices; base = l.base; files = l.files.items; durable = l.durable; trace = trace }) l.forest c.self.invariant
+    subst (λ fs. IsSound opening g.D.Devices.tells g.D.Devices.history g.D.Devices.sizes (record { devices = l.devices; base = l.base; files = fs; durable = l.durable; trace = c.put_entry-in_default.new.trace.items }) c.apply.new.self) (sym files)
+    (sound_entry opening g.D.Devices.tells g.D.Devices.history g.D.Devices.sizes (record { devices = l.devices; base = l.base; files = l.files.items; durable = l.durable; trace = trace }) l.forest c.self.invariant
     c.put_entry-in_default.new.trace.items (entry_of op reply) c.apply.new.self
     put
     (not_done op reply not)

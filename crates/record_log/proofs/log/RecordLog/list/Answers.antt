@@ -12,7 +12,7 @@ invariant_of-self-2 g c =
     let op = c.args.op.now in
     let reply = c.in_ok-reply.reply in
     let same = listing op c.requires reply (commit_count opening trace) l.forest in
-    sound_entry opening g.D.Devices.sizes (record { devices = l.devices; base = l.base; files = l.files.items; durable = l.durable; trace = trace }) l.forest c.self.invariant
+    sound_entry opening g.D.Devices.tells g.D.Devices.history g.D.Devices.sizes (record { devices = l.devices; base = l.base; files = l.files.items; durable = l.durable; trace = trace }) l.forest c.self.invariant
     c.push.new.self.items (entry_of op reply) c.apply.new.self
     (c.in_ok-push.ensures.items ∙ ap (λ kept. trace ++ entry_of kept reply ∷ []) c.in_ok-kept.ensures)
     same.0

@@ -1,0 +1,68 @@
+-- What a stop leaves of the device while a record is written and flushed.
+use Rattle.std.proofs.Common.{◌≡◌, ℕ, zero, suc, ◌<◌, ◌≤◌, List, [], ◌∷◌, length, get_or, set, slice_get, Some, refl, ap, ◌∙◌, sym, subst, arith, Result, All, ◌⊎◌, inl, inr, ⊎_elim}
+use Rattle.std.specs.Prelude.{option_and_then}
+use Rattle.std.proofs.lemmas.Bool.{cases_lt}
+use Rattle.std.proofs.lemmas.List.{length-set}
+use Rattle.dev_model.specs.Disk.{Disk, Image, IsDisk, MayLeave, MayLeaveImage, block_at, changed, flushed, sizes_of, written}
+use Rattle.dev_model.specs.Devices.{Goes, History, Is, MayBeWritten, now}
+use Rattle.dev_model.specs.Stops.{IsAt, LeavesOnly, MayLeaveBut}
+use Rattle.record_log.specs.Durable.{IsFrom}
+use Rattle.dev_model.specs.StopLaws.{started, left_itself, left_then, same_but_more, goes_on_write, goes_on_flush}
+
+-- before the first call nothing is touched
+pub untouched : (touched : ℕ → ℕ → Type 0) (history : History) → LeavesOnly (λ _ image. MayLeaveBut touched (now history) image) history history
+untouched touched history = started (λ _ image. MayLeaveBut touched (now history) image) history (left_itself touched (now history))
+
+earlier_or_later : (m n : ℕ) → (m ≤ n) ⊎ (n < m)
+earlier_or_later m n = ⊎_elim (λ (later : n < m). inr later) (λ (earlier : m ≤ n). inl earlier) (cases_lt n m)
+
+-- What touches more goes on by what touches less.
+pub goes_further : (few many : ℕ → ℕ → Type 0) (old mid new : History) → ((d b : ℕ) → few d b → many d b)
+    → LeavesOnly (λ _ image. MayLeaveBut many (now old) image) old mid → LeavesOnly (λ _ image. MayLeaveBut few (now mid) image) mid new
+    → LeavesOnly (λ _ image. MayLeaveBut many (now old) image) old new
+goes_further few many old mid new more first second = record {
+  later = omega (arith, first.later, second.later);
+  past = λ m le. second.past m (omega (arith, le, first.later)) ∙ first.past m le;
+  each = λ m lo hi image may. ⊎_elim
+      (λ (earlier : m ≤ mid.moment). first.each m lo earlier image (subst (λ ds. MayLeaveImage ds image) (second.past m earlier) may))
+      (λ (later : mid.moment < m).
+      let before = second.each m (omega (arith, later)) hi image may in
+      let so_far = first.each mid.moment first.later (omega arith) before.0 before.1 in
+      left_then many (now old) before.0 image so_far (same_but_more few many before.0 image more before.2))
+      (earlier_or_later m mid.moment);
+}
+
+-- the records of a session, from a place on
+pub goes_from : (first place : ℕ) (old mid new : History) → first ≤ place
+    → LeavesOnly (λ _ image. MayLeaveBut (IsFrom first) (now old) image) old mid → LeavesOnly (λ _ image. MayLeaveBut (IsFrom place) (now mid) image) mid new
+    → LeavesOnly (λ _ image. MayLeaveBut (IsFrom first) (now old) image) old new
+goes_from first place old mid new le = goes_further (IsFrom place) (IsFrom first) old mid new (λ d b at. (at.0, omega (arith, le, at.1)))
+
+-- what a stop leaves in the end
+pub left_in_the_end : (touched : ℕ → ℕ → Type 0) (old new : History) (image : Image) → LeavesOnly (λ _ image. MayLeaveBut touched (now old) image) old new → MayLeaveImage (now new) image → MayLeaveBut touched (now old) image
+left_in_the_end touched old new image only may = only.each new.moment only.later (omega arith) image may
+
+module _ (place : ℕ) (bytes : List ℕ) (old mid : History) (are : All IsDisk (now old)) where
+  -- the write touches its place
+  pub writing : {T E : Type 0} (result : Result T E) → Goes result (MayBeWritten 0 place (now old)) (Is (changed 0 (written place bytes) (now old))) old mid
+      → LeavesOnly (λ _ image. MayLeaveBut (IsAt 0 place) (now old) image) old mid
+  writing result goes = goes_on_write (IsAt 0 place) (now old) old old (untouched (IsAt 0 place) old) are result 0 place bytes mid (refl, refl) goes
+
+  -- and the flush behind it nothing else
+  pub flushing : {T E F : Type 0} (result : Result T E) (flush_result : Result T F) (new : History) → Goes result (MayBeWritten 0 place (now old)) (Is (changed 0 (written place bytes) (now old))) old mid
+      → All IsDisk (now mid) → Goes flush_result (Is (now mid)) (Is (changed 0 flushed (now mid))) mid new
+      → LeavesOnly (λ _ image. MayLeaveBut (IsAt 0 place) (now old) image) old new
+  flushing result flush_result new goes are_mid flushes = goes_on_flush (IsAt 0 place) (now old) old mid (writing result goes) are_mid flush_result 0 new flushes
+
+set_there : (xs : List (List ℕ)) (i : ℕ) (x : List ℕ) → i < length xs → slice_get (set xs i x) i ≡ Some x
+set_there [] i x within = absurd (omega (arith, within))
+set_there (y ∷ ys) zero x within = refl
+set_there (y ∷ ys) (suc i) x within = set_there ys i x (omega (arith, within))
+
+-- Once a write is flushed, each image that a stop leaves has the block.
+pub settled : (disks : List Disk) (place : ℕ) (bytes : List ℕ) (image : Image) → place < get_or (sizes_of disks) 0 0 → MayLeaveImage (changed 0 flushed (changed 0 (written place bytes) disks)) image → block_at image 0 place ≡ Some bytes
+settled [] place bytes image within may = absurd (omega (arith, within))
+settled (disk ∷ disks) place bytes [] within may = absurd may
+settled (disk ∷ disks) place bytes (left ∷ image) within may =
+    let size = length-set disk.blocks place bytes in
+    may.0.settled place (omega (arith, may.0.no_shorter, size, within)) (λ has. omega (arith, has.1)) ∙ set_there disk.blocks place bytes within
