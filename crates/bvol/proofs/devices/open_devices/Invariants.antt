@@ -1,0 +1,6 @@
+use Rattle.std.proofs.Common.{◌≡◌, length}
+use Rattle.bvol.proofs.devices.open_devices.Given as goal
+
+-- one file was opened for each path so far
+abbrev pub invariant-loop-path : goal.invariant-loop-path
+invariant-loop-path g l = length l.images.items ≡ l.path-index

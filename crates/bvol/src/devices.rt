@@ -1,0 +1,109 @@
+ghost use Rattle.std.specs.Prelude.{◌≡◌, ◌≤◌, [], length, map, IfOk};
+
+use crate::counts::CallCounts;
+use crate::image::{Image, open_image};
+use dev_model::Devices;
+use std::alloc::{AllocFailed, Global};
+use std::fs::OpenFile;
+use std::os::unix::fs::FileExt;
+use std::rc::RcStr;
+use std::rt::Files;
+use vol_types::Failed;
+
+/// The greatest number of devices.
+pub const MOST_DEVICES: usize = 8;
+
+/// Devices over image files. They tell nothing: what a real file holds is not proved.
+#[derive(Drop)]
+pub struct FileDevices<F: Drop> {
+    images: Vec<Image<F>>,
+    counts: CallCounts,
+    ghost count: { (1 ≤ length images.items) × (length images.items ≤ 8) },
+}
+
+/// Why files were not opened.
+#[derive(Clone, Copy, Debug, PartialEq, Eq)]
+pub enum OpenFault {
+    /// The file with this number, from 0, isn't there, or can't be read and written.
+    Device(u8),
+    /// Memory was wanting.
+    NoMemory,
+}
+
+impl<T: Drop> From<AllocFailed<T>> for OpenFault {
+    fn from(_error: AllocFailed<T>) -> Self {
+        OpenFault::NoMemory
+    }
+}
+
+/// Opens one to eight files, in this order.
+pub fn open_devices<R: Files>(
+    files: &R,
+    alloc: Global,
+    paths: &[RcStr],
+) -> Result<FileDevices<R::File>, OpenFault>
+    requires { (1 ≤ length paths.now) × (length paths.now ≤ 8) }
+    ensures { IfOk result (λ d. length d.images.items ≡ length paths.now) }
+{
+    let mut images = Vec::new(alloc);
+    for path in paths {
+        match open_image(files, path.as_str()) {
+            Ok(image) => images.push(image)?,
+            Err(_) => return Err(OpenFault::Device(images.len() as u8)),
+        }
+    }
+    Ok(FileDevices {
+        images,
+        counts: CallCounts::default(),
+    })
+}
+
+impl<F: FileExt + OpenFile + Drop> Devices for FileDevices<F> {
+    ghost use Rattle.dev_model.specs.Devices.{History};
+
+    ghost tells = { ⊥ };
+
+    ghost sizes = { λ d. map (λ image. image.blocks) d.images.items };
+
+    ghost history = { λ d. record { moment = d.counts.calls; disks = λ _. [] } };
+
+    ghost faults = { λ d. d.counts.faults };
+
+    ghost write_faults = { λ d. d.counts.write_faults };
+
+    ghost agree = { λ told _. absurd told };
+
+    ghost sound = { λ told _. absurd told };
+
+    fn count(&self) -> u8 {
+        self.images.len() as u8
+    }
+
+    fn blocks(&self, dev: u8) -> u32 {
+        self.images[dev as usize].blocks
+    }
+
+    fn moment(&self) -> u64 {
+        self.counts.calls
+    }
+
+    fn extend(&mut self, dev: u8, blocks: u32) -> Result<(), Failed> {
+        let answer = self.images[dev as usize].extend(blocks);
+        self.counts.count(answer)
+    }
+
+    fn read(&mut self, dev: u8, block: u32, into: &mut [u8]) -> Result<(), Failed> {
+        let answer = self.images[dev as usize].read(block, into);
+        self.counts.count(answer)
+    }
+
+    fn write(&mut self, dev: u8, block: u32, from: &[u8]) -> Result<(), Failed> {
+        let answer = self.images[dev as usize].write(block, from);
+        self.counts.count_write(answer)
+    }
+
+    fn flush(&mut self, dev: u8) -> Result<(), Failed> {
+        let answer = self.images[dev as usize].sync();
+        self.counts.count_write(answer)
+    }
+}

@@ -1,0 +1,68 @@
+//! The program: opens the image files, and runs the command that the words name.
+#![tactic(auto)]
+
+mod arguments;
+mod counts;
+mod devices;
+mod help;
+mod image;
+mod refusal;
+#[cfg(test)]
+mod tests;
+
+use arguments::{help_for, words_and_paths};
+use dev_model::NoGate;
+use devices::open_devices;
+use refusal::Refusal;
+use shell::run_words;
+use std::alloc::Global;
+use std::env;
+use std::fs::File;
+use std::io::{self, Read, Write};
+use std::process::ExitCode;
+use std::rc::RcStr;
+use std::rt::{Env, Files};
+use text_io::{StdSink, StdSource};
+
+/// The status of a program that couldn't print.
+const SINK_FAILED: u8 = 5;
+
+fn main(rt: HostRuntime) -> ExitCode {
+    let status = match run(&rt, rt.alloc(), rt.stdin(), rt.stdout()) {
+        Ok(status) => status,
+        Err(refusal) => printed(rt.println(refusal), refusal.status()),
+    };
+    ExitCode::from(status)
+}
+
+// The status, or that of a program that couldn't print.
+fn printed(answer: io::Result<()>, status: u8) -> u8 {
+    if answer.is_ok() { status } else { SINK_FAILED }
+}
+
+// Does what the arguments ask for, and gives the status with which the program ends.
+fn run<R: Files<File = File> + Env + AllocGlobal + Print, I: Read + Drop, O: Write + Drop>(
+    rt: &R,
+    alloc: Global,
+    input: I,
+    output: O,
+) -> Result<u8, Refusal> {
+    let args = read_arguments(rt, alloc)?;
+    if let Some(text) = help_for(&args) {
+        return Ok(printed(rt.print(text), 0));
+    }
+    let (words, paths) = words_and_paths(&args).ok_or(Refusal::Usage)?;
+    let devices = open_devices(rt, alloc, paths)?;
+    let mut source = StdSource::new(input);
+    let mut sink = StdSink::new(output);
+    Ok(run_words(rt, alloc, words, &mut source, &mut sink, devices, &NoGate).status)
+}
+
+// The arguments behind the program's name.
+fn read_arguments<R: Env + AllocGlobal>(rt: &R, alloc: Global) -> Result<Vec<RcStr>, Refusal> {
+    let mut args = Vec::new(alloc);
+    for arg in env::args(rt)?.skip(1) {
+        args.push(RcStr::from_string(arg)?)?;
+    }
+    Ok(args)
+}

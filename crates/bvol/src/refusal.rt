@@ -1,0 +1,66 @@
+use crate::devices::OpenFault;
+use std::alloc::{AllocError, AllocFailed};
+use std::{fmt, io};
+
+/// Why no command was begun.
+#[derive(Clone, Copy, Debug, PartialEq, Eq)]
+pub enum Refusal {
+    /// The arguments name no files, or too many.
+    Usage,
+    /// This file isn't there, or can't be read and written.
+    Device(u8),
+    /// Memory was wanting.
+    Memory,
+}
+
+impl Refusal {
+    /// The status with which the program ends.
+    pub fn status(self) -> u8 {
+        match self {
+            Refusal::Usage => 1,
+            Refusal::Device(_) => 6,
+            Refusal::Memory => 7,
+        }
+    }
+}
+
+impl fmt::Display for Refusal {
+    fn fmt<W: fmt::Write>(&self, f: &mut fmt::Formatter<W>) -> fmt::Result {
+        match *self {
+            Refusal::Usage => f.write_str("error 1 usage"),
+            Refusal::Device(dev) => write!(f, "error 6 device {dev}"),
+            Refusal::Memory => f.write_str("error 7 memory"),
+        }
+    }
+}
+
+impl From<AllocError> for Refusal {
+    fn from(_error: AllocError) -> Self {
+        Refusal::Memory
+    }
+}
+
+impl<T: Drop> From<AllocFailed<T>> for Refusal {
+    fn from(_error: AllocFailed<T>) -> Self {
+        Refusal::Memory
+    }
+}
+
+impl From<OpenFault> for Refusal {
+    fn from(fault: OpenFault) -> Self {
+        match fault {
+            OpenFault::Device(dev) => Refusal::Device(dev),
+            OpenFault::NoMemory => Refusal::Memory,
+        }
+    }
+}
+
+// Of the arguments: one isn't UTF-8, or memory was wanting.
+impl From<io::Error> for Refusal {
+    fn from(error: io::Error) -> Self {
+        match error.kind() {
+            io::ErrorKind::OutOfMemory => Refusal::Memory,
+            _ => Refusal::Usage,
+        }
+    }
+}
