@@ -67,8 +67,8 @@ IsListing (Ls path) = Unit {0}
 IsListing Sync = ⊥
 
 -- the device has as many records, on it or to come, as it has blocks
-abbrev pub is_full : {D : Type 0} → (D → List ℕ) → Log D → Bool
-is_full sizes log = log.base + length log.files == slice_index (sizes log.devices) 0
+abbrev pub is_full : {D : Type 0} → Forest → (D → List ℕ) → Log D → Bool
+is_full opening sizes log = log.base + commit_count opening log.trace == slice_index (sizes log.devices) 0
 
 -- no extent is short of a place, and the log has no buckets to count
 abbrev pub log_short : Short
@@ -83,7 +83,7 @@ full_reply op forest = option_map_or Refused (refusal_of 0 op forest) (NoSpace l
 abbrev pub IsLogReply : {D : Type 0} → (D → List ℕ) → (D → ℕ) → Forest → Op → Log D → Log D → Reply → Type 0
 IsLogReply sizes faults opening (Mkfile path) old new reply =
     let forest = after_all opening old.trace in
-    reply ≡ (if is_full sizes old then full_reply (Mkfile path) forest else reply_of 0 (Mkfile path) 0 forest)
+    reply ≡ (if is_full opening sizes old then full_reply (Mkfile path) forest else reply_of 0 (Mkfile path) 0 forest)
 IsLogReply sizes faults opening (Ls path) old new reply = reply ≡ reply_of 0 (Ls path) 0 (after_all opening old.trace)
 IsLogReply sizes faults opening Sync old new reply =
     let count = commit_count opening old.trace in

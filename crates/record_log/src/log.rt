@@ -1,4 +1,4 @@
-ghost use Rattle.std.specs.Prelude.{◌≡◌, ◌≤◌, ◌<◌, ◌+◌, ◌-◌, ◌^◌, ◌++◌, ◌∷◌, [], length, slice_get, slice_index, option_copied, OnOk, OnErr, IfOk, IsErrOf, vec_len, vec_capacity};
+ghost use Rattle.std.specs.Prelude.{◌≡◌, ◌==◌, ◌≤◌, ◌<◌, ◌+◌, ◌-◌, ◌^◌, ◌++◌, ◌∷◌, [], length, slice_get, slice_index, option_copied, OnOk, OnErr, IfOk, IsErrOf, vec_len, vec_capacity};
 ghost use Rattle.vol_types.specs.Faults.{RoseBy};
 ghost use Rattle.plain_forest.specs.History.{IsLegal, after_all, commit_count};
 ghost use Rattle.plain_forest.specs.Steps.{reply_of};
@@ -129,7 +129,8 @@ impl<D: Devices, O: Opening> RecordLog<D, O> {
 
     // Whether the device has as many records, on it or to come, as it has blocks.
     fn is_full(&self) -> bool
-        ensures full { result ≡ is_full D.sizes self.now }
+        ensures full { result ≡ is_full O.forest D.sizes self.now }
+        ensures full_of_files { result ≡ (self.now.base + length self.now.files == slice_index (D.sizes self.now.devices) 0) }
         ensures fits { slice_index (D.sizes self.now.devices) 0 < 2 ^ 32 }
         ensures room { self.now.base + length self.now.files ≤ slice_index (D.sizes self.now.devices) 0 }
     {
