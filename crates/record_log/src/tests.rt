@@ -93,7 +93,7 @@ fn made_files_are_mounted_again(rt: HostRuntime) -> Result<(), Fail> {
     let alloc = rt.alloc();
     let blank = MemDevices::blank(alloc, &[3])?;
     let (devices, _) = session(alloc, blank, &[b"b", b"a"])?;
-    let mut devices = devices.restart(alloc, Pick::AllWritten)?;
+    let mut devices = devices.restart(Pick::AllWritten)?;
     let mut loaded = load(alloc, &mut devices)?;
     assert_eq!(rt; loaded.records, 2);
     let Reply::List(names) = loaded.forest.apply(0, &root_listing(alloc)?)? else {
@@ -112,7 +112,7 @@ fn a_wrong_number_ends_the_log(rt: HostRuntime) -> Result<(), Fail> {
     for (place, number, records) in [(1, 3, 3), (2, 3, 1), (1, 4, 1)] {
         let blank = MemDevices::blank(alloc, &[3])?;
         let (devices, _) = session(alloc, blank, &[b"a", b"b", b"c"])?;
-        let mut devices = devices.restart(alloc, Pick::AllWritten)?;
+        let mut devices = devices.restart(Pick::AllWritten)?;
         let file = MadeFile {
             number,
             name: Bytes::from_slice(alloc, b"other")?,
