@@ -13,7 +13,7 @@ use sealed_block::{Head, JOURNAL_ENTRY, payload, seal, sealed_blocks_open, unsea
 use std::alloc::{AllocError, Global};
 use vol_digest::digest;
 
-/// The head of the block at a place of the log.
+// The head of the block at a place of the log.
 fn log_head(place: u32, payload: &[u8]) -> Head
     requires { length payload.now ≤ 3968 }
     ensures head { is_log_head place payload.now result ≡ true }

@@ -1,4 +1,4 @@
-ghost use Rattle.std.specs.Prelude.{◌≡◌, ◌==◌, ◌≤◌, ◌<◌, ◌+◌, ◌-◌, ◌^◌, ◌++◌, ◌∷◌, [], length, slice_get, slice_index, option_copied, OnOk, OnErr, IfOk, IsErrOf, vec_len, vec_capacity};
+ghost use Rattle.std.specs.Prelude.{◌≡◌, ◌≢◌, ◌==◌, ◌≤◌, ◌<◌, ◌+◌, ◌-◌, ◌^◌, ◌++◌, ◌∷◌, [], length, slice_get, slice_index, option_copied, OnOk, OnErr, IfOk, IsErrOf, vec_len, vec_capacity};
 ghost use Rattle.vol_types.specs.Faults.{RoseBy};
 ghost use Rattle.plain_forest.specs.History.{IsLegal, after_all, commit_count};
 ghost use Rattle.plain_forest.specs.Steps.{reply_of};
@@ -90,6 +90,8 @@ impl<D: Devices, O: Opening> RecordLog<D, O> {
         ensures answered { OnOk result (Answers D.sizes D.faults O.forest op.now self.old self.new) }
         ensures err { OnErr result (self.new.trace ≡ self.old.trace) }
         ensures base { self.new.base ≡ self.old.base }
+        ensures rises { self.old.durable ≤ self.new.durable }
+        ensures untouched { op.now ≢ Op.Sync → self.new.devices ≡ self.old.devices }
         ensures sizes { D.sizes self.new.devices ≡ D.sizes self.old.devices }
         ensures faults { D.faults self.old.devices ≤ D.faults self.new.devices }
 
@@ -113,6 +115,8 @@ impl<D: Devices, O: Opening> RecordLog<D, O> {
         ensures answered { OnOk result (Answers D.sizes D.faults O.forest op.now self.old self.new) }
         ensures err { OnErr result (self.new.trace ≡ self.old.trace) }
         ensures base { self.new.base ≡ self.old.base }
+        ensures rises { self.old.durable ≤ self.new.durable }
+        ensures untouched { op.now ≢ Op.Sync → self.new.devices ≡ self.old.devices }
         ensures sizes { D.sizes self.new.devices ≡ D.sizes self.old.devices }
         ensures faults { D.faults self.old.devices ≤ D.faults self.new.devices }
         ensures kept { D.tells → KeepsDurable D.history self.old self.new }
@@ -142,8 +146,7 @@ impl<D: Devices, O: Opening> RecordLog<D, O> {
         requires { op.now ≡ Op.Mkfile (in_main name.now) }
         ensures answered { OnOk result (Answers D.sizes D.faults O.forest op.now self.old self.new) }
         ensures err { OnErr result (self.new.trace ≡ self.old.trace) }
-        ensures base { self.new.base ≡ self.old.base }
-        ensures devices { self.new.devices ≡ self.old.devices }
+        ensures others { self.new ≡ record self.old { files = self.new.files; trace = self.new.trace } }
     {
         if self.is_full() {
             return self.refuse_file(op, name);
@@ -174,8 +177,7 @@ impl<D: Devices, O: Opening> RecordLog<D, O> {
         requires fits { slice_index (D.sizes self.old.devices) 0 < 2 ^ 32 }
         ensures answered { OnOk result (self.new.trace ≡ self.old.trace ++ record { client = 0; op = op.now; reply = reply_of 0 op.now 0 (after_all O.forest self.old.trace) } ∷ []) }
         ensures err { OnErr result (self.new ≡ self.old) }
-        ensures base { self.new.base ≡ self.old.base }
-        ensures devices { self.new.devices ≡ self.old.devices }
+        ensures others { self.new ≡ record self.old { files = self.new.files; trace = self.new.trace } }
     {
         self.trace.reserve(1)?;
         self.files.reserve(1)?;
@@ -214,6 +216,7 @@ impl<D: Devices, O: Opening> RecordLog<D, O> {
     fn sync(&mut self) -> Result<(), AllocError>
         ensures answered { OnOk result (Answers D.sizes D.faults O.forest Op.Sync self.old self.new) }
         ensures err { OnErr result (self.new.trace ≡ self.old.trace) }
+        ensures rises { self.old.durable ≤ self.new.durable }
         ensures sizes { D.sizes self.new.devices ≡ D.sizes self.old.devices }
         ensures faults { D.faults self.old.devices ≤ D.faults self.new.devices }
         ensures base { self.new.base ≡ self.old.base }
@@ -233,6 +236,7 @@ impl<D: Devices, O: Opening> RecordLog<D, O> {
     fn write_reply(&mut self) -> Result<Reply, AllocError>
         ensures reply { IfOk result (IsLogReply D.sizes D.faults O.forest Op.Sync self.old self.new) }
         ensures others { self.new ≡ record self.old { devices = self.new.devices; durable = self.new.durable } }
+        ensures rises { self.old.durable ≤ self.new.durable }
         ensures sizes { D.sizes self.new.devices ≡ D.sizes self.old.devices }
         ensures faults { D.faults self.old.devices ≤ D.faults self.new.devices }
         ensures kept { D.tells → KeepsDurable D.history self.old self.new }
@@ -249,6 +253,7 @@ impl<D: Devices, O: Opening> RecordLog<D, O> {
         ensures ok { OnOk result (self.new.durable ≡ commit_count O.forest self.old.trace) }
         ensures others { self.new ≡ record self.old { devices = self.new.devices; durable = self.new.durable } }
         ensures cause { IsErrOf result LogFault.DeviceFault → RoseBy 1 (D.faults self.old.devices) (D.faults self.new.devices) }
+        ensures rises { self.old.durable ≤ self.new.durable }
         ensures sizes { D.sizes self.new.devices ≡ D.sizes self.old.devices }
         ensures faults { D.faults self.old.devices ≤ D.faults self.new.devices }
         ensures kept { D.tells → KeepsDurable D.history self.old self.new }

@@ -19,7 +19,7 @@ pub struct Loaded {
     pub records: u32,
 }
 
-/// Makes a file of the root of `main`.
+/// The operation that makes a file with this name in the root of `main`.
 pub fn make_file_op(alloc: Global, name: &Bytes) -> Result<Op, AllocError>
     ensures { IfOk result (λ op. op ≡ Op.Mkfile (in_main name.now)) }
 {
@@ -66,6 +66,7 @@ fn take_block(
     }
 }
 
+// The bytes of a block of the first device.
 fn read_block<D: Devices>(alloc: Global, devices: &mut D, block: u32) -> Result<Bytes, LogFault>
     requires { IsPlace (D.sizes devices.old) 0 block }
     ensures bytes { D.tells → IfOk result (λ bytes. block_at (as_read (now (D.history devices.old))) 0 block ≡ Some bytes) }

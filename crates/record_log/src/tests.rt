@@ -1,10 +1,11 @@
-ghost use Rattle.std.specs.Prelude.{◌≡◌, ◌≤◌, slice_index};
+ghost use Rattle.std.specs.Prelude.{◌≡◌, ◌≤◌, slice_index, IfOk};
+ghost use Rattle.record_log.specs.Log.{IsFlat};
 
 use crate::blocks::seal_record;
 use crate::mounting::make_file_op;
 use crate::{Loaded, LogFault, MadeFile, Opening, RecordLog, load};
 use dev_model::{Devices, MemDevices, Pick};
-use plain_forest::{Cause, Entry, Op, Path, Reply, Trace};
+use plain_forest::{Cause, Op, Path, Reply, Trace};
 use std::alloc::Global;
 use std::marker::Brand;
 use std::test::Fail;
@@ -40,7 +41,9 @@ fn session_from<O: Opening>(
     Ok(log.finish())
 }
 
-fn root_listing(alloc: Global) -> Result<Op, Fail> {
+fn root_listing(alloc: Global) -> Result<Op, Fail>
+    ensures { IfOk result IsFlat }
+{
     Ok(Op::Ls {
         path: Path {
             sub: Bytes::from_slice(alloc, b"main")?,
