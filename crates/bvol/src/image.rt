@@ -9,7 +9,7 @@ use std::rt::Files;
 /// The bytes of a block.
 const BLOCK_SIZE: u64 = 4096;
 
-/// A file that holds a device's blocks: its whole pieces of 4,096 bytes. The bytes behind them stay as they are.
+/// A file that holds a device's blocks: its whole pieces of 4,096 bytes. Only `extend` changes the bytes behind them.
 #[derive(Drop)]
 pub struct Image<F: Drop> {
     file: F,
