@@ -7,7 +7,7 @@ use Rattle.script_text.specs.Grammar.{Spells, Says}
 use Rattle.script_text.specs.Scripts.{IsScriptFrom}
 use Rattle.script_text.specs.declared.reading.Line.{Line}
 use Rattle.record_log.specs.Log.{IsFlat}
-use Rattle.shell.specs.Flat.{IsFlatIfAny, AreFlat}
+use Rattle.shell.specs.Flat.{IsFlatIfAny, IsFlatLine, AreFlat}
 
 spelled_is_flat : (text : List ℕ) (op : Op) → Spells text op → IsFlat op
 spelled_is_flat text (Mkfile path) spells = (spells.name, spells.place)
@@ -19,8 +19,8 @@ said_is_flat text (Some op) says = spelled_is_flat text op says
 said_is_flat text None says = tt
 
 pub script_is_flat : (number : ℕ) (texts : List (List ℕ)) (script : List Line) → IsScriptFrom number texts script → AreFlat script
-script_is_flat number [] [] is = All-nil (λ (line : Line). IsFlatIfAny line.op)
+script_is_flat number [] [] is = All-nil IsFlatLine
 script_is_flat number [] (line ∷ script) is = absurd is
 script_is_flat number (text ∷ texts) [] is = absurd is
 script_is_flat number (text ∷ texts) (line ∷ script) is =
-    All-cons (λ (l : Line). IsFlatIfAny l.op) line script (said_is_flat text line.op is.0.said) (script_is_flat (number + 1) texts script is.1)
+    All-cons IsFlatLine line script (record { client = is.0.first_client; op = said_is_flat text line.op is.0.said }) (script_is_flat (number + 1) texts script is.1)

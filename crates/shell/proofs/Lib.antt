@@ -1,1 +1,5 @@
+pub mod Ending
 pub mod FlatScripts
+pub mod Preparing
+pub mod Printing
+pub mod Running

@@ -1,12 +1,14 @@
-ghost use Rattle.std.specs.Prelude.{◌≡◌};
+ghost use Rattle.std.specs.Prelude.{◌≡◌, [], ◌∷◌, Some};
 ghost use Rattle.record_log.specs.Log.{IsFlat};
-ghost use Rattle.shell.specs.Flat.{AreFlat};
+ghost use Rattle.shell.specs.Flat.{AreFlat, IsFlatLine};
+ghost use Rattle.shell.specs.Phases.{RunsEnd, RunsLines, RunsSync};
 
-use crate::page::Page;
+use crate::page::{Page, add_reply, print_end, print_lines};
 use dev_model::{BEFORE_COMMIT, Devices, Gate};
 use plain_forest::{Op, Reply};
 use record_log::{Opening, RecordLog};
 use script_text::Line;
+use text_io::Sink;
 
 /// Runs the lines of a script, and puts their replies on a page.
 pub fn run_lines<D: Devices, O: Opening, G: Gate>(
@@ -16,37 +18,51 @@ pub fn run_lines<D: Devices, O: Opening, G: Gate>(
     page: &mut Page,
 )
     requires { AreFlat script.now }
+    ensures { RunsLines O.forest D.sizes D.faults script.now log.old log.new page.old page.new }
 {
     for line in script {
-        if let Some(op) = &line.op {
-            gate.at(line.client, BEFORE_COMMIT);
-            run_line(log, line, op, page);
-        }
+        run_line(log, line, gate, page);
     }
 }
 
-fn run_line<D: Devices, O: Opening>(
+// Runs a line; a barrier does nothing.
+fn run_line<D: Devices, O: Opening, G: Gate>(
     log: &mut RecordLog<D, O>,
     line: &Line,
-    op: &Op,
+    gate: &G,
     page: &mut Page,
 )
-    requires { IsFlat op.now }
+    requires { IsFlatLine line.now }
+    ensures { RunsLines O.forest D.sizes D.faults (line.now ∷ []) log.old log.new page.old page.new }
+{
+    if let Some(op) = &line.op {
+        gate.at(line.client, BEFORE_COMMIT);
+        answer(log, line, op, page);
+    }
+}
+
+fn answer<D: Devices, O: Opening>(log: &mut RecordLog<D, O>, line: &Line, op: &Op, page: &mut Page)
+    requires flat { IsFlat op.now }
+    requires op { line.now.op ≡ Some op.now }
+    requires client { line.now.client ≡ 0 }
+    ensures { RunsLines O.forest D.sizes D.faults (line.now ∷ []) log.old log.new page.old page.new }
 {
     if log.call(op).is_err() {
         page.note_no_memory();
-        page.add_reply(line.client, line.line, &Reply::NoMemory);
-    } else if let Some(entry) = log.last() {
-        page.add_reply(line.client, line.line, &entry.reply);
+        add_reply(page, line.client, line.line, &Reply::NoMemory);
+        return;
+    }
+    match log.last() {
+        Some(entry) => add_reply(page, line.client, line.line, &entry.reply),
+        None => unreachable!(),
     }
 }
 
 /// Makes every commit durable. The number of commits that are, or none where a device failed or memory was wanting,
 /// which the page notes.
-pub fn final_sync<D: Devices, O: Opening>(
-    log: &mut RecordLog<D, O>,
-    page: &mut Page,
-) -> Option<u64> {
+pub fn final_sync<D: Devices, O: Opening>(log: &mut RecordLog<D, O>, page: &mut Page) -> Option<u64>
+    ensures { RunsSync O.forest D.sizes D.faults log.old log.new page.old page.new result }
+{
     if log.call(&Op::Sync).is_err() {
         page.note_no_memory();
         return None;
@@ -56,6 +72,32 @@ pub fn final_sync<D: Devices, O: Opening>(
             Reply::Synced(count) => Some(*count),
             _ => None,
         },
-        None => None,
+        None => unreachable!(),
     }
+}
+
+/// Prints the page, makes every commit durable, and prints the last line. The status of the run: 5 where the sink
+/// failed, else 7 where memory was wanting, else 6 where the sync failed, else 0.
+pub fn end_run<K: Sink, D: Devices, O: Opening>(
+    log: &mut RecordLog<D, O>,
+    page: &mut Page,
+    sink: &mut K,
+) -> u8
+    ensures { RunsEnd O.forest D.sizes D.faults K.tells log.old log.new page.old (K.held sink.old) (K.held sink.new) (K.faults sink.old) (K.faults sink.new) result }
+{
+    let begun = print_lines(page, sink);
+    let synced = final_sync(log, page);
+    if begun.is_err() {
+        return 5;
+    }
+    if print_end(page, log.commits(), synced.unwrap_or(0), sink).is_err() {
+        return 5;
+    }
+    if page.is_cut || page.lacks_memory {
+        return 7;
+    }
+    if synced.is_none() {
+        return 6;
+    }
+    0
 }

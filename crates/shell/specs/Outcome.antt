@@ -1,0 +1,87 @@
+-- How a run goes, from beginning to end.
+use Rattle.std.specs.Prelude.{ℕ, List, [], ◌∷◌, ◌++◌, codes, Option, Some, None}
+use Rattle.std.specs.List.{filter_map, flat_map}
+use Rattle.std.specs.Fmt.{decimal}
+use Rattle.plain_forest.specs.Forest.{Forest}
+use Rattle.plain_forest.specs.History.{History, commit_count}
+use Rattle.plain_forest.specs.declared.operation.Op.{Op}
+use Rattle.plain_forest.specs.declared.operation.Op.TheVariants.{Sync}
+use Rattle.plain_forest.specs.declared.operation.Reply.{Reply}
+use Rattle.plain_forest.specs.declared.operation.Reply.TheVariants.{Synced, NoMemory}
+use Rattle.plain_forest.specs.declared.operation.Entry.{Entry}
+use Rattle.script_text.specs.Replies.{reply_line_of, end_line_of}
+use Rattle.script_text.specs.declared.reading.Line.{Line}
+use Rattle.script_text.specs.declared.reading.LineFault.{LineFault}
+use Rattle.script_text.specs.declared.reading.LineFault.TheVariants.{NotBuilt}
+use Rattle.shell.specs.declared.stop.Stop.{Stop}
+use Rattle.shell.specs.declared.stop.Stop.TheVariants.{Usage, BadLine, TooLong, Source, Device, Memory}
+
+-- a line of the script with the reply to it
+pub record Answered : Type 0 where
+  pub line : Line
+  pub reply : Reply
+
+-- A run stops before any line runs, or each line of the script is answered in order, and then a last sync.
+pub data Outcome : Type 0 where
+  Stopped : Stop → Outcome
+  Ran : List Line → List Answered → Reply → Outcome
+
+-- the status of a stop
+abbrev pub stop_status : Stop → ℕ
+stop_status Usage = 1
+stop_status (BadLine line cause) = 2
+stop_status TooLong = 2
+stop_status Source = 4
+stop_status (Device dev) = 6
+stop_status Memory = 7
+
+-- why a line is bad, at the end of the line that says so
+abbrev pub bad_end : LineFault → List ℕ
+bad_end NotBuilt = codes " not-built\n"
+
+-- the line of a stop
+abbrev pub stop_line : Stop → List ℕ
+stop_line Usage = codes "error 1 usage\n"
+stop_line (BadLine line cause) = codes "error 2 line " ++ decimal line ++ bad_end cause
+stop_line TooLong = codes "error 2 too-long\n"
+stop_line Source = codes "error 4 source\n"
+stop_line (Device dev) = codes "error 6 device " ++ decimal dev ++ codes "\n"
+stop_line Memory = codes "error 7 memory\n"
+
+-- the entry of an operation with its reply: one that found no memory has none
+abbrev pub entry_if_any : ℕ → Op → Reply → Option Entry
+entry_if_any client op NoMemory = None
+entry_if_any client op reply = Some (record { client = client; op = op; reply = reply })
+
+-- the entry of a line with its reply
+abbrev pub entry_by : Option Op → ℕ → Reply → Option Entry
+entry_by None client reply = None
+entry_by (Some op) client reply = entry_if_any client op reply
+
+abbrev pub entry_of : Answered → Option Entry
+entry_of answered = entry_by answered.line.op answered.line.client answered.reply
+
+-- the entries of the lines, and the one of the last sync
+abbrev pub entries_of : List Answered → Reply → History
+entries_of answered last = filter_map entry_of answered ++ filter_map (entry_if_any 0 Sync) (last ∷ [])
+
+-- the line that answers a line; a barrier has none
+abbrev pub reply_line_by : Option Op → ℕ → ℕ → Reply → List ℕ
+reply_line_by None client number reply = []
+reply_line_by (Some op) client number reply = reply_line_of client number reply
+
+abbrev pub reply_line : Answered → List ℕ
+reply_line answered = reply_line_by answered.line.op answered.line.client answered.line.line answered.reply
+
+-- the lines that answer the lines of the script
+abbrev pub reply_lines : List Answered → List ℕ
+reply_lines answered = flat_map reply_line answered
+
+-- how many commits a last sync says are durable
+abbrev pub synced_of : Reply → ℕ
+synced_of (Synced count) = count
+synced_of reply = 0
+
+-- all that a run prints whose lines were answered
+abbrev pub text_of : Forest → List Answered → Reply → List ℕ
+text_of opening answered last = reply_lines answered ++ end_line_of (commit_count opening (entries_of answered last)) (synced_of last)
