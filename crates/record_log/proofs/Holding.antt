@@ -5,16 +5,16 @@ use Rattle.std.specs.Option.{option_map_or}
 use Rattle.std.specs.Result.{result_ok}
 use Rattle.std.proofs.lemmas.Bool.{cases_lt}
 use Rattle.std.proofs.lemmas.Option.{same_Some, none-some as none_some}
-use Rattle.dev_model.specs.Disk.{Image, block_at}
+use Rattle.dev_model.specs.Disk.{Image}
 use Rattle.dev_model.specs.Stops.{IsAt, SameBut}
 use Rattle.plain_forest.specs.Forest.{Forest}
 use Rattle.plain_forest.specs.Steps.{made_file, next_number, forest_after, or_before, reply_of, reply_or}
-use Rattle.plain_forest.specs.History.{History, after_all}
+use Rattle.plain_forest.specs.History.{after_all}
 use Rattle.plain_forest.specs.declared.operation.Cause.{Cause}
 use Rattle.plain_forest.specs.declared.operation.Op.TheVariants.{Mkfile}
 use Rattle.plain_forest.specs.declared.operation.Reply.TheVariants.{Okay}
 use Rattle.record_log.specs.Records.{record_in}
-use Rattle.record_log.specs.Found.{Mounted, mounted_as, mounted_from, first_of, forest_with, forest_with_block, in_main}
+use Rattle.record_log.specs.Found.{mounted_as, mounted_from, first_of, forest_with, forest_with_block, in_main}
 use Rattle.record_log.specs.Durable.{HoldsRecords, mounted_next, record_at, with_files}
 use Rattle.record_log.specs.Log.{commit_of}
 use Rattle.record_log.specs.declared.files.MadeFile.{MadeFile}

@@ -1,9 +1,8 @@
 -- What a stop leaves of the device while a record is written and flushed.
-use Rattle.std.proofs.Common.{◌≡◌, ℕ, zero, suc, ◌<◌, ◌≤◌, List, [], ◌∷◌, length, get_or, set, slice_get, Some, refl, ap, ◌∙◌, sym, subst, arith, Result, All, ◌⊎◌, inl, inr, ⊎_elim}
-use Rattle.std.specs.Prelude.{option_and_then}
+use Rattle.std.proofs.Common.{◌≡◌, ℕ, zero, suc, ◌<◌, ◌≤◌, List, [], ◌∷◌, length, get_or, set, slice_get, Some, refl, ◌∙◌, subst, arith, Result, All, ◌⊎◌, inl, inr, ⊎_elim}
 use Rattle.std.proofs.lemmas.Bool.{cases_lt}
 use Rattle.std.proofs.lemmas.List.{length-set}
-use Rattle.dev_model.specs.Disk.{Disk, Image, IsDisk, MayLeave, MayLeaveImage, block_at, changed, flushed, sizes_of, written}
+use Rattle.dev_model.specs.Disk.{Disk, Image, IsDisk, MayLeaveImage, block_at, changed, flushed, sizes_of, written}
 use Rattle.dev_model.specs.Devices.{Goes, History, Is, MayBeWritten, now}
 use Rattle.dev_model.specs.Stops.{IsAt, LeavesOnly, MayLeaveBut}
 use Rattle.record_log.specs.Durable.{IsFrom}

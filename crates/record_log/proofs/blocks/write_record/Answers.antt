@@ -1,7 +1,7 @@
 use Rattle.std.proofs.Common.{◌≡◌, ◌<◌, ◌∙◌, ap, sym, subst, arith, List, ℕ, get_or, Some}
 use Rattle.std.specs.Prelude.{option_and_then}
 use Rattle.std.proofs.lemmas.List.{take_all, take-append-le}
-use Rattle.dev_model.specs.Disk.{Disk, Image, MayLeaveImage, sizes_of, changed, flushed, written}
+use Rattle.dev_model.specs.Disk.{MayLeaveImage, sizes_of, changed, flushed, written}
 use Rattle.dev_model.specs.Devices.{now}
 use Rattle.dev_model.specs.Stops.{IsAt}
 use Rattle.record_log.specs.Records.{record_in}

@@ -1,4 +1,4 @@
-use Rattle.std.proofs.Common.{◌≡◌, ◌+◌, ◌≤◌, ap, ◌∙◌, arith}
+use Rattle.std.proofs.Common.{◌≡◌, ◌+◌, ap, ◌∙◌, arith}
 use Rattle.record_log.specs.Log.{Log}
 use Rattle.record_log.proofs.Writing.{goes_from}
 use Rattle.record_log.proofs.log.RecordLog.write_all.Goals as goal
