@@ -3,6 +3,12 @@
 #![tactic(auto)]
 
 #[cfg(test)]
+mod failures;
+#[cfg(test)]
 mod first_runs;
+#[cfg(test)]
+mod full_device;
+#[cfg(test)]
+mod refused_scripts;
 #[cfg(test)]
 mod runs;

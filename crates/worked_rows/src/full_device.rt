@@ -1,0 +1,21 @@
+use crate::runs::run;
+use dev_model::MemDevices;
+use std::test::Fail;
+
+// Two blocks take two files. Behind them a new name finds no space, and one that is there is refused as ever.
+#[test]
+fn a_full_device_takes_no_more_files(rt: HostRuntime) -> Result<(), Fail> {
+    let alloc = rt.alloc();
+    let ran = run(
+        alloc,
+        b"mkfile main:/a\nmkfile main:/b\nmkfile main:/c\nmkfile main:/a\nls main:/\n",
+        MemDevices::blank(alloc, &[2])?,
+    )?;
+    assert_eq!(rt;
+        ran.sink.held(),
+        b"@0 1 ok\n@0 2 ok\n@0 3 err no-space need 0\n@0 4 err exists\n@0 5 list a b\nend commits 2 synced 2\n".as_slice()
+    );
+    assert_eq!(rt; ran.status, 0);
+    assert_eq!(rt; ran.trace.len(), 6);
+    Ok(())
+}
