@@ -85,3 +85,44 @@ fn a_last_line_without_its_end_is_read(rt: HostRuntime) -> Result<(), Fail> {
     assert_eq!(rt; ran.trace.len(), 2);
     Ok(())
 }
+
+// A script has at most 16 MiB. One of as many bytes is read to its end, and its first line is bad.
+#[test]
+fn a_script_of_more_than_16_mib_is_refused(rt: HostRuntime) -> Result<(), Fail> {
+    let alloc = rt.alloc();
+    let text = vec![in alloc; b'a'; 16_777_217]?;
+    let (longest, _) = text.as_slice().split_at(16_777_216);
+    let bad = b"error 2 line 1 not-built\n".as_slice();
+    assert!(rt;
+        is_refused(
+            alloc,
+            &["run"],
+            longest,
+            MemDevices::blank(alloc, &[16])?,
+            2,
+            bad
+        )?
+    );
+    let long = b"error 2 too-long\n".as_slice();
+    assert!(rt;
+        is_refused(
+            alloc,
+            &["run"],
+            &text,
+            MemDevices::blank(alloc, &[16])?,
+            2,
+            long
+        )?
+    );
+    Ok(())
+}
+
+// A sync of one's own is no line of a script yet.
+#[test]
+fn a_sync_is_refused(rt: HostRuntime) -> Result<(), Fail> {
+    let alloc = rt.alloc();
+    let blank = MemDevices::blank(alloc, &[16])?;
+    let line = b"error 2 line 1 not-built\n".as_slice();
+    assert!(rt; is_refused(alloc, &["run"], b"sync\n", blank, 2, line)?);
+    Ok(())
+}
