@@ -1,4 +1,4 @@
-ghost use Rattle.std.specs.Prelude.{◌≡◌, ◌<◌, ◌++◌, ◌∷◌, [], ◌==◌, length, IfOk, OnOk, OnErr, slice_get, option_copied};
+ghost use Rattle.std.specs.Prelude.{◌≡◌, ◌<◌, ◌++◌, ◌∷◌, [], ◌==◌, length, take, IfOk, OnOk, OnErr, slice_get, option_copied};
 
 use std::alloc::{AllocError, AllocFailed, Global};
 use std::cmp::Ordering;
@@ -66,6 +66,15 @@ impl<T> Listing<T> {
         ensures err { OnErr result (self.new ≡ self.old) }
     {
         self.members.push(member)
+    }
+
+    /// Drops the members from this place on. It takes no memory.
+    pub fn truncate(&mut self, count: usize)
+    where
+        T: Drop,
+        ensures { self.new ≡ take count self.old }
+    {
+        self.members.truncate(count);
     }
 }
 

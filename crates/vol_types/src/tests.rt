@@ -91,3 +91,16 @@ fn copies_of_what_is_asked(rt: HostRuntime) -> Result<(), Fail> {
     assert!(rt; layout.copy(alloc)? == layout);
     Ok(())
 }
+
+#[test]
+fn cuts(rt: HostRuntime) -> Result<(), Fail> {
+    let alloc = rt.alloc();
+    let mut bytes = Bytes::from_slice(alloc, b"abc")?;
+    bytes.truncate(4);
+    assert!(rt; bytes.as_slice() == b"abc".as_slice());
+    bytes.truncate(1);
+    assert!(rt; bytes.as_slice() == b"a".as_slice());
+    bytes.truncate(0);
+    assert!(rt; bytes.is_empty());
+    Ok(())
+}
