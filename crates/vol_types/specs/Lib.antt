@@ -1,7 +1,9 @@
 pub mod Btrees
 pub mod Faults
 pub mod Lengths
+pub mod Maps
 pub mod Positions
 pub mod Ranges
+pub mod Sets
 pub mod Values
 pub mod Widths
