@@ -1,0 +1,5 @@
+use Rattle.key_codec.proofs.KeyLaws.{key-exact}
+use Rattle.key_codec.proofs.laws.keys_are_exact.Goals as goal
+
+pub returns : goal.returns
+returns c = key-exact

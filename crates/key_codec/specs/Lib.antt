@@ -1,0 +1,5 @@
+pub mod Formats
+pub mod Exact
+pub mod Kinds
+pub mod Keys
+pub mod Reading
