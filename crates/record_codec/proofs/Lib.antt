@@ -1,0 +1,6 @@
+pub mod Carried
+pub mod EntryLaws
+pub mod FieldLaws
+pub mod SetLaws
+pub mod StandingLaws
+pub mod Whole
