@@ -1,0 +1,16 @@
+//! The trees that snapshot ids form: the chain of an id up to its root, ancestry, and the split of a leaf.
+//!
+//! A snapshot makes two ids under the one that its source had, which becomes interior. What an id sees is what stands at
+//! the ids of its chain, the nearest one first.
+#![tactic(auto)]
+
+mod fault;
+mod split;
+mod tree;
+
+pub use fault::SnapFault;
+pub use split::Split;
+pub use tree::SnapTree;
+
+#[cfg(test)]
+mod tests;
