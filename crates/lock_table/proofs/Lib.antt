@@ -1,0 +1,10 @@
+pub mod Order
+pub mod Held
+pub mod Compatible
+pub mod Upward
+pub mod Cycles
+pub mod InUse
+pub mod Noted
+pub mod Released
+pub mod Kept
+pub mod Answered
