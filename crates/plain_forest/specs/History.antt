@@ -6,7 +6,7 @@ use Rattle.plain_forest.specs.Steps.{reply_of, forest_after}
 use Rattle.plain_forest.specs.declared.operation.Op.{Op}
 use Rattle.plain_forest.specs.declared.operation.Op.TheVariants.{Mkfile, Ls, Sync}
 use Rattle.plain_forest.specs.declared.operation.Reply.{Reply}
-use Rattle.plain_forest.specs.declared.operation.Reply.TheVariants.{Okay, NoSpace, DeviceFault}
+use Rattle.plain_forest.specs.declared.operation.Reply.TheVariants.{Okay, NoSpace, DeviceFault, Halted}
 use Rattle.plain_forest.specs.declared.operation.Entry.{Entry}
 
 -- operations with their replies, the first one first
@@ -59,7 +59,9 @@ up_to_own client (entry ∷ history) = if list_any (λ own. own.client == client
 abbrev pub may_fail : Op → Reply → Bool
 may_fail (Mkfile path) (NoSpace short) = true
 may_fail (Mkfile path) (DeviceFault dev) = true
+may_fail (Mkfile path) (Halted dev tick) = true
 may_fail Sync (DeviceFault dev) = true
+may_fail Sync (Halted dev tick) = true
 may_fail op reply = false
 
 -- The reply is the forest's behind the entries before. A sync answers with a number of commits that stood before it,

@@ -66,6 +66,8 @@ pub enum Reply {
     NoSpace(Short),
     /// A call to this device failed.
     DeviceFault(u8),
+    /// The session has stopped writing: at this moment a write or a flush of this device had failed.
+    Halted { dev: u8, tick: u64 },
     /// Memory was wanting. The operation has no place in the history.
     NoMemory,
 }
@@ -79,6 +81,10 @@ impl Duplicate for Reply {
             Reply::Refused(cause) => Ok(Reply::Refused(*cause)),
             Reply::NoSpace(short) => Ok(Reply::NoSpace(short.copy(alloc)?)),
             Reply::DeviceFault(dev) => Ok(Reply::DeviceFault(*dev)),
+            Reply::Halted { dev, tick } => Ok(Reply::Halted {
+                dev: *dev,
+                tick: *tick,
+            }),
             Reply::NoMemory => Ok(Reply::NoMemory),
         }
     }

@@ -27,7 +27,7 @@ pub record SpellsLs (line : List ℕ) (path : Path) : Type 0 where
 abbrev pub Spells : List ℕ → Op → Type 0
 Spells line (Mkfile path) = SpellsMkfile line path
 Spells line (Ls path) = SpellsLs line path
-Spells line Sync = ⊥
+Spells line Sync = line ≡ codes "sync"
 
 -- the line spells the operation, or a barrier where there is none; no line spells a barrier
 abbrev pub Says : List ℕ → Option Op → Type 0

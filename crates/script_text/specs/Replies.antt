@@ -6,7 +6,7 @@ use Rattle.vol_types.specs.declared.FlaggedName.{FlaggedName}
 use Rattle.plain_forest.specs.declared.operation.Cause.{Cause}
 use Rattle.plain_forest.specs.declared.operation.Cause.TheVariants.{BadPath, NoSubvolume, NotFound, NotDir, ReadOnly, Exists, Crowded, IdsSpent}
 use Rattle.plain_forest.specs.declared.operation.Reply.{Reply}
-use Rattle.plain_forest.specs.declared.operation.Reply.TheVariants.{Okay, Synced, List as Listed, Refused, NoSpace, DeviceFault, NoMemory}
+use Rattle.plain_forest.specs.declared.operation.Reply.TheVariants.{Okay, Synced, List as Listed, Refused, NoSpace, DeviceFault, Halted, NoMemory}
 use Rattle.script_text.specs.Bytes.{is_plain}
 
 -- a byte as it is printed: itself where it is plain, else `%` and its two upper-case hex digits
@@ -40,6 +40,7 @@ reply_text (Listed names) = codes "list" ++ flat_map listed_name names
 reply_text (Refused cause) = codes "err " ++ cause_word cause
 reply_text (NoSpace short) = codes "err no-space need " ++ decimal short.need
 reply_text (DeviceFault dev) = codes "err device " ++ decimal dev
+reply_text (Halted dev tick) = codes "err halted " ++ decimal dev
 reply_text NoMemory = codes "err no-memory"
 
 -- the line of a reply: the client, the number of the script's line, the text and LF

@@ -15,6 +15,8 @@ pub(crate) enum Command<'a> {
     Mkfile(&'a [u8]),
     /// `ls` of the root of `main`.
     Ls,
+    /// `sync`.
+    Sync,
 }
 
 impl<'a> Command<'a> {
@@ -25,6 +27,9 @@ impl<'a> Command<'a> {
     {
         if line == b"ls main:/".as_slice() {
             return Ok(Command::Ls);
+        }
+        if line == b"sync".as_slice() {
+            return Ok(Command::Sync);
         }
         match line.strip_prefix(b"mkfile main:/".as_slice()) {
             Some(name) if is_name_word(name) => Ok(Command::Mkfile(name)),
@@ -48,6 +53,7 @@ impl<'a> Command<'a> {
             Command::Ls => Ok(Op::Ls {
                 path: Path { sub, names },
             }),
+            Command::Sync => Ok(Op::Sync),
         }
     }
 }

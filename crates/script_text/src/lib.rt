@@ -1,8 +1,8 @@
 //! What a script means and what its replies look like: reading the lines of a script, and writing the lines that
 //! answer them.
 //!
-//! A line of a script is `mkfile main:/NAME` or `ls main:/`, without any other blank. NAME is one or more bytes from 33
-//! to 126 other than `%` and `/`. LF ends a line, and the last line may lack it. Client 0 runs all lines.
+//! A line of a script is `mkfile main:/NAME`, `ls main:/` or `sync`, without any other blank. NAME is one or more bytes
+//! from 33 to 126 other than `%` and `/`. LF ends a line, and the last line may lack it. Client 0 runs all lines.
 //!
 //! The line of a reply is `@CLIENT LINE TEXT`, with the number of the line that it answers. In a listing a byte of a
 //! name that doesn't print, a blank or a `%` is written as `%` and two upper-case hex digits, and `/` stands behind a

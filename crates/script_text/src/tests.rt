@@ -30,8 +30,8 @@ fn scripts_are_read(rt: HostRuntime) -> Result<(), Fail> {
     let alloc = rt.alloc();
     assert_eq!(rt; read_script(alloc, b"".as_slice()), Ok(Script::new(alloc)));
     for text in [
-        b"mkfile main:/!a~\nls main:/".as_slice(),
-        b"mkfile main:/!a~\nls main:/\n".as_slice(),
+        b"mkfile main:/!a~\nls main:/\nsync".as_slice(),
+        b"mkfile main:/!a~\nls main:/\nsync\n".as_slice(),
     ] {
         let mut script = Script::new(alloc);
         let made = Op::Mkfile {
@@ -42,6 +42,7 @@ fn scripts_are_read(rt: HostRuntime) -> Result<(), Fail> {
         };
         script.push(line(1, made))?;
         script.push(line(2, listed))?;
+        script.push(line(3, Op::Sync))?;
         assert_eq!(rt; read_script(alloc, text), Ok(script));
     }
     Ok(())
@@ -54,7 +55,9 @@ fn bad_lines_are_named(rt: HostRuntime) {
         (b"\n".as_slice(), 1),
         (b"ls main:/\n\nls main:/\n".as_slice(), 2),
         (b"# a comment\n".as_slice(), 1),
-        (b"sync\n".as_slice(), 1),
+        (b"sync \n".as_slice(), 1),
+        (b"Sync\n".as_slice(), 1),
+        (b"sync main:/\n".as_slice(), 1),
         (b"ls  main:/\n".as_slice(), 1),
         (b"ls main:/ \n".as_slice(), 1),
         (b"ls main:/\r\n".as_slice(), 1),
@@ -64,7 +67,7 @@ fn bad_lines_are_named(rt: HostRuntime) {
         (b"mkfile main:/a/b\n".as_slice(), 1),
         (b"mkfile main:/a\x7f\n".as_slice(), 1),
         (b"mkfile main:/\xc3\xa9\n".as_slice(), 1),
-        (b"mkfile main:/a\nmkfile main:/b c\nsync".as_slice(), 2),
+        (b"mkfile main:/a\nmkfile main:/b c\nsyn".as_slice(), 2),
     ] {
         let fault = ScriptFault::Bad {
             line: number,
@@ -104,6 +107,10 @@ fn replies_are_printed(rt: HostRuntime) -> Result<(), Fail> {
             b">@0 1 err no-space need 16\n".as_slice(),
         ),
         (Reply::DeviceFault(7), b">@0 1 err device 7\n".as_slice()),
+        (
+            Reply::Halted { dev: 3, tick: 90 },
+            b">@0 1 err halted 3\n".as_slice(),
+        ),
         (Reply::NoMemory, b">@0 1 err no-memory\n".as_slice()),
     ] {
         assert_eq!(rt; printed(alloc, &reply)?.as_slice(), text);

@@ -55,6 +55,7 @@ fn push_reply(text: &mut String, reply: &Reply) -> Result<(), AllocError>
         }
         Reply::NoSpace(short) => write!(text, "err no-space need {}", short.need),
         Reply::DeviceFault(dev) => write!(text, "err device {dev}"),
+        Reply::Halted { dev, .. } => write!(text, "err halted {dev}"),
         Reply::NoMemory => text.push_str("err no-memory"),
     }
 }
