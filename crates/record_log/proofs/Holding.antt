@@ -14,9 +14,8 @@ use Rattle.plain_forest.specs.declared.operation.Cause.{Cause}
 use Rattle.plain_forest.specs.declared.operation.Op.TheVariants.{Mkfile}
 use Rattle.plain_forest.specs.declared.operation.Reply.TheVariants.{Okay}
 use Rattle.record_log.specs.Records.{record_in}
-use Rattle.record_log.specs.Found.{mounted_as, mounted_from, first_of, forest_with, forest_with_block, in_main}
+use Rattle.record_log.specs.Found.{commit_of, mounted_as, mounted_from, first_of, forest_with, forest_with_block, in_main}
 use Rattle.record_log.specs.Durable.{HoldsRecords, mounted_next, record_at, with_files}
-use Rattle.record_log.specs.Log.{commit_of}
 use Rattle.record_log.specs.declared.files.MadeFile.{MadeFile}
 use Rattle.record_log.proofs.Scanning.{first_at}
 use Rattle.record_log.proofs.Taking.{if_same}
@@ -37,7 +36,7 @@ if_made true (Err cause) before next is = absurd (none_some next is)
 if_made false made before next is = absurd (none_some next is)
 
 -- the commit of a file makes the same forest
-with_commit : (file : MadeFile) (forest next : Forest) → forest_with file forest ≡ Some next → forest_after 0 (Mkfile (in_main file.name)) forest ≡ next
+pub with_commit : (file : MadeFile) (forest next : Forest) → forest_with file forest ≡ Some next → forest_after 0 (Mkfile (in_main file.name)) forest ≡ next
 with_commit file forest next is = if_made (next_number 0 forest == file.number) (made_file 0 (in_main file.name) forest) forest next is
 
 made_ok : (made : Result Forest Cause) (before after : Forest) → Okay ≡ reply_or (λ _. Okay) made → after ≡ or_before made before → result_ok made ≡ Some after
@@ -75,7 +74,8 @@ mounted_files place (suc count) (file ∷ files) (block ∷ blocks) forest after
         ∙ ap (λ n. mounted_as n (after_all next (take count (map commit_of files)))) end
         ∙ ap (λ f. mounted_as (place + suc count) (after_all f (take count (map commit_of files)))) (sym (with_commit file forest next is))
 
-slice_get-drop : (blocks : List (List ℕ)) (place i : ℕ) → slice_get (drop place blocks) i ≡ slice_get blocks (place + i)
+-- what stands behind what was dropped
+pub slice_get-drop : (blocks : List (List ℕ)) (place i : ℕ) → slice_get (drop place blocks) i ≡ slice_get blocks (place + i)
 slice_get-drop blocks zero i = ap (slice_get blocks) (let e : i ≡ 0 + i = omega arith in e)
 slice_get-drop [] (suc place) i = refl
 slice_get-drop (block ∷ blocks) (suc place) i = slice_get-drop blocks place i ∙ ap (slice_get (block ∷ blocks)) (let e : suc (place + i) ≡ suc place + i = omega arith in e)

@@ -3,5 +3,7 @@ pub mod Names
 pub mod Payloads
 pub mod Scanning
 pub mod Sound
+pub mod Staying
+pub mod Surviving
 pub mod Taking
-pub mod Writing
+pub mod WrittenRecords

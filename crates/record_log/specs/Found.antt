@@ -4,6 +4,9 @@ use Rattle.std.specs.Option.{option_map_or}
 use Rattle.std.specs.Result.{result_ok}
 use Rattle.dev_model.specs.Disk.{Image}
 use Rattle.plain_forest.specs.declared.path.Path.{Path}
+use Rattle.plain_forest.specs.declared.operation.Op.TheVariants.{Mkfile}
+use Rattle.plain_forest.specs.declared.operation.Reply.TheVariants.{Okay}
+use Rattle.plain_forest.specs.declared.operation.Entry.{Entry}
 use Rattle.plain_forest.specs.Forest.{Forest, fresh}
 use Rattle.plain_forest.specs.Steps.{made_file, next_number}
 use Rattle.record_log.specs.Records.{record_in}
@@ -12,6 +15,10 @@ use Rattle.record_log.specs.declared.files.MadeFile.{MadeFile}
 -- a name in the root of `main`
 abbrev pub in_main : List ℕ → Path
 in_main name = record { sub = codes "main"; names = name ∷ [] }
+
+-- the commit that made a file
+abbrev pub commit_of : MadeFile → Entry
+commit_of file = record { client = 0; op = Mkfile (in_main file.name); reply = Okay }
 
 -- the forest with the file, where client 0 may make it and it gets that number
 abbrev pub forest_with : MadeFile → Forest → Option Forest

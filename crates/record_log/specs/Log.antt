@@ -1,47 +1,108 @@
 -- A session over the log, what its type keeps, and what its calls answer.
-use Rattle.std.specs.Prelude.{◌≡◌, ◌⊎◌, ℕ, ◌+◌, ◌^◌, ◌<◌, ◌≤◌, ◌==◌, Bool, if◌then◌else◌, List, [], ◌∷◌, ◌++◌, length, map, All, slice_index, Some}
-use Rattle.std.specs.Option.{option_map_or}
+use Rattle.std.specs.Prelude.{◌≡◌, ◌⊎◌, ℕ, ◌+◌, ◌^◌, ◌<◌, ◌≤◌, Bool, true, false, List, [], ◌∷◌, ◌++◌, length, map, count_by, All, slice_index, Option, Some, None}
 use Rattle.vol_types.specs.Faults.{RoseBy}
-use Rattle.dev_model.specs.Disk.{Image}
+use Rattle.dev_model.specs.Disk.{Disk, Image, as_read}
 use Rattle.dev_model.specs.Devices.{History as Moments, now}
 use Rattle.dev_model.specs.Stops.{LeavesOnly, MayLeaveBut}
-use Rattle.vol_types.specs.declared.space.Short.{Short}
 use Rattle.plain_forest.specs.Forest.{Forest}
-use Rattle.plain_forest.specs.Steps.{reply_of, refusal_of}
-use Rattle.plain_forest.specs.History.{History, IsLegal, after_all, after_commits, commits_of, commit_count}
+use Rattle.plain_forest.specs.Steps.{reply_of}
+use Rattle.plain_forest.specs.History.{History, EachEntry, IsLegal, after_all, after_commits, commits_of, commit_count}
 use Rattle.plain_forest.specs.declared.operation.Op.{Op}
 use Rattle.plain_forest.specs.declared.operation.Op.TheVariants.{Mkfile, Ls, Sync}
 use Rattle.plain_forest.specs.declared.operation.Reply.{Reply}
-use Rattle.plain_forest.specs.declared.operation.Reply.TheVariants.{Okay, Synced, Refused, NoSpace, DeviceFault}
-use Rattle.plain_forest.specs.declared.operation.Entry.{Entry}
-use Rattle.record_log.specs.Found.{in_main, mounted_as}
-use Rattle.record_log.specs.Durable.{EachLeft, HoldsRecords, IsFrom, mounted_next, with_files}
+use Rattle.plain_forest.specs.declared.operation.Reply.TheVariants.{Synced, DeviceFault, Halted}
+use Rattle.record_log.specs.Found.{IsMounted, commit_of, in_main, mounted_as}
+use Rattle.record_log.specs.Durable.{EachLeft, HasWritten, IsFrom, mounted_next, with_files}
+use Rattle.record_log.specs.Exact.{IsExact, file_reply, has_failed, is_device_fault, is_full_behind}
+use Rattle.record_log.specs.Acknowledged.{AreAcks, acknowledged}
+use Rattle.record_log.specs.declared.acks.Ack.{Ack}
 use Rattle.record_log.specs.declared.files.MadeFile.{MadeFile}
+use Rattle.record_log.specs.declared.halt.Halt.{Halt}
+
+-- what devices show: their disks at each moment so far, their sizes, and how often they failed, at any call and at a write
+-- or a flush
+pub record Shown : Type 0 where
+  pub moments : Moments
+  pub sizes : List ℕ
+  pub faults : ℕ
+  pub write_faults : ℕ
 
 -- a session: its devices, the records that stood on the first of them when it began, the files that it made, how many
--- of these it has written, and its history
+-- of these it has written, its halt, if a device failed, its history, and its acknowledgements
 pub record Log (D : Type 0) : Type 0 where
   pub devices : D
   pub base : ℕ
   pub files : List MadeFile
   pub durable : ℕ
+  pub halted : Option Halt
   pub trace : History
+  pub acks : List Ack
 
--- the commit that made a file
-abbrev pub commit_of : MadeFile → Entry
-commit_of file = record { client = 0; op = Mkfile (in_main file.name); reply = Okay }
+-- how many entries say that a device failed
+abbrev pub device_faults : History → ℕ
+device_faults history = count_by (λ entry. is_device_fault entry.reply) history
 
--- What holds of every session that opened with this forest and has this one now.
-pub record IsSound {D : Type 0} (opening : Forest) (tells : Type 0) (history : D → Moments) (sizes : D → List ℕ) (log : Log D) (forest : Forest) : Type 0 where
-  pub legal : IsLegal opening log.trace
-  pub kept : forest ≡ after_all opening log.trace
-  pub commits : commits_of opening log.trace ≡ map commit_of log.files
-  pub names : All (λ file. length file.name < 256) log.files
-  pub room : log.base + length log.files ≤ slice_index (sizes log.devices) 0
-  pub fits : log.base + length log.files < 2 ^ 32
-  pub written : log.durable ≤ length log.files
-  pub made : with_files log.files opening ≡ Some forest
-  pub held : tells → EachLeft (HoldsRecords log.base log.durable log.files) (history log.devices)
+-- The first device failed at a moment between these.
+pub record IsHaltWithin (first last : ℕ) (halt : Halt) : Type 0 where
+  pub device : halt.dev ≡ 0
+  pub no_sooner : first ≤ halt.tick
+  pub no_later : halt.tick ≤ last
+
+-- The session has halted so, exactly where an entry of its history says that a device failed.
+abbrev pub HasHalted : ℕ → ℕ → History → Option Halt → Type 0
+HasHalted first last history None = has_failed history ≡ false
+HasHalted first last history (Some halt) = (has_failed history ≡ true) × IsHaltWithin first last halt
+
+-- the halt of a session; any where it has none
+abbrev pub halt_or_none : Option Halt → Halt
+halt_or_none None = record { dev = 0; tick = 0 }
+halt_or_none (Some halt) = halt
+
+-- A session's history is legal and exact, it has halted exactly where an entry says so, and no more of its entries say
+-- that a device failed than calls, and than writes and flushes, failed.
+pub record KeepsHistory (opening : Forest) (base : ℕ) (start shown : Shown) (halted : Option Halt) (trace : History) : Type 0 where
+  pub legal : IsLegal opening trace
+  pub exact : EachEntry (IsExact opening base (slice_index shown.sizes 0) (halt_or_none halted)) trace
+  pub halts : HasHalted start.moments.moment shown.moments.moment trace halted
+  pub faults : RoseBy (device_faults trace) start.faults shown.faults
+  pub write_faults : RoseBy (device_faults trace) start.write_faults shown.write_faults
+
+-- Its files are those of its commits, its forest is the one after them, and the device has room for their records.
+pub record KeepsFiles (opening : Forest) (base blocks : ℕ) (files : List MadeFile) (trace : History) (forest : Forest) : Type 0 where
+  pub kept : forest ≡ after_all opening trace
+  pub commits : commits_of opening trace ≡ map commit_of files
+  pub names : All (λ file. length file.name < 256) files
+  pub made : with_files files opening ≡ Some forest
+  pub room : base + length files ≤ blocks
+  pub fits : base + length files < 2 ^ 32
+
+-- It opened the forest that the image then meant, and whatever a stop leaves now has the records that it has written.
+pub record KeepsRecords (opening : Forest) (tells : Type 0) (start now_shown : Moments) (base durable : ℕ) (files : List MadeFile) : Type 0 where
+  pub written : durable ≤ length files
+  pub mounted : tells → IsMounted (as_read (now start)) base opening
+  pub held : tells → EachLeft (HasWritten (now start) base durable files) now_shown
+
+-- The image has all records that were acknowledged by this moment, and maybe more.
+pub record HasAcknowledged (start : List Disk) (base durable : ℕ) (files : List MadeFile) (acks : List Ack) (moment : ℕ) (image : Image) : Type 0 where
+  pub count : ℕ
+  pub least : acknowledged acks moment ≤ count
+  pub most : count ≤ durable
+  pub written : HasWritten start base count files image
+
+-- It acknowledged what was durable, and whatever a stop left at a moment since it began has the records that were
+-- acknowledged by then.
+pub record KeepsAcks (tells : Type 0) (start now_shown : Moments) (base count : ℕ) (files : List MadeFile) (trace : History) (acks : List Ack) : Type 0 where
+  pub each : AreAcks start.moment now_shown.moment trace acks
+  pub durable : All (λ ack. ack.commits ≤ count) acks
+  pub stops : tells → LeavesOnly (HasAcknowledged (now start) base count files acks) start now_shown
+
+-- What holds of every session that opened with this forest, when its devices showed that, and has this forest now, when
+-- they show this.
+pub record IsSound {D : Type 0} (opening : Forest) (start : Shown) (tells : Type 0) (shown : Shown) (log : Log D) (forest : Forest) : Type 0 where
+  pub history : KeepsHistory opening log.base start shown log.halted log.trace
+  pub files : KeepsFiles opening log.base (slice_index shown.sizes 0) log.files log.trace forest
+  pub records : KeepsRecords opening tells start.moments shown.moments log.base log.durable log.files
+  pub acks : KeepsAcks tells start.moments shown.moments log.base log.durable log.files log.trace log.acks
 
 -- The image holds a session's durable commits: behind the records that stood when it began, as many blocks as it has
 -- written make of the opening forest the one after these commits.
@@ -68,29 +129,40 @@ IsListing Sync = ⊥
 
 -- the device has as many records, on it or to come, as it has blocks
 abbrev pub is_full : {D : Type 0} → Forest → (D → List ℕ) → Log D → Bool
-is_full opening sizes log = log.base + commit_count opening log.trace == slice_index (sizes log.devices) 0
+is_full opening sizes log = is_full_behind log.base (slice_index (sizes log.devices) 0) opening log.trace
 
--- no extent is short of a place, and the log has no buckets to count
-abbrev pub log_short : Short
-log_short = record { need = 0; free = []; held = [] }
+-- A sync has made all commits durable and acknowledged them at this moment.
+pub record HasSynced {D : Type 0} (opening : Forest) (moment : ℕ) (old new : Log D) (reply : Reply) : Type 0 where
+  pub is : reply ≡ Synced (commit_count opening old.trace)
+  pub durable : new.durable ≡ commit_count opening old.trace
+  pub acks : new.acks ≡ old.acks ++ record { moment = moment; commits = commit_count opening old.trace } ∷ []
+  pub halted : new.halted ≡ None
 
--- on a full device an operation that the forest wouldn't refuse finds no space
-abbrev pub full_reply : Op → Forest → Reply
-full_reply op forest = option_map_or Refused (refusal_of 0 op forest) (NoSpace log_short)
+-- A sync has failed, since a device did at a write or a flush, and the session has halted at this moment.
+pub record HasFailed {D : Type 0} (faults : D → ℕ) (moment : ℕ) (old new : Log D) (reply : Reply) : Type 0 where
+  pub is : reply ≡ DeviceFault 0
+  pub cause : RoseBy 1 (faults old.devices) (faults new.devices)
+  pub acks : new.acks ≡ old.acks
+  pub halted : new.halted ≡ Some (record { dev = 0; tick = moment })
 
--- What the log answers to an operation: the forest's reply, but that a full device has no space for a file. A sync makes
--- all commits durable, or fails where a call to the devices failed.
-abbrev pub IsLogReply : {D : Type 0} → (D → List ℕ) → (D → ℕ) → Forest → Op → Log D → Log D → Reply → Type 0
-IsLogReply sizes faults opening (Mkfile path) old new reply =
-    let forest = after_all opening old.trace in
-    reply ≡ (if is_full opening sizes old then full_reply (Mkfile path) forest else reply_of 0 (Mkfile path) 0 forest)
-IsLogReply sizes faults opening (Ls path) old new reply = reply ≡ reply_of 0 (Ls path) 0 (after_all opening old.trace)
-IsLogReply sizes faults opening Sync old new reply =
-    let count = commit_count opening old.trace in
-    ((reply ≡ Synced count) × (new.durable ≡ count)) ⊎ ((reply ≡ DeviceFault 0) × RoseBy 1 (faults old.devices) (faults new.devices))
+-- A session that has halted answers so, and does nothing.
+pub record StaysHalted {D : Type 0} (halt : Halt) (old new : Log D) (reply : Reply) : Type 0 where
+  pub is : reply ≡ Halted halt.dev halt.tick
+  pub nothing : new ≡ record old { trace = new.trace }
+
+-- what a sync does, as the session has halted before or not
+abbrev pub Syncs : {D : Type 0} → (D → Moments) → (D → ℕ) → Forest → Option Halt → Log D → Log D → Reply → Type 0
+Syncs history faults opening (Some halt) old new reply = StaysHalted halt old new reply
+Syncs history faults opening None old new reply = HasSynced opening (history new.devices).moment old new reply ⊎ HasFailed faults (history new.devices).moment old new reply
+
+-- What the log answers to an operation. Only a sync halts it or acknowledges; `faults` counts failed writes and flushes.
+abbrev pub IsLogReply : {D : Type 0} → (D → Moments) → (D → List ℕ) → (D → ℕ) → Forest → Op → Log D → Log D → Reply → Type 0
+IsLogReply history sizes faults opening (Mkfile path) old new reply = reply ≡ file_reply old.halted (is_full opening sizes old) path (after_all opening old.trace)
+IsLogReply history sizes faults opening (Ls path) old new reply = reply ≡ reply_of 0 (Ls path) 0 (after_all opening old.trace)
+IsLogReply history sizes faults opening Sync old new reply = Syncs history faults opening old.halted old new reply
 
 -- The operation was answered: its entry stands behind the others.
-pub record Answers {D : Type 0} (sizes : D → List ℕ) (faults : D → ℕ) (opening : Forest) (op : Op) (old new : Log D) : Type 0 where
+pub record Answers {D : Type 0} (history : D → Moments) (sizes : D → List ℕ) (faults : D → ℕ) (opening : Forest) (op : Op) (old new : Log D) : Type 0 where
   pub reply : Reply
-  pub is : IsLogReply sizes faults opening op old new reply
+  pub is : IsLogReply history sizes faults opening op old new reply
   pub trace : new.trace ≡ old.trace ++ record { client = 0; op = op; reply = reply } ∷ []

@@ -96,8 +96,11 @@ pub fn write_record<D: Devices>(
     requires device { 0 < length (D.sizes devices.old) }
     requires name { length file.now.name < 256 }
     ensures cause { IsErrOf result LogFault.DeviceFault → RoseBy 1 (D.faults devices.old) (D.faults devices.new) }
+    ensures write_cause { IsErrOf result LogFault.DeviceFault → RoseBy 1 (D.write_faults devices.old) (D.write_faults devices.new) }
     ensures faults { D.faults devices.old ≤ D.faults devices.new }
+    ensures write_faults { D.write_faults devices.old ≤ D.write_faults devices.new }
     ensures sizes { D.sizes devices.new ≡ D.sizes devices.old }
+    ensures moment { (D.history devices.old).moment ≤ (D.history devices.new).moment }
     ensures held { D.tells → OnOk result (EachLeft (λ image. record_at place image ≡ Some file.now) (D.history devices.new)) }
     ensures stops { D.tells → LeavesOnly (λ _ image. MayLeaveBut (IsAt 0 place) (now (D.history devices.old)) image) (D.history devices.old) (D.history devices.new) }
 {

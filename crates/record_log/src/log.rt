@@ -1,21 +1,28 @@
-ghost use Rattle.std.specs.Prelude.{◌≡◌, ◌≢◌, ◌==◌, ◌≤◌, ◌<◌, ◌+◌, ◌-◌, ◌^◌, ◌++◌, ◌∷◌, [], length, slice_get, slice_index, option_copied, OnOk, OnErr, IfOk, IsErrOf, vec_len, vec_capacity};
+ghost use Rattle.std.specs.Prelude.{◌≡◌, ◌≢◌, ◌==◌, ◌≤◌, ◌<◌, ◌+◌, ◌-◌, ◌^◌, ◌++◌, ◌∷◌, [], ℕ, IsTrue, true, false, None, Some, length, slice_get, slice_index, option_copied, OnOk, OnErr, IfOk, vec_len, vec_capacity};
 ghost use Rattle.vol_types.specs.Faults.{RoseBy};
-ghost use Rattle.plain_forest.specs.History.{IsLegal, after_all, commit_count};
-ghost use Rattle.plain_forest.specs.Steps.{reply_of};
-ghost use Rattle.record_log.specs.Found.{in_main};
-ghost use Rattle.record_log.specs.Durable.{EachLeft};
-ghost use Rattle.record_log.specs.Log.{Answers, HoldsDurable, IsFlat, IsListing, IsLogReply, KeepsDurable, full_reply, is_full};
+ghost use Rattle.dev_model.specs.Disk.{as_read};
+ghost use Rattle.dev_model.specs.Devices.{now};
+ghost use Rattle.plain_forest.specs.History.{EachEntry, IsLegal, after_all, commit_count, may_fail};
+ghost use Rattle.std.specs.Option.{option_map_or};
+ghost use Rattle.plain_forest.specs.Steps.{refusal_of, reply_of};
+ghost use Rattle.plain_forest.specs.declared.path.Path.{Path};
+ghost use Rattle.record_log.specs.Found.{IsMounted, in_main, mounted_as};
+ghost use Rattle.record_log.specs.Durable.{EachLeft, StaysSo};
+ghost use Rattle.record_log.specs.Exact.{IsExact, file_reply, is_device_fault, log_short, refusal_or};
+ghost use Rattle.record_log.specs.Acknowledged.{AreAcks, synced_count};
+ghost use Rattle.record_log.specs.Survives.{Survives};
+ghost use Rattle.record_log.specs.Log.{Answers, HasHalted, HoldsDurable, IsFlat, IsListing, KeepsDurable, StaysHalted, Syncs, device_faults, halt_or_none, is_full};
 
-use crate::blocks::write_record;
-use crate::{Loaded, LogFault, MadeFile, Opening};
+use crate::writing::write_files;
+use crate::{Ack, Acks, Halt, Loaded, LogFault, MadeFile, Opening};
 use dev_model::Devices;
-use plain_forest::{Entry, Forest, Op, Reply};
+use plain_forest::{Entry, Forest, Op, Reply, Trace};
 use std::alloc::{AllocError, Global};
 use std::marker::{Model, PhantomData};
-use vol_types::{Bytes, Counts, Duplicate, Listing, Short};
+use vol_types::{Bytes, Counts, Duplicate, Short};
 
-/// A session over the log. It keeps its history, and in its type that the history is legal from the forest that it
-/// opened with.
+/// A session over the log. It keeps its history and its acknowledgements, and in its type what they promise: that the
+/// history is legal from the forest that it opened with, and what a stop at each moment leaves of it.
 #[derive(Drop)]
 pub struct RecordLog<D: Devices, O: Opening> {
     alloc: Global,
@@ -24,8 +31,20 @@ pub struct RecordLog<D: Devices, O: Opening> {
     base: u32,
     files: Vec<MadeFile>,
     durable: usize,
+    halted: Option<Halt>,
     trace: Vec<Entry>,
+    acks: Vec<Ack>,
     opening: PhantomData<O>,
+}
+
+/// What a session leaves: its devices, its history, and its acknowledgements.
+#[derive(Drop)]
+pub struct Finished<D> {
+    pub devices: D,
+    pub trace: Trace,
+    pub acks: Acks,
+    /// Why it stopped writing, if it did.
+    pub halted: Option<Halt>,
 }
 
 impl<D: Devices, O: Opening> Model for RecordLog<D, O> {
@@ -33,9 +52,9 @@ impl<D: Devices, O: Opening> Model for RecordLog<D, O> {
 
     ghost Value = { Log D };
 
-    ghost view = { λ l. record { devices = l.devices; base = l.base; files = l.files.items; durable = l.durable; trace = l.trace.items } };
+    ghost view = { λ l. record { devices = l.devices; base = l.base; files = l.files.items; durable = l.durable; halted = l.halted; trace = l.trace.items; acks = l.acks.items } };
 
-    ghost invariant = { λ l. IsSound O.forest D.tells D.history D.sizes (record { devices = l.devices; base = l.base; files = l.files.items; durable = l.durable; trace = l.trace.items }) l.forest };
+    ghost invariant = { λ l. IsSound O.forest O.start D.tells (record { moments = D.history l.devices; sizes = D.sizes l.devices; faults = D.faults l.devices; write_faults = D.write_faults l.devices }) (record { devices = l.devices; base = l.base; files = l.files.items; durable = l.durable; halted = l.halted; trace = l.trace.items; acks = l.acks.items }) l.forest };
 }
 
 impl<D: Devices, O: Opening> RecordLog<D, O> {
@@ -43,7 +62,12 @@ impl<D: Devices, O: Opening> RecordLog<D, O> {
     pub fn start(alloc: Global, devices: D, loaded: Loaded) -> Self
         requires opening { loaded.forest ≡ O.forest }
         requires room { loaded.records ≤ slice_index (D.sizes devices) 0 }
-        ensures { result ≡ record { devices = devices; base = loaded.records; files = []; durable = 0; trace = [] } }
+        requires mounted { D.tells → IsMounted (as_read (now O.start.moments)) loaded.records O.forest }
+        requires stays { D.tells → StaysSo O.start.moments (D.history devices) }
+        requires later { O.start.moments.moment ≤ (D.history devices).moment }
+        requires faults { O.start.faults ≤ D.faults devices }
+        requires write_faults { O.start.write_faults ≤ D.write_faults devices }
+        ensures { result ≡ record { devices = devices; base = loaded.records; files = []; durable = 0; halted = None; trace = []; acks = [] } }
     {
         RecordLog {
             alloc,
@@ -52,7 +76,9 @@ impl<D: Devices, O: Opening> RecordLog<D, O> {
             base: loaded.records,
             files: Vec::new(alloc),
             durable: 0,
+            halted: None,
             trace: Vec::new(alloc),
+            acks: Vec::new(alloc),
             opening: PhantomData,
         }
     }
@@ -71,29 +97,46 @@ impl<D: Devices, O: Opening> RecordLog<D, O> {
         self.files.len() as u64
     }
 
-    /// Ends the session: its devices, and its history.
-    pub fn finish(self) -> (D, Listing<Entry>)
-        ensures devices { result.0 ≡ self.devices }
-        ensures trace { result.1 ≡ self.trace }
-        ensures legal { IsLegal O.forest result.1 }
+    /// Ends the session: its devices, its history, and its acknowledgements.
+    ///
+    /// Its replies are exact (`exact`), it has halted exactly where one of them says that a device failed (`halts`), and no
+    /// more of them say so than calls, and than writes and flushes, failed (`faults`, `write_faults`).
+    pub fn finish(self) -> Finished<D>
+        ensures devices { result.devices ≡ self.devices }
+        ensures trace { result.trace ≡ self.trace }
+        ensures acks { result.acks ≡ self.acks }
+        ensures halted { result.halted ≡ self.halted }
+        ensures legal { IsLegal O.forest result.trace }
+        ensures exact { EachEntry (IsExact O.forest self.base (slice_index (D.sizes result.devices) 0) (halt_or_none result.halted)) result.trace }
+        ensures halts { HasHalted O.start.moments.moment (D.history result.devices).moment result.trace result.halted }
+        ensures faults { RoseBy (device_faults result.trace) O.start.faults (D.faults result.devices) }
+        ensures write_faults { RoseBy (device_faults result.trace) O.start.write_faults (D.write_faults result.devices) }
+        ensures acknowledged { AreAcks O.start.moments.moment (D.history result.devices).moment result.trace result.acks }
+        ensures survives { D.tells → Survives (mounted_as self.base O.forest) O.start.moments (D.history result.devices) result.trace result.acks }
+        ensures later { O.start.moments.moment ≤ (D.history result.devices).moment }
+        ensures past { D.tells → (m : ℕ) → m ≤ O.start.moments.moment → (D.history result.devices).disks m ≡ O.start.moments.disks m }
     {
-        (self.devices, Listing::from(self.trace))
+        Finished {
+            devices: self.devices,
+            trace: Trace::from(self.trace),
+            acks: Acks::from(self.acks),
+            halted: self.halted,
+        }
     }
 
     /// Answers an operation of client 0: its entry joins the history. An `Err` says that memory was wanting, and leaves
-    /// the history as it was.
+    /// the history and the acknowledgements as they were.
     ///
     /// Making a file and listing touch no device. A sync writes each record that isn't written yet and flushes behind
-    /// it.
+    /// it; where a call to the device fails, the session has halted.
     pub fn call(&mut self, op: &Op) -> Result<(), AllocError>
         requires { IsFlat op.now }
-        ensures answered { OnOk result (Answers D.sizes D.faults O.forest op.now self.old self.new) }
-        ensures err { OnErr result (self.new.trace ≡ self.old.trace) }
+        ensures answered { OnOk result (Answers D.history D.sizes D.write_faults O.forest op.now self.old self.new) }
+        ensures err { OnErr result (self.new ≡ record self.old { devices = self.new.devices; durable = self.new.durable }) }
         ensures base { self.new.base ≡ self.old.base }
         ensures rises { self.old.durable ≤ self.new.durable }
-        ensures untouched { op.now ≢ Op.Sync → self.new.devices ≡ self.old.devices }
+        ensures untouched { op.now ≢ Op.Sync → self.new ≡ record self.old { files = self.new.files; trace = self.new.trace } }
         ensures sizes { D.sizes self.new.devices ≡ D.sizes self.old.devices }
-        ensures faults { D.faults self.old.devices ≤ D.faults self.new.devices }
 
         ensures durable { D.tells → EachLeft (HoldsDurable O.forest self.new) (D.history self.new.devices) }
         ensures kept { D.tells → KeepsDurable D.history self.old self.new }
@@ -112,13 +155,12 @@ impl<D: Devices, O: Opening> RecordLog<D, O> {
 
     fn answer(&mut self, op: &Op) -> Result<(), AllocError>
         requires { IsFlat op.now }
-        ensures answered { OnOk result (Answers D.sizes D.faults O.forest op.now self.old self.new) }
-        ensures err { OnErr result (self.new.trace ≡ self.old.trace) }
+        ensures answered { OnOk result (Answers D.history D.sizes D.write_faults O.forest op.now self.old self.new) }
+        ensures err { OnErr result (self.new ≡ record self.old { devices = self.new.devices; durable = self.new.durable }) }
         ensures base { self.new.base ≡ self.old.base }
         ensures rises { self.old.durable ≤ self.new.durable }
-        ensures untouched { op.now ≢ Op.Sync → self.new.devices ≡ self.old.devices }
+        ensures untouched { op.now ≢ Op.Sync → self.new ≡ record self.old { files = self.new.files; trace = self.new.trace } }
         ensures sizes { D.sizes self.new.devices ≡ D.sizes self.old.devices }
-        ensures faults { D.faults self.old.devices ≤ D.faults self.new.devices }
         ensures kept { D.tells → KeepsDurable D.history self.old self.new }
     {
         match op {
@@ -144,24 +186,32 @@ impl<D: Devices, O: Opening> RecordLog<D, O> {
 
     fn make_file(&mut self, op: &Op, name: &Bytes) -> Result<(), AllocError>
         requires { op.now ≡ Op.Mkfile (in_main name.now) }
-        ensures answered { OnOk result (Answers D.sizes D.faults O.forest op.now self.old self.new) }
-        ensures err { OnErr result (self.new.trace ≡ self.old.trace) }
+        ensures answered { OnOk result (Answers D.history D.sizes D.write_faults O.forest op.now self.old self.new) }
+        ensures err { OnErr result (self.new ≡ self.old) }
         ensures others { self.new ≡ record self.old { files = self.new.files; trace = self.new.trace } }
     {
+        if let Some(halt) = self.halted {
+            return self.refuse_file(op, name, halted_reply(halt));
+        }
         if self.is_full() {
-            return self.refuse_file(op, name);
+            let reply = full_reply(self.alloc);
+            return self.refuse_file(op, name, reply);
         }
         self.add_file(op, name)
     }
 
-    // The device is full.
-    fn refuse_file(&mut self, op: &Op, name: &Bytes) -> Result<(), AllocError>
-        requires { op.now ≡ Op.Mkfile (in_main name.now) }
-        ensures answered { OnOk result (self.new ≡ record self.old { trace = self.old.trace ++ record { client = 0; op = op.now; reply = full_reply op.now (after_all O.forest self.old.trace) } ∷ [] }) }
+    // Answers with the forest's refusal, or with this reply where it wouldn't refuse.
+    fn refuse_file(&mut self, op: &Op, name: &Bytes, otherwise: Reply) -> Result<(), AllocError>
+        requires op { op.now ≡ Op.Mkfile (in_main name.now) }
+        requires failure { may_fail op.now otherwise ≡ true }
+        requires counted { synced_count otherwise ≡ None }
+        requires working { is_device_fault otherwise ≡ false }
+        requires exact { (forest : Forest) → file_reply self.old.halted (is_full O.forest D.sizes self.old) (in_main name.now) forest ≡ refusal_or otherwise (in_main name.now) forest }
+        ensures answered { OnOk result (self.new ≡ record self.old { trace = self.old.trace ++ record { client = 0; op = op.now; reply = refusal_or otherwise (in_main name.now) (after_all O.forest self.old.trace) } ∷ [] }) }
         ensures err { OnErr result (self.new ≡ self.old) }
     {
         let kept = op.copy(self.alloc)?;
-        let reply = reply_when_full(self.alloc, &self.forest, op);
+        let reply = refusal_or(&self.forest, op, otherwise);
         self.trace.push(Entry {
             client: 0,
             op: kept,
@@ -170,9 +220,11 @@ impl<D: Devices, O: Opening> RecordLog<D, O> {
         Ok(())
     }
 
-    // The device has room for one more record.
+    // The session hasn't halted, and the device has room for one more record.
     fn add_file(&mut self, op: &Op, name: &Bytes) -> Result<(), AllocError>
         requires op { op.now ≡ Op.Mkfile (in_main name.now) }
+        requires halted { self.old.halted ≡ None }
+        requires full { is_full O.forest D.sizes self.old ≡ false }
         requires room { self.old.base + length self.old.files < slice_index (D.sizes self.old.devices) 0 }
         requires fits { slice_index (D.sizes self.old.devices) 0 < 2 ^ 32 }
         ensures answered { OnOk result (self.new.trace ≡ self.old.trace ++ record { client = 0; op = op.now; reply = reply_of 0 op.now 0 (after_all O.forest self.old.trace) } ∷ []) }
@@ -214,91 +266,104 @@ impl<D: Devices, O: Opening> RecordLog<D, O> {
     }
 
     fn sync(&mut self) -> Result<(), AllocError>
-        ensures answered { OnOk result (Answers D.sizes D.faults O.forest Op.Sync self.old self.new) }
-        ensures err { OnErr result (self.new.trace ≡ self.old.trace) }
+        ensures answered { OnOk result (Answers D.history D.sizes D.write_faults O.forest Op.Sync self.old self.new) }
+        ensures err { OnErr result (self.new ≡ record self.old { devices = self.new.devices; durable = self.new.durable }) }
         ensures rises { self.old.durable ≤ self.new.durable }
         ensures sizes { D.sizes self.new.devices ≡ D.sizes self.old.devices }
-        ensures faults { D.faults self.old.devices ≤ D.faults self.new.devices }
         ensures base { self.new.base ≡ self.old.base }
         ensures kept { D.tells → KeepsDurable D.history self.old self.new }
     {
-        self.trace.reserve(1)?;
-        let reply = self.write_reply()?;
+        match self.halted {
+            Some(halt) => self.stay_halted(halt),
+            None => self.sync_all(),
+        }
+    }
+
+    // Answers a sync that the session has halted.
+    fn stay_halted(&mut self, halt: Halt) -> Result<(), AllocError>
+        requires { self.old.halted ≡ Some halt }
+        ensures answered { OnOk result (self.new ≡ record self.old { trace = self.old.trace ++ record { client = 0; op = Op.Sync; reply = Reply.Halted halt.dev halt.tick } ∷ [] }) }
+        ensures err { OnErr result (self.new ≡ self.old) }
+        ensures others { self.new ≡ record self.old { trace = self.new.trace } }
+    {
         self.trace.push(Entry {
             client: 0,
             op: Op::Sync,
-            reply,
+            reply: halted_reply(halt),
         })?;
         Ok(())
     }
 
-    // Writes each record that isn't written yet, and says what a sync answers.
-    fn write_reply(&mut self) -> Result<Reply, AllocError>
-        ensures reply { IfOk result (IsLogReply D.sizes D.faults O.forest Op.Sync self.old self.new) }
-        ensures others { self.new ≡ record self.old { devices = self.new.devices; durable = self.new.durable } }
+    // Writes each record that isn't written yet, and acknowledges all commits.
+    fn sync_all(&mut self) -> Result<(), AllocError>
+        requires { self.old.halted ≡ None }
+        ensures answered { OnOk result (Answers D.history D.sizes D.write_faults O.forest Op.Sync self.old self.new) }
+        ensures err { OnErr result (self.new ≡ record self.old { devices = self.new.devices; durable = self.new.durable }) }
         ensures rises { self.old.durable ≤ self.new.durable }
         ensures sizes { D.sizes self.new.devices ≡ D.sizes self.old.devices }
-        ensures faults { D.faults self.old.devices ≤ D.faults self.new.devices }
+        ensures base { self.new.base ≡ self.old.base }
         ensures kept { D.tells → KeepsDurable D.history self.old self.new }
     {
-        match self.write_all() {
-            Ok(()) => Ok(Reply::Synced(self.commits())),
-            Err(LogFault::DeviceFault) => Ok(Reply::DeviceFault(0)),
+        self.trace.reserve(1)?;
+        self.acks.reserve(1)?;
+        self.devices.count();
+        let written = write_files(
+            self.alloc,
+            &mut self.devices,
+            self.base,
+            self.files.as_slice(),
+            &mut self.durable,
+        );
+        let moment = self.devices.moment();
+        match written {
+            Ok(()) => {
+                let commits = self.durable as u64;
+                put_ack(&mut self.acks, Ack { moment, commits });
+                put_entry(&mut self.trace, Op::Sync, Reply::Synced(commits));
+                Ok(())
+            }
+            Err(LogFault::DeviceFault) => {
+                self.halted = Some(Halt {
+                    dev: 0,
+                    tick: moment,
+                });
+                put_entry(&mut self.trace, Op::Sync, Reply::DeviceFault(0));
+                Ok(())
+            }
             Err(LogFault::NoMemory) => Err(AllocError),
         }
     }
-
-    // Writes each record that isn't written yet.
-    fn write_all(&mut self) -> Result<(), LogFault>
-        ensures ok { OnOk result (self.new.durable ≡ commit_count O.forest self.old.trace) }
-        ensures others { self.new ≡ record self.old { devices = self.new.devices; durable = self.new.durable } }
-        ensures cause { IsErrOf result LogFault.DeviceFault → RoseBy 1 (D.faults self.old.devices) (D.faults self.new.devices) }
-        ensures rises { self.old.durable ≤ self.new.durable }
-        ensures sizes { D.sizes self.new.devices ≡ D.sizes self.old.devices }
-        ensures faults { D.faults self.old.devices ≤ D.faults self.new.devices }
-        ensures kept { D.tells → KeepsDurable D.history self.old self.new }
-    {
-        while self.durable < self.files.len() {
-            self.write_next()?;
-        }
-        Ok(())
-    }
-
-    // Writes one more record.
-    fn write_next(&mut self) -> Result<(), LogFault>
-        requires { self.old.durable < length self.old.files }
-        ensures ok { OnOk result (self.new.durable ≡ self.old.durable + 1) }
-        ensures err { OnErr result (self.new.durable ≡ self.old.durable) }
-        ensures others { self.new ≡ record self.old { devices = self.new.devices; durable = self.new.durable } }
-        ensures cause { IsErrOf result LogFault.DeviceFault → RoseBy 1 (D.faults self.old.devices) (D.faults self.new.devices) }
-        ensures sizes { D.sizes self.new.devices ≡ D.sizes self.old.devices }
-        ensures faults { D.faults self.old.devices ≤ D.faults self.new.devices }
-        ensures kept { D.tells → KeepsDurable D.history self.old self.new }
-    {
-        let place = self.base + self.durable as u32;
-        write_record(
-            self.alloc,
-            &mut self.devices,
-            place,
-            &self.files[self.durable],
-        )?;
-        self.durable += 1;
-        Ok(())
-    }
 }
 
-// What a full device answers to an operation that makes a file.
-fn reply_when_full(alloc: Global, forest: &Forest, op: &Op) -> Reply
-    ensures { result ≡ full_reply op.now forest.now }
+// The forest's refusal of an operation of client 0, or this reply where it wouldn't refuse.
+fn refusal_or(forest: &Forest, op: &Op, otherwise: Reply) -> Reply
+    ensures { result ≡ option_map_or Reply.Refused (refusal_of 0 op.now forest.now) otherwise }
 {
     match forest.refusal(0, op) {
         Some(cause) => Reply::Refused(cause),
-        None => Reply::NoSpace(Short {
-            need: 0,
-            free: Counts::new(alloc),
-            held: Counts::new(alloc),
-        }),
+        None => otherwise,
     }
+}
+
+// What a session that has halted answers.
+fn halted_reply(halt: Halt) -> Reply
+    ensures { result ≡ Reply.Halted halt.dev halt.tick }
+{
+    Reply::Halted {
+        dev: halt.dev,
+        tick: halt.tick,
+    }
+}
+
+// What it answers where the device is full.
+fn full_reply(alloc: Global) -> Reply
+    ensures { result ≡ Reply.NoSpace log_short }
+{
+    Reply::NoSpace(Short {
+        need: 0,
+        free: Counts::new(alloc),
+        held: Counts::new(alloc),
+    })
 }
 
 // Adds an entry where there is room for it.
@@ -312,6 +377,16 @@ fn put_entry(trace: &mut Vec<Entry>, op: Op, reply: Reply)
         reply,
     };
     if trace.push(entry).is_err() {
+        unreachable!()
+    }
+}
+
+// Adds an acknowledgement where there is room for it.
+fn put_ack(acks: &mut Vec<Ack>, ack: Ack)
+    requires { vec_len acks.old < vec_capacity acks.old }
+    ensures { acks.new.items ≡ acks.old.items ++ ack ∷ [] }
+{
+    if acks.push(ack).is_err() {
         unreachable!()
     }
 }

@@ -2,6 +2,7 @@ ghost use Rattle.std.specs.Prelude.{◌≡◌, ◌≤◌, true, false, IfOk, IsE
 ghost use Rattle.vol_types.specs.Faults.{RoseBy};
 ghost use Rattle.dev_model.specs.Devices.{IsPlace, now};
 ghost use Rattle.dev_model.specs.Disk.{as_read, block_at};
+ghost use Rattle.record_log.specs.Durable.{StaysSo};
 ghost use Rattle.record_log.specs.Found.{in_main, forest_with, forest_with_block, IsMounted};
 
 use crate::blocks::read_record;
@@ -70,9 +71,11 @@ fn take_block(
 fn read_block<D: Devices>(alloc: Global, devices: &mut D, block: u32) -> Result<Bytes, LogFault>
     requires { IsPlace (D.sizes devices.old) 0 block }
     ensures bytes { D.tells → IfOk result (λ bytes. block_at (as_read (now (D.history devices.old))) 0 block ≡ Some bytes) }
-    ensures same { D.tells → now (D.history devices.new) ≡ now (D.history devices.old) }
+    ensures stays { D.tells → StaysSo (D.history devices.old) (D.history devices.new) }
     ensures cause { IsErrOf result LogFault.DeviceFault → RoseBy 1 (D.faults devices.old) (D.faults devices.new) }
     ensures faults { D.faults devices.old ≤ D.faults devices.new }
+    ensures write_faults { D.write_faults devices.new ≡ D.write_faults devices.old }
+    ensures moment { (D.history devices.old).moment ≤ (D.history devices.new).moment }
     ensures sizes { D.sizes devices.new ≡ D.sizes devices.old }
 {
     let mut bytes = vec![in alloc; 0; 4096]?;
@@ -84,9 +87,11 @@ fn read_block<D: Devices>(alloc: Global, devices: &mut D, block: u32) -> Result<
 pub fn load<D: Devices>(alloc: Global, devices: &mut D) -> Result<Loaded, LogFault>
     ensures found { D.tells → IfOk result (λ loaded. IsMounted (as_read (now (D.history devices.old))) loaded.records loaded.forest) }
     ensures room { IfOk result (λ loaded. loaded.records ≤ slice_index (D.sizes devices.new) 0) }
-    ensures same { D.tells → now (D.history devices.new) ≡ now (D.history devices.old) }
+    ensures stays { D.tells → StaysSo (D.history devices.old) (D.history devices.new) }
     ensures cause { IsErrOf result LogFault.DeviceFault → RoseBy 1 (D.faults devices.old) (D.faults devices.new) }
     ensures faults { D.faults devices.old ≤ D.faults devices.new }
+    ensures write_faults { D.write_faults devices.new ≡ D.write_faults devices.old }
+    ensures moment { (D.history devices.old).moment ≤ (D.history devices.new).moment }
     ensures sizes { D.sizes devices.new ≡ D.sizes devices.old }
 {
     devices.count();

@@ -1,9 +1,12 @@
 ghost use Rattle.std.specs.Prelude.{◌≡◌, ◌≤◌, slice_index, IfOk};
+ghost use Rattle.dev_model.specs.Disk.{as_read};
+ghost use Rattle.dev_model.specs.Devices.{now};
+ghost use Rattle.record_log.specs.Found.{IsMounted};
 ghost use Rattle.record_log.specs.Log.{IsFlat};
 
 use crate::blocks::seal_record;
 use crate::mounting::make_file_op;
-use crate::{Loaded, LogFault, MadeFile, Opening, RecordLog, load};
+use crate::{Finished, Loaded, LogFault, MadeFile, Opening, RecordLog, load};
 use dev_model::{Devices, MemDevices, Pick};
 use plain_forest::{Cause, Op, Path, Reply, Trace};
 use std::alloc::Global;
@@ -12,32 +15,36 @@ use std::test::Fail;
 use vol_digest::digest;
 use vol_types::{Bytes, NameList};
 
-// A session over the devices that makes the files, lists the root and syncs: the devices, and the history.
-fn session(
+// A session over the devices that makes a file for each letter, but lists the root at `L` and syncs at `S`: what it leaves.
+fn session<D: Devices + Drop>(
     alloc: Global,
-    devices: MemDevices,
-    names: &[&[u8]],
-) -> Result<(MemDevices, Trace), Fail> {
+    devices: D,
+    letters: &[u8],
+) -> Result<Finished<D>, Fail> {
     let mut devices = devices;
     let loaded = load(alloc, &mut devices)?;
-    session_from::<Brand>(alloc, devices, loaded, names)
+    session_from::<D, Brand>(alloc, devices, loaded, letters)
 }
 
-fn session_from<O: Opening>(
+fn session_from<D: Devices + Drop, O: Opening>(
     alloc: Global,
-    devices: MemDevices,
+    devices: D,
     loaded: Loaded,
-    names: &[&[u8]],
-) -> Result<(MemDevices, Trace), Fail>
+    letters: &[u8],
+) -> Result<Finished<D>, Fail>
     requires opening { loaded.forest ≡ O.forest }
-    requires room { loaded.records ≤ slice_index (⟦<MemDevices as Devices>⟧.sizes devices) 0 }
+    requires room { loaded.records ≤ slice_index (D.sizes devices) 0 }
+    requires mounted { D.tells → IsMounted (as_read (now (D.history devices))) loaded.records O.forest }
+    requires start { O.start ≡ record { moments = D.history devices; sizes = D.sizes devices; faults = D.faults devices; write_faults = D.write_faults devices } }
 {
-    let mut log = RecordLog::<MemDevices, O>::start(alloc, devices, loaded);
-    for name in names {
-        log.call(&make_file_op(alloc, &Bytes::from_slice(alloc, name)?)?)?;
+    let mut log = RecordLog::<D, O>::start(alloc, devices, loaded);
+    for letter in letters {
+        match *letter {
+            b'L' => log.call(&root_listing(alloc)?)?,
+            b'S' => log.call(&Op::Sync)?,
+            name => log.call(&make_file_op(alloc, &Bytes::from_slice(alloc, &[name])?)?)?,
+        }
     }
-    log.call(&root_listing(alloc)?)?;
-    log.call(&Op::Sync)?;
     Ok(log.finish())
 }
 
@@ -52,14 +59,15 @@ fn root_listing(alloc: Global) -> Result<Op, Fail>
     })
 }
 
-// A reply as a letter: `k` for Okay, `e` for a name that exists, `f` for a full device, `d` for a failed one, the number
-// of names for a listing, and of commits for a sync.
+// A reply as a letter: `k` for Okay, `e` for a name that exists, `f` for a full device, `d` for a failed one, `h` for a
+// session that has halted, the number of names for a listing, and of commits for a sync.
 fn letter(reply: &Reply) -> u8 {
     match reply {
         Reply::Okay => b'k',
         Reply::Refused(Cause::Exists) => b'e',
         Reply::NoSpace(_) => b'f',
         Reply::DeviceFault(0) => b'd',
+        Reply::Halted { dev: 0, .. } => b'h',
         Reply::List(names) if names.len() < 10 => b'0' + names.len() as u8,
         Reply::Synced(count) if *count < 10 => b'0' + *count as u8,
         _ => b'?',
@@ -77,17 +85,34 @@ fn letters(alloc: Global, trace: &Trace) -> Result<Bytes, Fail> {
 #[test]
 fn replies_of_a_session(rt: HostRuntime) -> Result<(), Fail> {
     let alloc = rt.alloc();
-    let cases: [(u32, &[&[u8]], &[u8]); 4] = [
-        (4, &[b"b", b"a", b"b"], b"kke22"),
-        (2, &[b"a", b"a", b"b", b"c", b"b"], b"kekfe22"),
-        (1, &[b"a", b".."], b"k?11"),
-        (3, &[], b"00"),
+    let cases: [(u32, &[u8], &[u8]); 5] = [
+        (4, b"babLS", b"kke22"),
+        (2, b"aabcbLS", b"kekfe22"),
+        (1, b"a.LS", b"k?11"),
+        (3, b"LS", b"00"),
+        (4, b"SaSSbcSLS", b"0k11kk333"),
     ];
-    for (size, names, expected) in cases.iter() {
+    for (size, session_letters, expected) in cases.iter() {
         let devices = MemDevices::blank(alloc, &[*size])?;
-        let (_, trace) = session(alloc, devices, names)?;
-        assert!(rt; letters(alloc, &trace)?.as_slice() == *expected);
+        let finished = session(alloc, devices, session_letters)?;
+        assert!(rt; letters(alloc, &finished.trace)?.as_slice() == *expected);
     }
+    Ok(())
+}
+
+// Each sync that succeeds is acknowledged, at the moment behind its last flush.
+#[test]
+fn syncs_are_acknowledged(rt: HostRuntime) -> Result<(), Fail> {
+    let alloc = rt.alloc();
+    let finished = session(alloc, MemDevices::blank(alloc, &[4])?, b"SabSSc")?;
+    let counts: [u64; 3] = [0, 2, 2];
+    assert!(rt; finished.acks.len() == counts.len());
+    for (ack, count) in finished.acks.as_slice().iter().zip(counts.iter()) {
+        assert_eq!(rt; ack.commits, *count);
+    }
+    let moments = finished.acks.as_slice();
+    assert!(rt; moments[0].moment < moments[1].moment);
+    assert!(rt; moments[1].moment == moments[2].moment);
     Ok(())
 }
 
@@ -95,8 +120,8 @@ fn replies_of_a_session(rt: HostRuntime) -> Result<(), Fail> {
 fn made_files_are_mounted_again(rt: HostRuntime) -> Result<(), Fail> {
     let alloc = rt.alloc();
     let blank = MemDevices::blank(alloc, &[3])?;
-    let (devices, _) = session(alloc, blank, &[b"b", b"a"])?;
-    let mut devices = devices.restart(Pick::AllWritten)?;
+    let finished = session(alloc, blank, b"baS")?;
+    let mut devices = finished.devices.restart(Pick::AllWritten)?;
     let mut loaded = load(alloc, &mut devices)?;
     assert_eq!(rt; loaded.records, 2);
     let Reply::List(names) = loaded.forest.apply(0, &root_listing(alloc)?)? else {
@@ -114,8 +139,8 @@ fn a_wrong_number_ends_the_log(rt: HostRuntime) -> Result<(), Fail> {
     let alloc = rt.alloc();
     for (place, number, records) in [(1, 3, 3), (2, 3, 1), (1, 4, 1)] {
         let blank = MemDevices::blank(alloc, &[3])?;
-        let (devices, _) = session(alloc, blank, &[b"a", b"b", b"c"])?;
-        let mut devices = devices.restart(Pick::AllWritten)?;
+        let finished = session(alloc, blank, b"abcS")?;
+        let mut devices = finished.devices.restart(Pick::AllWritten)?;
         let file = MadeFile {
             number,
             name: Bytes::from_slice(alloc, b"other")?,
@@ -129,14 +154,27 @@ fn a_wrong_number_ends_the_log(rt: HostRuntime) -> Result<(), Fail> {
     Ok(())
 }
 
+// A write or a flush that fails halts the session: nothing is written from then on.
 #[test]
-fn a_failed_call_is_a_device_fault(rt: HostRuntime) -> Result<(), Fail> {
+fn a_failed_call_halts_the_session(rt: HostRuntime) -> Result<(), Fail> {
     let alloc = rt.alloc();
-    for (failing, expected) in [(1, b"k1d"), (2, b"k1d"), (3, b"k11")] {
+    for (failing, expected) in [
+        (1, b"kLdhehLh"),
+        (2, b"kLdhehLh"),
+        (3, b"kL1kekLd"),
+        (4, b"kL1kekLd"),
+        (5, b"kL1kekLd"),
+        (7, b"kL1kekL3"),
+    ] {
         let mut devices = MemDevices::blank(alloc, &[4])?;
         devices.fail_at(&[failing])?;
-        let (_, trace) = session(alloc, devices, &[b"a"])?;
-        assert!(rt; letters(alloc, &trace)?.as_slice() == expected.as_slice());
+        let finished = session(alloc, devices, b"aLSbacLS")?;
+        let answers = letters(alloc, &finished.trace)?;
+        for (answer, letter) in answers.as_slice().iter().zip(expected.iter()) {
+            assert!(rt; *letter == b'L' || answer == letter);
+        }
+        assert!(rt; answers.len() == expected.len());
+        assert!(rt; finished.halted.is_some() == expected.contains(&b'd'));
     }
     let mut devices = MemDevices::blank(alloc, &[4])?;
     devices.fail_at(&[0])?;

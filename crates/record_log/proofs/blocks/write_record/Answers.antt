@@ -5,7 +5,7 @@ use Rattle.dev_model.specs.Disk.{MayLeaveImage, sizes_of, changed, flushed, writ
 use Rattle.dev_model.specs.Devices.{now}
 use Rattle.dev_model.specs.Stops.{IsAt}
 use Rattle.record_log.specs.Records.{record_in}
-use Rattle.record_log.proofs.Writing.{untouched, writing, flushing, settled}
+use Rattle.record_log.proofs.WrittenRecords.{untouched, writing, flushing, settled}
 use Rattle.record_log.proofs.blocks.write_record.Goals as goal
 
 pub returns-in_err-block-clause-stops : goal.returns-in_err-block-clause-stops

@@ -2,6 +2,7 @@ use Rattle.std.proofs.Common.{◌≡◌, ◌≤◌, ◌∙◌, ℕ, List, Some, 
 use Rattle.dev_model.specs.Disk.{as_read, block_at, sizes_of}
 use Rattle.dev_model.specs.Devices.{now}
 use Rattle.record_log.specs.Found.{forest_with_block, mounted_as}
+use Rattle.record_log.proofs.Staying.{stays_now, stays_then}
 use Rattle.record_log.proofs.Scanning.{scan_more, scan_ends, scan_all}
 use Rattle.record_log.proofs.mounting.load.Goals as goal
 
@@ -11,7 +12,7 @@ returns-then-not-branch-clause-found g c tells =
     let place = c.loop-place.place in
     let forest = c.loop-place.forest in
     let block = c.in_ok-block.block in
-    let read : block_at image 0 place ≡ Some block = subst (λ ds. block_at (as_read ds) 0 place ≡ Some block) (c.loop-place.invariant.same tells) (c.in_ok-block.ensures.bytes tells) in
+    let read : block_at image 0 place ≡ Some block = subst (λ ds. block_at (as_read ds) 0 place ≡ Some block) (stays_now (g.D.Devices.history c.args.devices.now) (g.D.Devices.history c.loop-place.devices) (c.loop-place.invariant.stays tells)) (c.in_ok-block.ensures.bytes tells) in
     let left : forest_with_block place block forest ≡ None = ap (λ b. forest_with_block place b forest) (sym c.as_slice.ensures) ∙ c.in_ok-take_block.ensures.left (ap (λ b. Ok b) c.if-not-branch.true) in
     scan_ends image place block forest read (c.loop-place.invariant.so_far tells) left
     ∙ ap (λ f. mounted_as place f) (sym (c.in_ok-take_block.ensures.same (ap (λ b. Ok b) c.if-not-branch.true)))
@@ -22,12 +23,14 @@ loop-place-preserved g c = record {
       let image = as_read (now (g.D.Devices.history c.args.devices.now)) in
       let place = c.loop-place.place in
       let block = c.in_ok-block.block in
-      let read : block_at image 0 place ≡ Some block = subst (λ ds. block_at (as_read ds) 0 place ≡ Some block) (c.loop-place.invariant.same tells) (c.in_ok-block.ensures.bytes tells) in
+      let read : block_at image 0 place ≡ Some block = subst (λ ds. block_at (as_read ds) 0 place ≡ Some block) (stays_now (g.D.Devices.history c.args.devices.now) (g.D.Devices.history c.loop-place.devices) (c.loop-place.invariant.stays tells)) (c.in_ok-block.ensures.bytes tells) in
       let taken : forest_with_block place block c.loop-place.forest ≡ Some c.take_block.new.forest =
       ap (λ b. forest_with_block place b c.loop-place.forest) (sym c.as_slice.ensures) ∙ c.in_ok-take_block.ensures.taken (ap (λ b. Ok b) c.if-not-branch.false) in
       scan_more image place block c.loop-place.forest read (c.loop-place.invariant.so_far tells) c.take_block.new.forest taken;
-  same = λ tells. c.in_ok-block.ensures.same tells ∙ c.loop-place.invariant.same tells;
+  stays = λ tells. stays_then (g.D.Devices.history c.args.devices.now) (g.D.Devices.history c.loop-place.devices) (g.D.Devices.history c.read_block.new.devices) (c.loop-place.invariant.stays tells) (c.read_block.ensures.stays tells);
   faults = omega (arith, c.loop-place.invariant.faults, c.in_ok-block.ensures.faults);
+  write_faults = c.in_ok-block.ensures.write_faults ∙ c.loop-place.invariant.write_faults;
+  moment = omega (arith, c.loop-place.invariant.moment, c.in_ok-block.ensures.moment);
   sizes = c.in_ok-block.ensures.sizes ∙ c.loop-place.invariant.sizes;
 }
 

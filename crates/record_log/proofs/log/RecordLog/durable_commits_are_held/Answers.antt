@@ -13,5 +13,5 @@ returns g c =
     let l = c.self.inside in
     let sound = c.self.invariant in
     subst (λ (log : Log g.row.D.Denot). D.tells → EachLeft (HoldsDurable opening log) (D.history log.devices)) c.self.view_is (λ tells image may.
-    mounted_records l.base l.durable l.files.items image opening l.forest (sound.held tells image may) sound.written sound.made
-    ∙ ap (λ commits. mounted_as (l.base + l.durable) (after_all opening (take l.durable commits))) (sym sound.commits))
+    mounted_records l.base l.durable l.files.items image opening l.forest (sound.records.held tells image may).records sound.records.written sound.files.made
+    ∙ ap (λ commits. mounted_as (l.base + l.durable) (after_all opening (take l.durable commits))) (sym sound.files.commits))

@@ -1,0 +1,163 @@
+use Rattle.std.proofs.Common.{◌≡◌, ◌+◌, ◌≤◌, ◌++◌, [], ◌∷◌, ℕ, List, None, Some, length, refl, ap, ◌∙◌, sym, subst, inl, inr, rules}
+use Rattle.std.specs.Prelude.{IsErrOf}
+use Rattle.std.proofs.lemmas.List.{length-map}
+use Rattle.vol_types.specs.Faults.{RoseBy}
+use Rattle.dev_model.specs.Disk.{Disk}
+use Rattle.dev_model.specs.Devices.{now}
+use Rattle.dev_model.specs.Stops.{LeavesOnly, MayLeaveBut}
+use Rattle.plain_forest.specs.History.{History, commit_count}
+use Rattle.plain_forest.specs.declared.operation.Op.TheVariants.{Sync}
+use Rattle.plain_forest.specs.declared.operation.Reply.TheVariants.{Synced, DeviceFault}
+use Rattle.record_log.specs.Found.{commit_of}
+use Rattle.record_log.specs.Durable.{EachLeft, HasWritten, IsFrom, Writes}
+use Rattle.record_log.specs.Log.{IsSound, Log, Shown, Syncs}
+use Rattle.record_log.specs.declared.acks.Ack.{Ack}
+use Rattle.record_log.specs.declared.fault.LogFault.TheVariants as log_faults
+use Rattle.record_log.specs.declared.files.MadeFile.{MadeFile}
+use Rattle.record_log.proofs.Sound.{HasWrittenTo, entry_of, sound_failed, sound_synced, sound_written}
+use Rattle.record_log.proofs.WrittenRecords.{untouched}
+use Rattle.record_log.proofs.log.RecordLog.sync_all.Goals as goal
+
+pub returns-in_err-reserve-clause-kept : goal.returns-in_err-reserve-clause-kept
+returns-in_err-reserve-clause-kept g c = subst (λ (log : Log g.row.D.Denot). g.D.Devices.tells → LeavesOnly (λ _ image. MayLeaveBut (IsFrom (log.base + log.durable)) (now (g.D.Devices.history log.devices)) image) (g.D.Devices.history log.devices) (g.D.Devices.history c.self.inside.devices)) c.self.view_is
+    (λ told. untouched (IsFrom (c.self.inside.base + c.self.inside.durable)) (g.D.Devices.history c.self.inside.devices))
+
+pub returns-in_err-reserve-2-clause-kept : goal.returns-in_err-reserve-2-clause-kept
+returns-in_err-reserve-2-clause-kept g c = subst (λ (log : Log g.row.D.Denot). g.D.Devices.tells → LeavesOnly (λ _ image. MayLeaveBut (IsFrom (log.base + log.durable)) (now (g.D.Devices.history log.devices)) image) (g.D.Devices.history log.devices) (g.D.Devices.history c.self.inside.devices)) c.self.view_is
+    (λ told. untouched (IsFrom (c.self.inside.base + c.self.inside.durable)) (g.D.Devices.history c.self.inside.devices))
+
+pub invariant_of-self-in-Ok : goal.invariant_of-self-in-Ok
+invariant_of-self-in-Ok g c =
+    let D = g.D.Devices in
+    let opening = g.O.Opening.forest in
+    let l = c.self.inside in
+    let wrote = c.write_files-written.ensures in
+    let devices = c.write_files-written.new.devices in
+    let durable = c.write_files-written.new.durable in
+    let shown : Shown = record { moments = D.history l.devices; sizes = D.sizes l.devices; faults = D.faults l.devices; write_faults = D.write_faults l.devices } in
+    let later : Shown = record { moments = D.history devices; sizes = D.sizes devices; faults = D.faults devices; write_faults = D.write_faults devices } in
+    let log : Log g.row.D.Denot = record { devices = l.devices; base = l.base; files = l.files.items; durable = l.durable; halted = l.halted; trace = l.trace.items; acks = l.acks.items } in
+    let unhalted : l.halted ≡ None = subst (λ (log : Log g.row.D.Denot). log.halted ≡ None) (sym c.self.view_is) c.requires in
+    let has : HasWrittenTo D.tells l.base l.durable l.files.items shown durable later = record {
+      rises = wrote.rises;
+      most = subst (λ (files : List MadeFile). durable ≤ length files) c.as_slice.ensures.value wrote.most;
+      sizes = wrote.sizes;
+      moment = wrote.moment;
+      faults = wrote.faults;
+      write_faults = wrote.write_faults;
+      writes = subst (λ (files : List MadeFile). D.tells → (disks : List Disk) → EachLeft (HasWritten disks l.base l.durable files) (D.history l.devices) → Writes disks l.base l.durable durable files (D.history l.devices) (D.history devices)) c.as_slice.ensures.value wrote.written;
+    } in
+    let all : durable ≡ length l.files.items = c.in-Ok.ensures.ok ∙ ap length c.as_slice.ensures.value in
+    let trace : c.put_entry.new.trace.items ≡ l.trace.items ++ entry_of Sync (Synced durable) ∷ [] = c.put_entry.ensures ∙ ap (λ (t : History). t ++ entry_of Sync (Synced durable) ∷ []) c.in_ok-reserve.ensures.items in
+    let ack : ℕ → Ack = λ moment. record { moment = moment; commits = durable } in
+    let acks : c.put_ack.new.acks.items ≡ l.acks.items ++ ack (D.history devices).moment ∷ [] =
+    c.put_ack.ensures ∙ ap (λ (as_were : List Ack). as_were ++ ack c.moment-moment.result ∷ []) c.in_ok-reserve-2.ensures.items ∙ ap (λ m. l.acks.items ++ ack m ∷ []) c.moment-moment.ensures.moment in
+    subst (λ t. IsSound opening g.O.Opening.start D.tells later (record log { devices = devices; durable = durable; trace = t; acks = c.put_ack.new.acks.items }) l.forest) (sym trace)
+    (subst (λ (as_are : List Ack). IsSound opening g.O.Opening.start D.tells later (record log { devices = devices; durable = durable; trace = l.trace.items ++ entry_of Sync (Synced durable) ∷ []; acks = as_are }) l.forest) (sym acks)
+    (sound_synced opening g.O.Opening.start D.tells shown log l.forest c.self.invariant devices durable later has unhalted all))
+
+pub invariant_of-self-in-Err-DeviceFault : goal.invariant_of-self-in-Err-DeviceFault
+invariant_of-self-in-Err-DeviceFault g c =
+    let D = g.D.Devices in
+    let opening = g.O.Opening.forest in
+    let l = c.self.inside in
+    let wrote = c.write_files-written.ensures in
+    let devices = c.write_files-written.new.devices in
+    let durable = c.write_files-written.new.durable in
+    let shown : Shown = record { moments = D.history l.devices; sizes = D.sizes l.devices; faults = D.faults l.devices; write_faults = D.write_faults l.devices } in
+    let later : Shown = record { moments = D.history devices; sizes = D.sizes devices; faults = D.faults devices; write_faults = D.write_faults devices } in
+    let log : Log g.row.D.Denot = record { devices = l.devices; base = l.base; files = l.files.items; durable = l.durable; halted = l.halted; trace = l.trace.items; acks = l.acks.items } in
+    let unhalted : l.halted ≡ None = subst (λ (log : Log g.row.D.Denot). log.halted ≡ None) (sym c.self.view_is) c.requires in
+    let has : HasWrittenTo D.tells l.base l.durable l.files.items shown durable later = record {
+      rises = wrote.rises;
+      most = subst (λ (files : List MadeFile). durable ≤ length files) c.as_slice.ensures.value wrote.most;
+      sizes = wrote.sizes;
+      moment = wrote.moment;
+      faults = wrote.faults;
+      write_faults = wrote.write_faults;
+      writes = subst (λ (files : List MadeFile). D.tells → (disks : List Disk) → EachLeft (HasWritten disks l.base l.durable files) (D.history l.devices) → Writes disks l.base l.durable durable files (D.history l.devices) (D.history devices)) c.as_slice.ensures.value wrote.written;
+    } in
+    let failed : IsErrOf c.write_files-written.result log_faults.DeviceFault = search rules in
+    let entry = entry_of Sync (DeviceFault 0) in
+    let trace : c.put_entry-in-Err-DeviceFault.new.trace.items ≡ l.trace.items ++ entry ∷ [] = c.put_entry-in-Err-DeviceFault.ensures ∙ ap (λ (t : History). t ++ entry ∷ []) c.in_ok-reserve.ensures.items in
+    let at = λ (moment : ℕ) (trace : History) (acks : List Ack). IsSound opening g.O.Opening.start D.tells later (record log { devices = devices; durable = durable; halted = Some (record { dev = 0; tick = moment }); trace = trace; acks = acks }) l.forest in
+    subst (λ m. at m c.put_entry-in-Err-DeviceFault.new.trace.items c.reserve-2.new.self.items) (sym c.moment-moment.ensures.moment)
+    (subst (λ t. at (D.history devices).moment t c.reserve-2.new.self.items) (sym trace)
+    (subst (λ as_are. at (D.history devices).moment (l.trace.items ++ entry ∷ []) as_are) (sym c.in_ok-reserve-2.ensures.items)
+    (sound_failed opening g.O.Opening.start D.tells shown log l.forest c.self.invariant devices durable later has unhalted (wrote.cause failed) (wrote.write_cause failed))))
+
+pub invariant_of-self-in-Err-NoMemory : goal.invariant_of-self-in-Err-NoMemory
+invariant_of-self-in-Err-NoMemory g c =
+    let D = g.D.Devices in
+    let opening = g.O.Opening.forest in
+    let l = c.self.inside in
+    let wrote = c.write_files-written.ensures in
+    let devices = c.write_files-written.new.devices in
+    let durable = c.write_files-written.new.durable in
+    let shown : Shown = record { moments = D.history l.devices; sizes = D.sizes l.devices; faults = D.faults l.devices; write_faults = D.write_faults l.devices } in
+    let later : Shown = record { moments = D.history devices; sizes = D.sizes devices; faults = D.faults devices; write_faults = D.write_faults devices } in
+    let log : Log g.row.D.Denot = record { devices = l.devices; base = l.base; files = l.files.items; durable = l.durable; halted = l.halted; trace = l.trace.items; acks = l.acks.items } in
+    let unhalted : l.halted ≡ None = subst (λ (log : Log g.row.D.Denot). log.halted ≡ None) (sym c.self.view_is) c.requires in
+    let has : HasWrittenTo D.tells l.base l.durable l.files.items shown durable later = record {
+      rises = wrote.rises;
+      most = subst (λ (files : List MadeFile). durable ≤ length files) c.as_slice.ensures.value wrote.most;
+      sizes = wrote.sizes;
+      moment = wrote.moment;
+      faults = wrote.faults;
+      write_faults = wrote.write_faults;
+      writes = subst (λ (files : List MadeFile). D.tells → (disks : List Disk) → EachLeft (HasWritten disks l.base l.durable files) (D.history l.devices) → Writes disks l.base l.durable durable files (D.history l.devices) (D.history devices)) c.as_slice.ensures.value wrote.written;
+    } in
+    let at = λ (trace : History) (acks : List Ack). IsSound opening g.O.Opening.start D.tells later (record log { devices = devices; durable = durable; trace = trace; acks = acks }) l.forest in
+    subst (λ t. at t c.reserve-2.new.self.items) (sym c.in_ok-reserve.ensures.items)
+    (subst (λ as_are. at l.trace.items as_are) (sym c.in_ok-reserve-2.ensures.items)
+    (sound_written opening g.O.Opening.start D.tells shown log l.forest c.self.invariant devices durable later has))
+
+pub returns-in-Ok-clause-answered : goal.returns-in-Ok-clause-answered
+returns-in-Ok-clause-answered g c =
+    let opening = g.O.Opening.forest in
+    let l = c.self.inside in
+    let old = c.args.self.now in
+    let durable = c.write_files-written.new.durable in
+    let traces : l.trace.items ≡ old.trace = ap (λ (log : Log g.row.D.Denot). log.trace) c.self.view_is in
+    let count : durable ≡ commit_count opening old.trace =
+    c.in-Ok.ensures.ok ∙ ap length c.as_slice.ensures.value ∙ sym (ap length c.self.invariant.files.commits ∙ length-map l.files.items commit_of) ∙ ap (commit_count opening) traces in
+    let new : Log g.row.D.Denot = record { devices = c.write_files-written.new.devices; base = l.base; files = l.files.items; durable = durable; halted = l.halted; trace = c.put_entry.new.trace.items; acks = c.put_ack.new.acks.items } in
+    let ack : ℕ → ℕ → Ack = λ moment commits. record { moment = moment; commits = commits } in
+    record {
+      reply = Synced durable;
+      is = subst (λ halted. Syncs g.D.Devices.history g.D.Devices.write_faults opening halted old new (Synced durable)) (sym c.requires) (inl (record {
+        is = ap Synced count;
+        durable = count;
+        acks = c.put_ack.ensures ∙ ap (λ (as_were : List Ack). as_were ++ ack c.moment-moment.result durable ∷ []) (c.in_ok-reserve-2.ensures.items ∙ ap (λ (log : Log g.row.D.Denot). log.acks) c.self.view_is)
+            ∙ ap (λ m. old.acks ++ ack m durable ∷ []) c.moment-moment.ensures.moment ∙ ap (λ n. old.acks ++ ack (g.D.Devices.history c.write_files-written.new.devices).moment n ∷ []) count;
+        halted = ap (λ (log : Log g.row.D.Denot). log.halted) c.self.view_is ∙ c.requires;
+      }));
+      trace = c.put_entry.ensures ∙ ap (λ (t : History). t ++ entry_of Sync (Synced durable) ∷ []) (c.in_ok-reserve.ensures.items ∙ traces);
+    }
+
+pub returns-in-Ok-clause-kept : goal.returns-in-Ok-clause-kept
+returns-in-Ok-clause-kept g c = subst (λ (log : Log g.row.D.Denot). g.D.Devices.tells → LeavesOnly (λ _ image. MayLeaveBut (IsFrom (log.base + log.durable)) (now (g.D.Devices.history log.devices)) image) (g.D.Devices.history log.devices) (g.D.Devices.history c.write_files-written.new.devices)) c.self.view_is c.write_files-written.ensures.kept
+
+pub returns-in-Err-DeviceFault-clause-answered : goal.returns-in-Err-DeviceFault-clause-answered
+returns-in-Err-DeviceFault-clause-answered g c =
+    let opening = g.O.Opening.forest in
+    let old = c.args.self.now in
+    let l = c.self.inside in
+    let new : Log g.row.D.Denot = record { devices = c.write_files-written.new.devices; base = l.base; files = l.files.items; durable = c.write_files-written.new.durable; halted = Some (record { dev = 0; tick = c.moment-moment.result }); trace = c.put_entry-in-Err-DeviceFault.new.trace.items; acks = c.reserve-2.new.self.items } in
+    let failed : IsErrOf c.write_files-written.result log_faults.DeviceFault = search rules in
+    record {
+      reply = DeviceFault 0;
+      is = subst (λ halted. Syncs g.D.Devices.history g.D.Devices.write_faults opening halted old new (DeviceFault 0)) (sym c.requires) (inr (record {
+        is = refl;
+        cause = subst (λ (log : Log g.row.D.Denot). RoseBy 1 (g.D.Devices.write_faults log.devices) (g.D.Devices.write_faults c.write_files-written.new.devices)) c.self.view_is (c.write_files-written.ensures.write_cause failed);
+        acks = c.in_ok-reserve-2.ensures.items ∙ ap (λ (log : Log g.row.D.Denot). log.acks) c.self.view_is;
+        halted = ap (λ m. Some (record { dev = 0; tick = m })) c.moment-moment.ensures.moment;
+      }));
+      trace = c.put_entry-in-Err-DeviceFault.ensures ∙ ap (λ (t : History). t ++ entry_of Sync (DeviceFault 0) ∷ []) (c.in_ok-reserve.ensures.items ∙ ap (λ (log : Log g.row.D.Denot). log.trace) c.self.view_is);
+    }
+
+pub returns-in-Err-DeviceFault-clause-kept : goal.returns-in-Err-DeviceFault-clause-kept
+returns-in-Err-DeviceFault-clause-kept g c = subst (λ (log : Log g.row.D.Denot). g.D.Devices.tells → LeavesOnly (λ _ image. MayLeaveBut (IsFrom (log.base + log.durable)) (now (g.D.Devices.history log.devices)) image) (g.D.Devices.history log.devices) (g.D.Devices.history c.write_files-written.new.devices)) c.self.view_is c.write_files-written.ensures.kept
+
+pub returns-in-Err-NoMemory-clause-kept : goal.returns-in-Err-NoMemory-clause-kept
+returns-in-Err-NoMemory-clause-kept g c = subst (λ (log : Log g.row.D.Denot). g.D.Devices.tells → LeavesOnly (λ _ image. MayLeaveBut (IsFrom (log.base + log.durable)) (now (g.D.Devices.history log.devices)) image) (g.D.Devices.history log.devices) (g.D.Devices.history c.write_files-written.new.devices)) c.self.view_is c.write_files-written.ensures.kept

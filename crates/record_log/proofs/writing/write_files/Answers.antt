@@ -1,0 +1,63 @@
+use Rattle.std.proofs.Common.{◌≡◌, ◌+◌, ◌≤◌, length, Some, refl, ◌∙◌, arith}
+use Rattle.std.specs.Prelude.{slice_get}
+use Rattle.std.proofs.lemmas.Option.{slice_get_read}
+use Rattle.record_log.specs.Durable.{IsFrom}
+use Rattle.record_log.proofs.WrittenRecords.{goes_at, untouched, writes_none, writes_not, writes_one}
+use Rattle.record_log.proofs.writing.write_files.Goals as goal
+
+pub loop-durable-init : goal.loop-durable-init
+loop-durable-init g c =
+    let D = g.D.Devices in
+    let history = D.history c.args.devices.now in
+    record {
+      rises = omega arith;
+      most = c.requires.some;
+      faults = omega arith;
+      write_faults = omega arith;
+      sizes = refl;
+      moment = omega arith;
+      kept = λ tells. untouched (IsFrom (c.args.base + c.args.durable.now)) history;
+      written = λ tells start held. writes_none start c.args.base c.args.files.now c.args.durable.now history held;
+    }
+
+pub loop-durable-preserved : goal.loop-durable-preserved
+loop-durable-preserved g c =
+    let D = g.D.Devices in
+    let old = D.history c.args.devices.now in
+    let mid = D.history c.loop-durable.devices in
+    let new = D.history c.write_record.new.devices in
+    let base = c.args.base in
+    let files = c.args.files.now in
+    let first = c.args.durable.now in
+    let count = c.loop-durable.durable in
+    let so_far = c.loop-durable.invariant in
+    let here : slice_get files count ≡ Some c.index-files-durable.result = slice_get_read files (length files) count c.index-files-durable.result refl c.loop-durable-test.true c.index-files-durable.is in
+    record {
+      rises = omega (arith, so_far.rises);
+      most = omega (arith, c.loop-durable-test.true);
+      faults = omega (arith, so_far.faults, c.write_record.ensures.faults);
+      write_faults = omega (arith, so_far.write_faults, c.write_record.ensures.write_faults);
+      sizes = c.write_record.ensures.sizes ∙ so_far.sizes;
+      moment = omega (arith, so_far.moment, c.write_record.ensures.moment);
+      kept = λ tells. goes_at (base + first) (base + count) old mid new (omega (arith, so_far.rises)) (so_far.kept tells) (c.write_record.ensures.stops tells);
+      written = λ tells start held.
+          writes_one start base files first count old mid new so_far.rises (so_far.written tells start held) (c.write_record.ensures.stops tells)
+          c.index-files-durable.result here (c.in_ok-write_record.ensures.held tells);
+    }
+
+pub returns-in_err-write_record-clause-kept : goal.returns-in_err-write_record-clause-kept
+returns-in_err-write_record-clause-kept g c tells =
+    let D = g.D.Devices in
+    let base = c.args.base in
+    let first = c.args.durable.now in
+    let count = c.loop-durable.durable in
+    goes_at (base + first) (base + count) (D.history c.args.devices.now) (D.history c.loop-durable.devices) (D.history c.write_record.new.devices)
+    (let le : base + first ≤ base + count = omega (arith, c.loop-durable.invariant.rises) in le)
+    (c.loop-durable.invariant.kept tells) (c.write_record.ensures.stops tells)
+
+pub returns-in_err-write_record-clause-written : goal.returns-in_err-write_record-clause-written
+returns-in_err-write_record-clause-written g c tells start held =
+    let D = g.D.Devices in
+    let so_far = c.loop-durable.invariant in
+    writes_not start c.args.base c.args.files.now c.args.durable.now c.loop-durable.durable (D.history c.args.devices.now) (D.history c.loop-durable.devices) (D.history c.write_record.new.devices)
+    so_far.rises (so_far.written tells start held) (c.write_record.ensures.stops tells)

@@ -1,0 +1,65 @@
+-- What a session answers to each operation, behind the entries before it.
+use Rattle.std.specs.Prelude.{◌≡◌, ◌⊎◌, ℕ, ◌+◌, ◌==◌, Bool, true, false, if◌then◌else◌, [], Option, Some, None}
+use Rattle.std.specs.List.{list_any}
+use Rattle.std.specs.Option.{option_map_or}
+use Rattle.vol_types.specs.declared.space.Short.{Short}
+use Rattle.plain_forest.specs.Forest.{Forest}
+use Rattle.plain_forest.specs.Steps.{reply_of, refusal_of}
+use Rattle.plain_forest.specs.History.{History, after_all, commit_count}
+use Rattle.plain_forest.specs.declared.path.Path.{Path}
+use Rattle.plain_forest.specs.declared.operation.Op.{Op}
+use Rattle.plain_forest.specs.declared.operation.Op.TheVariants.{Mkfile, Ls, Sync}
+use Rattle.plain_forest.specs.declared.operation.Reply.{Reply}
+use Rattle.plain_forest.specs.declared.operation.Reply.TheVariants.{Synced, Refused, NoSpace, DeviceFault, Halted}
+use Rattle.plain_forest.specs.declared.operation.Entry.{Entry}
+use Rattle.record_log.specs.declared.halt.Halt.{Halt}
+
+-- the reply says that a device failed
+abbrev pub is_device_fault : Reply → Bool
+is_device_fault (DeviceFault dev) = true
+is_device_fault reply = false
+
+-- one of the entries says that a device failed
+abbrev pub has_failed : History → Bool
+has_failed history = list_any (λ entry. is_device_fault entry.reply) history
+
+-- the halt of a session behind these entries: once a device has failed the session has halted, and stays so
+abbrev pub halt_behind : Halt → History → Option Halt
+halt_behind halt before = if has_failed before then Some halt else None
+
+-- a device of so many blocks has as many records, those that stood there and the commits behind these entries, as it has
+-- blocks
+abbrev pub is_full_behind : ℕ → ℕ → Forest → History → Bool
+is_full_behind base blocks opening before = base + commit_count opening before == blocks
+
+-- no extent is short of a place, and the log has no buckets to count
+abbrev pub log_short : Short
+log_short = record { need = 0; free = []; held = [] }
+
+-- the forest's refusal, or this reply where it wouldn't refuse
+abbrev pub refusal_or : Reply → Path → Forest → Reply
+refusal_or reply path forest = option_map_or Refused (refusal_of 0 (Mkfile path) forest) reply
+
+-- what a session answers to the making of a file: that it has halted, or else that the device is full, where this is so
+-- and the forest wouldn't refuse; and in all other cases what the forest answers
+abbrev pub file_reply : Option Halt → Bool → Path → Forest → Reply
+file_reply (Some halt) is_full path forest = refusal_or (Halted halt.dev halt.tick) path forest
+file_reply None is_full path forest = if is_full then refusal_or (NoSpace log_short) path forest else reply_of 0 (Mkfile path) 0 forest
+
+-- What it answers to a sync: that it has halted, where it has; else that all commits are durable, or that the device
+-- failed.
+abbrev pub IsSyncReply : Option Halt → ℕ → Reply → Type 0
+IsSyncReply (Some halt) count reply = reply ≡ Halted halt.dev halt.tick
+IsSyncReply None count reply = (reply ≡ Synced count) ⊎ (reply ≡ DeviceFault 0)
+
+-- What a session answers to an operation, behind the entries before it, halted or not. It opened this forest, of so many
+-- commits, on a device of so many blocks.
+abbrev pub IsExactReply : Forest → ℕ → ℕ → Option Halt → History → Op → Reply → Type 0
+IsExactReply opening base blocks halted before (Mkfile path) reply =
+    reply ≡ file_reply halted (is_full_behind base blocks opening before) path (after_all opening before)
+IsExactReply opening base blocks halted before (Ls path) reply = reply ≡ reply_of 0 (Ls path) 0 (after_all opening before)
+IsExactReply opening base blocks halted before Sync reply = IsSyncReply halted (commit_count opening before) reply
+
+-- An entry has the answer of a session that halted so, if it did.
+abbrev pub IsExact : Forest → ℕ → ℕ → Halt → History → Entry → Type 0
+IsExact opening base blocks halt before entry = IsExactReply opening base blocks (halt_behind halt before) before entry.op entry.reply

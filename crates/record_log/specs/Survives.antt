@@ -1,0 +1,49 @@
+-- What a stop leaves of a session, and what it means.
+use Rattle.std.specs.Prelude.{◌≡◌, ◌⊎◌, ℕ, ◌+◌, ◌≤◌, List, map, slice_get, Some, None}
+use Rattle.dev_model.specs.Disk.{Disk, Image, MayLeaveImage, as_read, at_rest}
+use Rattle.dev_model.specs.Devices.{History as Moments, now}
+use Rattle.plain_forest.specs.Forest.{Forest}
+use Rattle.plain_forest.specs.Steps.{next_number}
+use Rattle.plain_forest.specs.History.{History, after_commits, commits_of, commit_count}
+use Rattle.record_log.specs.Found.{Mounted, IsMounted, commit_of}
+use Rattle.record_log.specs.Durable.{record_at}
+use Rattle.record_log.specs.Acknowledged.{acknowledged}
+use Rattle.record_log.specs.declared.acks.Ack.{Ack}
+use Rattle.record_log.specs.declared.files.MadeFile.{MadeFile}
+
+-- Quiet: nothing is pending, so a stop leaves each disk as it is read.
+abbrev pub IsQuiet : List Disk → Type 0
+IsQuiet disks = disks ≡ map at_rest (as_read disks)
+
+-- Alone: nobody else has written the device, so no block behind the log holds a record of its place.
+abbrev pub IsAlone : ℕ → Image → Type 0
+IsAlone commits image = (place : ℕ) → commits ≤ place → record_at place image ≡ None
+
+-- The commit at this place of a history made the file.
+pub record IsMadeBy (opening : Forest) (history : History) (place : ℕ) (file : MadeFile) : Type 0 where
+  pub commit : slice_get (commits_of opening history) place ≡ Some (commit_of file)
+  pub number : next_number 0 (after_commits opening history place) ≡ file.number
+
+-- No chance match: no digest of a torn block matches by chance. A record in the image stood at its place when the session
+-- began, or is the one of the commit whose place it is.
+abbrev pub HasNoChanceMatch : Mounted → Image → History → Image → Type 0
+HasNoChanceMatch opening before history image =
+    (place : ℕ) (file : MadeFile) → record_at place image ≡ Some file → (record_at place before ≡ Some file) ⊎ ((commit : ℕ) × (place ≡ opening.commits + commit) × IsMadeBy opening.forest history commit file)
+
+-- The image means the forest after a prefix of the history's commits, none skipped and none in part, with at least so many
+-- of them; and behind its log it holds no record either.
+pub record IsPrefix (opening : Mounted) (history : History) (acknowledged_by_then : ℕ) (image : Image) : Type 0 where
+  pub commits : ℕ
+  pub least : acknowledged_by_then ≤ commits
+  pub most : commits ≤ commit_count opening.forest history
+  pub means : IsMounted image (opening.commits + commits) (after_commits opening.forest history commits)
+  pub alone : IsAlone (opening.commits + commits) image
+
+-- A stop at each moment of a session leaves only images that mean a prefix of its history with all that was acknowledged
+-- by then, where the devices were quiet and the session was alone, and where no chance match is in the image.
+abbrev pub Survives : Mounted → Moments → Moments → History → List Ack → Type 0
+Survives opening old new history acks =
+    IsQuiet (now old) → IsAlone opening.commits (as_read (now old))
+    → (moment : ℕ) → old.moment ≤ moment → moment ≤ new.moment
+    → (image : Image) → MayLeaveImage (new.disks moment) image → HasNoChanceMatch opening (as_read (now old)) history image
+    → IsPrefix opening history (acknowledged acks moment) image
