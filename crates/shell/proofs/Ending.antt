@@ -1,25 +1,23 @@
 -- How a run ends behind its lines.
-use Rattle.std.proofs.Common.{◌≡◌, ◌⊎◌, inl, inr, ℕ, zero, suc, ◌≤◌, min, true, false, ◌||◌, Bool, IsTrue, if◌then◌else◌, List, [], ◌∷◌, ◌++◌, length, take, refl, ap, ◌∙◌, sym, subst, arith, append_assoc, append-nil, Some, None, Option, Result, Ok, Err}
-use Rattle.std.specs.Prelude.{is_err, is_some}
-use Rattle.std.specs.Option.{unwrap_or}
+use Rattle.std.proofs.Common.{◌≡◌, ◌⊎◌, ℕ, zero, suc, ◌≤◌, min, true, false, Bool, if◌then◌else◌, List, [], ◌∷◌, ◌++◌, length, take, map, refl, ap, ◌∙◌, sym, subst, arith, append_assoc, append-nil, Result, Ok, Err}
+use Rattle.std.specs.Prelude.{◌||◌, max, is_err}
 use Rattle.std.proofs.lemmas.List.{length-take}
 use Rattle.std.specs.List.{filter_map, list_any}
 use Rattle.plain_forest.specs.Forest.{Forest}
-use Rattle.plain_forest.specs.History.{History, EachEntry, commit_count}
-use Rattle.plain_forest.specs.HistoryLaws.{EachEntry-none}
+use Rattle.plain_forest.specs.History.{History, commit_count}
 use Rattle.plain_forest.specs.declared.operation.Op.TheVariants.{Sync}
 use Rattle.plain_forest.specs.declared.operation.Reply.{Reply}
-use Rattle.plain_forest.specs.declared.operation.Reply.TheVariants.{Okay, Synced, List as Listed, Refused, NoSpace, DeviceFault, NoMemory}
 use Rattle.vol_types.specs.Faults.{CountsFaults, RoseBy}
 use Rattle.text_io.specs.Streams.{GivesPrefix}
 use Rattle.script_text.specs.Replies.{end_line_of}
 use Rattle.script_text.specs.declared.reading.Line.{Line}
 use Rattle.record_log.specs.Log.{Log}
+use Rattle.shell.specs.declared.tally.Tally.{Tally}
 use Rattle.shell.specs.declared.page.Page.{Page}
-use Rattle.shell.specs.Outcome.{entries_of, entry_if_any, entry_of, reply_lines, synced_of, text_of}
-use Rattle.shell.specs.Caused.{asked_status, is_no_memory, is_device_fault}
-use Rattle.shell.specs.Phases.{Shows, IsExactIn, IsSyncReply, GoesOn, RunsEnd, RunsLines, RunsPlan, count_of, device_faults}
-use Rattle.shell.proofs.Running.{goes_then}
+use Rattle.shell.specs.Outcome.{entries_of, entry_if_any, entry_of, greatest_synced, replies_of, reply_lines, synced_by, text_of}
+use Rattle.shell.specs.Caused.{is_failure, is_no_memory}
+use Rattle.shell.specs.Phases.{Shows, RunsEnd, RunsLines, RunsScript, tally_after, tally_status, tally_with}
+use Rattle.shell.proofs.Running.{goes_then, tally_then}
 use Rattle.shell.proofs.Printing.{prefix_then, prefix_front, whole_is_front}
 
 -- a front of a front is one
@@ -60,42 +58,14 @@ pub broken_off : (page : Page) (text more held mid new : List ℕ) → page.is_c
 broken_off page text more held mid new not_cut shows begun given =
     prefix_then text more held mid new (begun ∙ ap (λ list. held ++ list) (shows.whole not_cut)) given
 
--- the number in the last line is the sync's
-pub synced_is : (count : Option ℕ) (reply : Reply) → count ≡ count_of reply → unwrap_or count 0 ≡ synced_of reply
-synced_is count reply is = ap (λ o. unwrap_or o 0) is ∙ number reply
-  where
-    number : (reply : Reply) → unwrap_or (count_of reply) 0 ≡ synced_of reply
-    number Okay = refl
-    number (Synced count) = refl
-    number (Listed names) = refl
-    number (Refused cause) = refl
-    number (NoSpace short) = refl
-    number (DeviceFault dev) = refl
-    number NoMemory = refl
+-- what a cut page keeps, a page that isn't cut had
+pub not_before : (before after : Bool) → (before ≡ true → after ≡ true) → after ≡ false → before ≡ false
+not_before true after rises not = sym (rises refl) ∙ not
+not_before false after rises not = refl
 
--- the status of a run that found memory, by its sync
-pub status_uncounted : (lacks : Bool) (reply : Reply) → (lacks || is_no_memory reply) ≡ false → IsSyncReply reply → None ≡ count_of reply → 6 ≡ asked_status (lacks || is_no_memory reply) reply
-status_uncounted lacks reply found (inl is) none = absurd (counted (none ∙ ap count_of is.1))
-  where
-    counted : {n : ℕ} → None ≡ Some n → ⊥
-    counted is = absurd (cc)
-status_uncounted lacks reply found (inr (inl failed)) none = ap (λ test. if test then 6 else 0) (sym failed) ∙ ap (λ test. if test then 7 else if is_device_fault reply then 6 else 0) (sym found)
-status_uncounted true reply found (inr (inr wanting)) none = absurd (cc)
-status_uncounted false reply found (inr (inr wanting)) none = absurd (cc)
-
-pub status_counted : (lacks : Bool) (reply : Reply) → (lacks || is_no_memory reply) ≡ false → IsSyncReply reply → is_some (count_of reply) ≡ true → 0 ≡ asked_status (lacks || is_no_memory reply) reply
-status_counted lacks reply found (inl is) some = ap (λ test. if test then 6 else 0) (sym (ap is_device_fault is.1)) ∙ ap (λ test. if test then 7 else if is_device_fault reply then 6 else 0) (sym found)
-status_counted lacks reply found (inr failed) some = absurd (uncounted reply failed some)
-  where
-    uncounted : (reply : Reply) → IsTrue (is_device_fault reply) ⊎ IsTrue (is_no_memory reply) → is_some (count_of reply) ≡ true → ⊥
-    uncounted (Synced count) (inl is) some = absurd (cc)
-    uncounted (Synced count) (inr is) some = absurd (cc)
-    uncounted Okay failed some = absurd (cc)
-    uncounted (Listed names) failed some = absurd (cc)
-    uncounted (Refused cause) failed some = absurd (cc)
-    uncounted (NoSpace short) failed some = absurd (cc)
-    uncounted (DeviceFault dev) failed some = absurd (cc)
-    uncounted NoMemory failed some = absurd (cc)
+-- the status of a run that found memory
+pub status_by : (tally : Tally) (has_failed : Bool) → tally.lacks_memory ≡ false → tally.has_failed ≡ has_failed → (if has_failed then 6 else 0) ≡ tally_status tally
+status_by tally has_failed plenty is = sym (ap (λ test. if test then 7 else if tally.has_failed then 6 else 0) plenty ∙ ap (λ test. if test then 6 else 0) is)
 
 -- a call that failed has its cause, and one that didn't left the count
 pub cause_of : {T E : Type 0} (result : Result T E) (old new : ℕ) → CountsFaults result old new → is_err result ≡ true → RoseBy 1 old new
@@ -106,21 +76,55 @@ pub still_of : {T E : Type 0} (result : Result T E) (old new : ℕ) → CountsFa
 still_of (Ok x) old new counts passed = counts.still
 still_of (Err e) old new counts passed = absurd (cc)
 
-pub none_is : {T : Type 0} (o : Option T) → is_some o ≡ false → None ≡ o
-none_is None none = refl
-none_is (Some x) none = absurd (cc)
+-- a tally by its parts
+abbrev tally_of : Bool → Bool → ℕ → Tally
+tally_of memory failed synced = record { lacks_memory = memory; has_failed = failed; synced = synced }
 
-module _ {D : Type 0} (forest : Forest) (sizes : D → List ℕ) (faults : D → ℕ) where
-  -- a plan was run, where its lines and its end were
-  pub plan_ran : (tells : Type 0) (devices new : D) (base status : ℕ) (script : List Line) (start mid last : Log D) (page shown : Page) (trace : History) (held held_after : List ℕ) (sink_faults sink_faults_after : ℕ) → start ≡ record { devices = devices; base = base; files = []; durable = 0; trace = [] } → page.text ≡ [] → page.lacks_memory ≡ false → RunsLines forest sizes faults script start mid page shown → RunsEnd forest sizes faults tells mid last shown held held_after sink_faults sink_faults_after status → new ≡ last.devices → trace ≡ last.trace → RunsPlan (record { commits = base; forest = forest }) sizes faults tells script devices new held held_after sink_faults sink_faults_after status trace
-  plan_ran tells devices new base status script start mid last page shown trace held held_after sink_faults sink_faults_after begins empty plenty runs ends is_new is_trace =
-      let first : Log D = record { devices = devices; base = base; files = []; durable = 0; trace = [] } in
-      let all : GoesOn forest sizes faults first last (entries_of runs.answered ends.reply) =
-      subst (λ s. GoesOn forest sizes faults s last (entries_of runs.answered ends.reply)) begins (goes_then forest sizes faults start mid last (filter_map entry_of runs.answered) (filter_map (entry_if_any 0 Sync) (ends.reply ∷ [])) runs.history ends.history) in
-      let entries : last.trace ≡ entries_of runs.answered ends.reply = all.trace in
+or_assoc : (x y z : Bool) → ((x || y) || z) ≡ (x || (y || z))
+or_assoc true y z = refl
+or_assoc false y z = refl
+
+or_none : (x : Bool) → x ≡ (x || false)
+or_none true = refl
+or_none false = refl
+
+-- What replies amount to is what one of them says.
+tally_is : (tally : Tally) (replies : List Reply)
+    → tally_after tally replies ≡ tally_of (tally.lacks_memory || list_any is_no_memory replies) (tally.has_failed || list_any is_failure replies) (max tally.synced (greatest_synced replies))
+tally_is tally [] =
+    ap (λ test. tally_of test tally.has_failed tally.synced) (or_none tally.lacks_memory)
+    ∙ ap (λ test. tally_of (tally.lacks_memory || false) test tally.synced) (or_none tally.has_failed)
+    ∙ ap (tally_of (tally.lacks_memory || false) (tally.has_failed || false)) (let e : tally.synced ≡ max tally.synced 0 = omega arith in e)
+tally_is tally (reply ∷ replies) =
+    let failed = list_any is_failure replies in
+    let synced = greatest_synced replies in
+    tally_is (tally_with tally reply) replies
+    ∙ ap (λ test. tally_of test ((tally.has_failed || is_failure reply) || failed) (max (max tally.synced (synced_by reply)) synced)) (or_assoc tally.lacks_memory (is_no_memory reply) (list_any is_no_memory replies))
+    ∙ ap (λ test. tally_of (tally.lacks_memory || (is_no_memory reply || list_any is_no_memory replies)) test (max (max tally.synced (synced_by reply)) synced)) (or_assoc tally.has_failed (is_failure reply) failed)
+    ∙ ap (tally_of (tally.lacks_memory || (is_no_memory reply || list_any is_no_memory replies)) (tally.has_failed || (is_failure reply || failed)))
+    (let e : max (max tally.synced (synced_by reply)) synced ≡ max tally.synced (max (synced_by reply) synced) = omega arith in e)
+
+-- from none on
+tally_from_none : (replies : List Reply) → tally_after (tally_of false false 0) replies ≡ tally_of (list_any is_no_memory replies) (list_any is_failure replies) (greatest_synced replies)
+tally_from_none replies = tally_is (tally_of false false 0) replies
+    ∙ ap (tally_of (list_any is_no_memory replies) (list_any is_failure replies)) (let e : max 0 (greatest_synced replies) ≡ greatest_synced replies = omega arith in e)
+
+module _ {D : Type 0} (forest : Forest) (sizes : D → List ℕ) where
+  -- a script was run, where its lines and its end were
+  pub script_ran : (tells : Type 0) (status : ℕ) (script : List Line) (start mid last : Log D) (page shown : Page) (trace : History) (held held_after : List ℕ) (sink_faults sink_faults_after : ℕ)
+      → start.trace ≡ [] → page.text ≡ [] → page.tally ≡ tally_of false false 0 → RunsLines sizes script start mid page shown → RunsEnd forest sizes tells mid last shown held held_after sink_faults sink_faults_after status → trace ≡ last.trace
+      → RunsScript forest tells script held held_after sink_faults sink_faults_after status trace
+  script_ran tells status script start mid last page shown trace held held_after sink_faults sink_faults_after begins empty none runs ends is_trace =
+      let replies = replies_of runs.answered ends.reply in
+      let entries : last.trace ≡ entries_of runs.answered ends.reply =
+      (goes_then sizes start mid last (filter_map entry_of runs.answered) (filter_map (entry_if_any 0 Sync) (ends.reply ∷ [])) runs.history ends.history).trace ∙ ap (λ list. list ++ entries_of runs.answered ends.reply) begins in
       let shows : Shows shown (reply_lines runs.answered) = runs.shows [] (record { size = 0; front = empty; whole = λ _. empty }) in
-      let text : reply_lines runs.answered ++ end_line_of (commit_count forest last.trace) (synced_of ends.reply) ≡ text_of forest runs.answered ends.reply = ap (λ h. reply_lines runs.answered ++ end_line_of (commit_count forest h) (synced_of ends.reply)) entries in
-      let lacks : shown.lacks_memory ≡ list_any (λ a. is_no_memory a.reply) runs.answered = runs.memory ∙ ap (λ test. test || list_any (λ a. is_no_memory a.reply) runs.answered) plenty in
+      let tally : tally_with shown.tally ends.reply ≡ tally_of (list_any is_no_memory replies) (list_any is_failure replies) (greatest_synced replies) =
+      ap (λ t. tally_with t ends.reply) (runs.tally ∙ ap (λ t. tally_after t (map (λ a. a.reply) runs.answered)) none)
+      ∙ tally_then (tally_of false false 0) (map (λ a. a.reply) runs.answered) (ends.reply ∷ []) ∙ tally_from_none replies in
+      let text : reply_lines runs.answered ++ end_line_of (commit_count forest last.trace) (tally_with shown.tally ends.reply).synced ≡ text_of forest runs.answered ends.reply =
+      ap (λ h. reply_lines runs.answered ++ end_line_of (commit_count forest h) (tally_with shown.tally ends.reply).synced) entries
+      ∙ ap (λ (t : Tally). reply_lines runs.answered ++ end_line_of (commit_count forest (entries_of runs.answered ends.reply)) t.synced) tally in
       record {
         answered = runs.answered;
         last = ends.reply;
@@ -130,7 +134,5 @@ module _ {D : Type 0} (forest : Forest) (sizes : D → List ℕ) (faults : D →
         whole = λ told not5 not7. ends.whole told not5 not7 (reply_lines runs.answered) shows ∙ ap (λ list. held ++ list) text;
         failed = ends.failed;
         printed = ends.printed;
-        otherwise = λ not5. subst (λ test. (status ≡ asked_status (test || is_no_memory ends.reply) ends.reply) ⊎ (status ≡ 7)) lacks (ends.otherwise not5);
-        exact = subst (λ h. EachEntry (IsExactIn forest sizes first) h) (sym is_trace) (all.exact (EachEntry-none (IsExactIn forest sizes first)));
-        device_faults = subst (λ h. RoseBy (device_faults h) (faults devices) (faults new)) (sym is_trace) (subst (λ d. RoseBy (device_faults last.trace) (faults devices) (faults d)) (sym is_new) (all.faults_rose (faults devices) (omega (arith))));
+        otherwise = λ not5. subst (λ t. (status ≡ tally_status t) ⊎ (status ≡ 7)) tally (ends.otherwise not5);
       }

@@ -1,23 +1,20 @@
 -- The causes of statuses and failures.
-use Rattle.std.specs.Prelude.{◌≡◌, ◌≢◌, ◌⊎◌, ℕ, ◌+◌, ◌^◌, ◌<◌, ◌≤◌, ◌==◌, ◌||◌, Bool, true, false, if◌then◌else◌, List, [], ◌∷◌, codes, length, count_by, slice_index}
+use Rattle.std.specs.Prelude.{◌≡◌, ◌≢◌, ◌⊎◌, ℕ, ◌^◌, ◌<◌, ◌≤◌, Bool, true, false, if◌then◌else◌, List, [], ◌∷◌, codes, length, slice_index}
 use Rattle.std.specs.List.{list_any}
 use Rattle.vol_types.specs.Faults.{RoseBy}
-use Rattle.plain_forest.specs.Forest.{Forest}
-use Rattle.plain_forest.specs.Steps.{reply_of}
-use Rattle.plain_forest.specs.History.{History, EachEntry, after_all, commit_count}
-use Rattle.plain_forest.specs.declared.operation.Op.{Op}
-use Rattle.plain_forest.specs.declared.operation.Op.TheVariants.{Mkfile, Ls, Sync}
+use Rattle.plain_forest.specs.History.{History, EachEntry}
 use Rattle.plain_forest.specs.declared.operation.Reply.{Reply}
-use Rattle.plain_forest.specs.declared.operation.Reply.TheVariants.{Synced, DeviceFault, NoMemory}
-use Rattle.plain_forest.specs.declared.operation.Entry.{Entry}
+use Rattle.plain_forest.specs.declared.operation.Reply.TheVariants.{DeviceFault, Halted, NoMemory}
 use Rattle.script_text.specs.Lines.{lines_of}
 use Rattle.script_text.specs.Scripts.{IsScript, IsFirstBad}
 use Rattle.script_text.specs.declared.reading.Line.{Line}
 use Rattle.record_log.specs.Found.{Mounted}
-use Rattle.record_log.specs.Log.{full_reply}
+use Rattle.record_log.specs.Exact.{IsExact, has_failed}
+use Rattle.record_log.specs.Log.{IsHaltWithin, device_faults}
+use Rattle.record_log.specs.declared.halt.Halt.{Halt}
 use Rattle.shell.specs.declared.stop.Stop.{Stop}
 use Rattle.shell.specs.declared.stop.Stop.TheVariants.{Usage, BadLine, TooLong, Source, Device, Memory}
-use Rattle.shell.specs.Outcome.{Outcome, Stopped, Ran, Answered, stop_status}
+use Rattle.shell.specs.Outcome.{Outcome, Stopped, Ran, Answered, replies_of, stop_status}
 
 -- the words are the one command, for one device of at least one block
 pub record IsRun (words : List (List ℕ)) (sizes : List ℕ) : Type 0 where
@@ -25,7 +22,8 @@ pub record IsRun (words : List (List ℕ)) (sizes : List ℕ) : Type 0 where
   pub device : length sizes ≡ 1
   pub block : 1 ≤ slice_index sizes 0
 
--- how often the source, the sink and the devices had failed, before a run and after it
+-- how often the source, the sink and the devices had failed, before a run and after it; of the devices also how often at a
+-- write or a flush
 pub record Faults : Type 0 where
   pub source : ℕ
   pub source_after : ℕ
@@ -33,6 +31,8 @@ pub record Faults : Type 0 where
   pub sink_after : ℕ
   pub devices : ℕ
   pub devices_after : ℕ
+  pub writes : ℕ
+  pub writes_after : ℕ
 
 -- the most bytes of a script
 abbrev pub script_limit : ℕ
@@ -77,44 +77,25 @@ abbrev pub is_no_memory : Reply → Bool
 is_no_memory NoMemory = true
 is_no_memory reply = false
 
--- the reply says that a device failed
-abbrev pub is_device_fault : Reply → Bool
-is_device_fault (DeviceFault dev) = true
-is_device_fault reply = false
+-- the reply says that a device failed, or that the session has halted since one did
+abbrev pub is_failure : Reply → Bool
+is_failure (DeviceFault dev) = true
+is_failure (Halted dev tick) = true
+is_failure reply = false
 
--- the status of a run that printed all: 7 where memory was wanting, else 6 where the last sync failed
-abbrev pub asked_status : Bool → Reply → ℕ
-asked_status lacks_memory last = if lacks_memory then 7 else if is_device_fault last then 6 else 0
+-- the status of a run that printed all: 7 where memory was wanting for an operation, else 6 where a device failed
+abbrev pub asked_status : Bool → Bool → ℕ
+asked_status lacks_memory has_failed = if lacks_memory then 7 else if has_failed then 6 else 0
 
 -- the status that the replies of a run ask for
-abbrev pub replies_status : List Answered → Reply → ℕ
-replies_status answered last = asked_status (list_any (λ a. is_no_memory a.reply) answered || is_no_memory last) last
+abbrev pub replies_status : List Reply → ℕ
+replies_status replies = asked_status (list_any is_no_memory replies) (list_any is_failure replies)
 
 -- The status is 5 exactly where the sink failed, and else as it should be.
 pub record IsStatus (IsAsFor : ℕ → Type 0) (status : ℕ) (faults : Faults) : Type 0 where
   pub failed : status ≡ 5 → RoseBy 1 faults.sink faults.sink_after
   pub printed : status ≢ 5 → faults.sink_after ≡ faults.sink
   pub otherwise : status ≢ 5 → IsAsFor status
-
--- the forest behind these entries
-abbrev pub forest_behind : Mounted → History → Forest
-forest_behind opening before = after_all opening.forest before
-
--- a device of so many blocks has no room for one more record behind these entries
-abbrev pub is_full_behind : Mounted → ℕ → History → Bool
-is_full_behind opening blocks before = opening.commits + commit_count opening.forest before == blocks
-
--- What a session answers to an operation behind the entries before it: the forest's reply, but that there is no space
--- for a file exactly where the device is full and the forest wouldn't refuse. A sync answers with all commits before
--- it, or that the device failed.
-abbrev pub IsExactReply : Mounted → ℕ → History → Op → Reply → Type 0
-IsExactReply opening blocks before (Mkfile path) reply =
-    reply ≡ (if is_full_behind opening blocks before then full_reply (Mkfile path) (forest_behind opening before) else reply_of 0 (Mkfile path) 0 (forest_behind opening before))
-IsExactReply opening blocks before (Ls path) reply = reply ≡ reply_of 0 (Ls path) 0 (forest_behind opening before)
-IsExactReply opening blocks before Sync reply = (reply ≡ Synced (commit_count opening.forest before)) ⊎ (reply ≡ DeviceFault 0)
-
-abbrev pub IsExact : Mounted → ℕ → History → Entry → Type 0
-IsExact opening blocks before entry = IsExactReply opening blocks before entry.op entry.reply
 
 -- Why no line ran.
 pub record IsStopCaused {D : Type 0} (source_tells : Type 0) (words : List (List ℕ)) (sizes left : List ℕ) (faults : Faults) (status : ℕ) (devices devices_after : D) (stop : Stop) : Type 0 where
@@ -123,16 +104,20 @@ pub record IsStopCaused {D : Type 0} (source_tells : Type 0) (words : List (List
   pub ends : IsStatus (λ n. n ≡ stop_status stop) status faults
   pub untouched : is_before_mounting stop ≡ true → devices_after ≡ devices
 
--- Why the lines were answered as they were. The entries that say that a device failed are together at most as many as
--- the devices' failures.
-pub record IsRunCaused (source_tells : Type 0) (words : List (List ℕ)) (sizes left : List ℕ) (faults : Faults) (status : ℕ) (opening : Mounted) (trace : History) (answered : List Answered) (last : Reply) : Type 0 where
+-- Why the lines were answered as they were. Each reply is the one that a session gives at its place; once a device has
+-- failed in a sync the session has halted, with one device and one moment of the run. The entries that say that a device
+-- failed are together at most as many as the devices' failures, and as those at writes and flushes.
+pub record IsRunCaused (source_tells : Type 0) (words : List (List ℕ)) (sizes left : List ℕ) (faults : Faults) (status first last_moment : ℕ) (opening : Mounted) (trace : History) (answered : List Answered) (last : Reply) : Type 0 where
   pub text : IsText source_tells words sizes left
   pub source : faults.source_after ≡ faults.source
-  pub ends : IsStatus (λ n. (n ≡ replies_status answered last) ⊎ (n ≡ 7)) status faults
-  pub exact : EachEntry (IsExact opening (slice_index sizes 0)) trace
-  pub device_faults : RoseBy (count_by (λ entry. is_device_fault entry.reply) trace) faults.devices faults.devices_after
+  pub ends : IsStatus (λ n. (n ≡ replies_status (replies_of answered last)) ⊎ (n ≡ 7)) status faults
+  pub halt : Halt
+  pub exact : EachEntry (IsExact opening.forest opening.commits (slice_index sizes 0) halt) trace
+  pub halted : has_failed trace ≡ true → IsHaltWithin first last_moment halt
+  pub call_faults : RoseBy (device_faults trace) faults.devices faults.devices_after
+  pub write_faults : RoseBy (device_faults trace) faults.writes faults.writes_after
 
 -- the causes of a run, by how it went
-abbrev pub Caused : {D : Type 0} → Type 0 → List (List ℕ) → List ℕ → List ℕ → Faults → ℕ → D → D → Mounted → History → Outcome → Type 0
-Caused source_tells words sizes left faults status devices devices_after opening trace (Stopped stop) = IsStopCaused source_tells words sizes left faults status devices devices_after stop
-Caused source_tells words sizes left faults status devices devices_after opening trace (Ran script answered last) = IsRunCaused source_tells words sizes left faults status opening trace answered last
+abbrev pub Caused : {D : Type 0} → Type 0 → List (List ℕ) → List ℕ → List ℕ → Faults → ℕ → ℕ → ℕ → D → D → Mounted → History → Outcome → Type 0
+Caused source_tells words sizes left faults status first last_moment devices devices_after opening trace (Stopped stop) = IsStopCaused source_tells words sizes left faults status devices devices_after stop
+Caused source_tells words sizes left faults status first last_moment devices devices_after opening trace (Ran script answered last) = IsRunCaused source_tells words sizes left faults status first last_moment opening trace answered last

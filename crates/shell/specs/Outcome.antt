@@ -1,5 +1,5 @@
 -- How a run goes, from beginning to end.
-use Rattle.std.specs.Prelude.{ℕ, List, [], ◌∷◌, ◌++◌, codes, Option, Some, None}
+use Rattle.std.specs.Prelude.{ℕ, List, [], ◌∷◌, ◌++◌, map, max, codes, Option, Some, None}
 use Rattle.std.specs.List.{filter_map, flat_map}
 use Rattle.std.specs.Fmt.{decimal}
 use Rattle.plain_forest.specs.Forest.{Forest}
@@ -58,6 +58,7 @@ abbrev pub entry_by : Option Op → ℕ → Reply → Option Entry
 entry_by None client reply = None
 entry_by (Some op) client reply = entry_if_any client op reply
 
+-- the entry of this line
 abbrev pub entry_of : Answered → Option Entry
 entry_of answered = entry_by answered.line.op answered.line.client answered.reply
 
@@ -70,6 +71,7 @@ abbrev pub reply_line_by : Option Op → ℕ → ℕ → Reply → List ℕ
 reply_line_by None client number reply = []
 reply_line_by (Some op) client number reply = reply_line_of client number reply
 
+-- the line that answers this line
 abbrev pub reply_line : Answered → List ℕ
 reply_line answered = reply_line_by answered.line.op answered.line.client answered.line.line answered.reply
 
@@ -77,11 +79,20 @@ reply_line answered = reply_line_by answered.line.op answered.line.client answer
 abbrev pub reply_lines : List Answered → List ℕ
 reply_lines answered = flat_map reply_line answered
 
--- how many commits a last sync says are durable
-abbrev pub synced_of : Reply → ℕ
-synced_of (Synced count) = count
-synced_of reply = 0
+-- the replies of a run: those to its lines, and the one to its last sync
+abbrev pub replies_of : List Answered → Reply → List Reply
+replies_of answered last = map (λ a. a.reply) answered ++ last ∷ []
+
+-- how many commits a reply says are durable; 0 where it says nothing of that
+abbrev pub synced_by : Reply → ℕ
+synced_by (Synced count) = count
+synced_by reply = 0
+
+-- the greatest number of commits that one of the replies says are durable, or 0
+abbrev pub greatest_synced : List Reply → ℕ
+greatest_synced [] = 0
+greatest_synced (reply ∷ replies) = max (synced_by reply) (greatest_synced replies)
 
 -- all that a run prints whose lines were answered
 abbrev pub text_of : Forest → List Answered → Reply → List ℕ
-text_of opening answered last = reply_lines answered ++ end_line_of (commit_count opening (entries_of answered last)) (synced_of last)
+text_of opening answered last = reply_lines answered ++ end_line_of (commit_count opening (entries_of answered last)) (greatest_synced (replies_of answered last))

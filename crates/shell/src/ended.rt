@@ -10,8 +10,8 @@ pub struct Ended<D> {
     pub devices: D,
     /// The history: each operation that was answered, with its reply.
     pub trace: Trace,
-    /// The acknowledgements, in order.
+    /// The acknowledgements, in order: one for each sync that succeeded.
     pub acks: Acks,
-    /// The answers that there was no space, in order.
+    /// The answers that there was no space, in order. The log keeps none of them yet, so the list is empty.
     pub shorts: Shorts,
 }

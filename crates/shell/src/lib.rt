@@ -7,6 +7,7 @@ mod phases;
 mod prepare;
 mod run;
 mod stop;
+mod tally;
 
 pub use ended::Ended;
 pub use run::run_words;

@@ -18,7 +18,7 @@ pub fn run_lines<D: Devices, O: Opening, G: Gate>(
     page: &mut Page,
 )
     requires { AreFlat script.now }
-    ensures { RunsLines O.forest D.sizes D.faults script.now log.old log.new page.old page.new }
+    ensures { RunsLines D.sizes script.now log.old log.new page.old page.new }
 {
     for line in script {
         run_line(log, line, gate, page);
@@ -33,7 +33,7 @@ fn run_line<D: Devices, O: Opening, G: Gate>(
     page: &mut Page,
 )
     requires { IsFlatLine line.now }
-    ensures { RunsLines O.forest D.sizes D.faults (line.now ∷ []) log.old log.new page.old page.new }
+    ensures { RunsLines D.sizes (line.now ∷ []) log.old log.new page.old page.new }
 {
     if let Some(op) = &line.op {
         gate.at(line.client, BEFORE_COMMIT);
@@ -45,10 +45,9 @@ fn answer<D: Devices, O: Opening>(log: &mut RecordLog<D, O>, line: &Line, op: &O
     requires flat { IsFlat op.now }
     requires op { line.now.op ≡ Some op.now }
     requires client { line.now.client ≡ 0 }
-    ensures { RunsLines O.forest D.sizes D.faults (line.now ∷ []) log.old log.new page.old page.new }
+    ensures { RunsLines D.sizes (line.now ∷ []) log.old log.new page.old page.new }
 {
     if log.call(op).is_err() {
-        page.note_no_memory();
         add_reply(page, line.client, line.line, &Reply::NoMemory);
         return;
     }
@@ -58,45 +57,41 @@ fn answer<D: Devices, O: Opening>(log: &mut RecordLog<D, O>, line: &Line, op: &O
     }
 }
 
-/// Makes every commit durable. The number of commits that are, or none where a device failed or memory was wanting,
-/// which the page notes.
-pub fn final_sync<D: Devices, O: Opening>(log: &mut RecordLog<D, O>, page: &mut Page) -> Option<u64>
-    ensures { RunsSync O.forest D.sizes D.faults log.old log.new page.old page.new result }
+/// Makes every commit durable, and notes the reply.
+pub fn final_sync<D: Devices, O: Opening>(log: &mut RecordLog<D, O>, page: &mut Page)
+    ensures { RunsSync D.sizes log.old log.new page.old page.new }
 {
     if log.call(&Op::Sync).is_err() {
-        page.note_no_memory();
-        return None;
+        page.note(&Reply::NoMemory);
+        return;
     }
     match log.last() {
-        Some(entry) => match &entry.reply {
-            Reply::Synced(count) => Some(*count),
-            _ => None,
-        },
+        Some(entry) => page.note(&entry.reply),
         None => unreachable!(),
     }
 }
 
 /// Prints the page, makes every commit durable, and prints the last line. The status of the run: 5 where the sink
-/// failed, else 7 where memory was wanting, else 6 where the sync failed, else 0.
+/// failed, else 7 where memory was wanting, else 6 where a device failed, else 0.
 pub fn end_run<K: Sink, D: Devices, O: Opening>(
     log: &mut RecordLog<D, O>,
     page: &mut Page,
     sink: &mut K,
 ) -> u8
-    ensures { RunsEnd O.forest D.sizes D.faults K.tells log.old log.new page.old (K.held sink.old) (K.held sink.new) (K.faults sink.old) (K.faults sink.new) result }
+    ensures { RunsEnd O.forest D.sizes K.tells log.old log.new page.old (K.held sink.old) (K.held sink.new) (K.faults sink.old) (K.faults sink.new) result }
 {
     let begun = print_lines(page, sink);
-    let synced = final_sync(log, page);
+    final_sync(log, page);
     if begun.is_err() {
         return 5;
     }
-    if print_end(page, log.commits(), synced.unwrap_or(0), sink).is_err() {
+    if print_end(page, log.commits(), sink).is_err() {
         return 5;
     }
-    if page.is_cut || page.lacks_memory {
+    if page.is_cut || page.tally.lacks_memory {
         return 7;
     }
-    if synced.is_none() {
+    if page.tally.has_failed {
         return 6;
     }
     0

@@ -3,6 +3,7 @@ ghost use Rattle.std.specs.Rc.{rc_str_bytes};
 ghost use Rattle.dev_model.specs.Disk.{as_read};
 ghost use Rattle.dev_model.specs.Devices.{now};
 ghost use Rattle.record_log.specs.Found.{IsMounted};
+ghost use Rattle.record_log.specs.Durable.{StaysSo};
 ghost use Rattle.script_text.specs.Lines.{lines_of};
 ghost use Rattle.script_text.specs.Scripts.{IsScript};
 ghost use Rattle.shell.specs.Flat.{AreFlat};
@@ -43,6 +44,9 @@ pub fn prepare<S: Source, D: Devices>(
     ensures still { OnOk result (S.faults source.new ≡ S.faults source.old) }
     ensures sizes { D.sizes devices.new ≡ D.sizes devices.old }
     ensures faults { D.faults devices.old ≤ D.faults devices.new }
+    ensures write_faults { D.write_faults devices.new ≡ D.write_faults devices.old }
+    ensures moment { (D.history devices.old).moment ≤ (D.history devices.new).moment }
+    ensures stays { D.tells → StaysSo (D.history devices.old) (D.history devices.new) }
 
     // Why a run stops, and what it has touched by then.
     ensures cause { IfErr result (StopCause S.tells (map rc_str_bytes words.now) (D.sizes devices.old) (S.left source.old) (D.faults devices.old) (D.faults devices.new)) }

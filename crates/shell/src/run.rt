@@ -1,12 +1,20 @@
-ghost use Rattle.std.specs.Prelude.{◌≡◌, ◌≢◌, ◌≤◌, ◌++◌, [], map, slice_index};
+ghost use Rattle.std.specs.Prelude.{◌≡◌, ◌≢◌, ◌≤◌, ◌++◌, [], ℕ, Option, map, slice_index};
+ghost use Rattle.std.specs.Rc.{rc_str_bytes};
 ghost use Rattle.vol_types.specs.Faults.{RoseBy};
 ghost use Rattle.text_io.specs.Streams.{GivesPrefix};
+ghost use Rattle.dev_model.specs.Disk.{as_read};
+ghost use Rattle.dev_model.specs.Devices.{now};
+ghost use Rattle.plain_forest.specs.History.{EachEntry, IsLegal};
+ghost use Rattle.record_log.specs.Found.{IsMounted, mounted_as};
+ghost use Rattle.record_log.specs.Exact.{IsExact};
+ghost use Rattle.record_log.specs.Acknowledged.{AreAcks};
+ghost use Rattle.record_log.specs.Survives.{Survives};
+ghost use Rattle.record_log.specs.Log.{HasHalted, device_faults, halt_or_none};
+ghost use Rattle.record_log.specs.declared.halt.Halt.{Halt};
 ghost use Rattle.shell.specs.Outcome.{stop_line, stop_status};
-ghost use Rattle.plain_forest.specs.History.{IsLegal};
-ghost use Rattle.std.specs.Rc.{rc_str_bytes};
 ghost use Rattle.shell.specs.Flat.{AreFlat};
 ghost use Rattle.shell.specs.Headline.{Headline};
-ghost use Rattle.shell.specs.Phases.{RunsPlan};
+ghost use Rattle.shell.specs.Phases.{RunsScript};
 
 use crate::ended::Ended;
 use crate::page::Page;
@@ -15,7 +23,7 @@ use crate::prepare::{Plan, prepare};
 use crate::stop::{Stop, print_stop, status_of};
 use dev_model::{Devices, Gate};
 use plain_forest::Trace;
-use record_log::{Acks, Opening, RecordLog, Shorts};
+use record_log::{Acks, Finished, Opening, RecordLog, Shorts, reading_is_survived, survives_since};
 use std::alloc::Global;
 use std::marker::Brand;
 use std::rc::RcStr;
@@ -36,8 +44,10 @@ pub fn run_words<R, S: Source, K: Sink, D: Devices, G: Gate>(
     devices: D,
     gate: &G,
 ) -> Ended<D>
-    ensures { Headline S.tells K.tells D.tells D.history (record { words = map rc_str_bytes words.now; streams = record { left = S.left source.old; held = K.held sink.old; held_after = K.held sink.new }; faults = record { source = S.faults source.old; source_after = S.faults source.new; sink = K.faults sink.old; sink_after = K.faults sink.new; devices = D.faults devices; devices_after = D.faults result.devices }; sizes = D.sizes devices; devices = devices; devices_after = result.devices; status = result.status; trace = result.trace }) }
+    ensures { Headline S.tells K.tells D.tells D.history (record { words = map rc_str_bytes words.now; streams = record { left = S.left source.old; held = K.held sink.old; held_after = K.held sink.new }; faults = record { source = S.faults source.old; source_after = S.faults source.new; sink = K.faults sink.old; sink_after = K.faults sink.new; devices = D.faults devices; devices_after = D.faults result.devices; writes = D.write_faults devices; writes_after = D.write_faults result.devices }; sizes = D.sizes devices; devices = devices; devices_after = result.devices; status = result.status; trace = result.trace; acks = result.acks }) }
 {
+    reading_is_survived();
+    survives_since();
     let mut devices = devices;
     match prepare(alloc, words, source, &mut devices) {
         Ok(plan) => run_plan::<K, D, G, Brand>(alloc, plan, sink, devices, gate),
@@ -48,6 +58,7 @@ pub fn run_words<R, S: Source, K: Sink, D: Devices, G: Gate>(
 // No line ran.
 fn end_early<K: Sink, D: Devices>(alloc: Global, stop: Stop, sink: &mut K, devices: D) -> Ended<D>
     ensures nothing { result.trace ≡ [] }
+    ensures no_acks { result.acks ≡ [] }
     ensures devices { result.devices ≡ devices }
     ensures front { K.tells → GivesPrefix (stop_line stop) (K.held sink.old) (K.held sink.new) }
     ensures whole { K.tells → result.status ≢ 5 → K.held sink.new ≡ K.held sink.old ++ stop_line stop }
@@ -65,7 +76,7 @@ fn end_early<K: Sink, D: Devices>(alloc: Global, stop: Stop, sink: &mut K, devic
     }
 }
 
-// Runs each line, and then a sync.
+// Runs each line, and then a sync. What holds of the session from its beginning on is said as the session says it.
 fn run_plan<K: Sink, D: Devices, G: Gate, O: Opening>(
     alloc: Global,
     plan: Plan,
@@ -74,22 +85,36 @@ fn run_plan<K: Sink, D: Devices, G: Gate, O: Opening>(
     gate: &G,
 ) -> Ended<D>
     requires opening { plan.loaded.forest ≡ O.forest }
+    requires start { O.start ≡ record { moments = D.history devices; sizes = D.sizes devices; faults = D.faults devices; write_faults = D.write_faults devices } }
+    requires mounted { D.tells → IsMounted (as_read (now (D.history devices))) plan.loaded.records plan.loaded.forest }
     requires room { plan.loaded.records ≤ slice_index (D.sizes devices) 0 }
     requires flat { AreFlat plan.script }
     ensures legal { IsLegal O.forest result.trace }
-    ensures ran { RunsPlan (record { commits = plan.loaded.records; forest = O.forest }) D.sizes D.faults K.tells plan.script devices result.devices (K.held sink.old) (K.held sink.new) (K.faults sink.old) (K.faults sink.new) result.status result.trace }
+    ensures ran { RunsScript O.forest K.tells plan.script (K.held sink.old) (K.held sink.new) (K.faults sink.old) (K.faults sink.new) result.status result.trace }
+    ensures caused { (halted : Option Halt) × HasHalted (D.history devices).moment (D.history result.devices).moment result.trace halted × EachEntry (IsExact O.forest plan.loaded.records (slice_index (D.sizes devices) 0) (halt_or_none halted)) result.trace }
+    ensures faults { RoseBy (device_faults result.trace) (D.faults devices) (D.faults result.devices) }
+    ensures write_faults { RoseBy (device_faults result.trace) (D.write_faults devices) (D.write_faults result.devices) }
+    ensures acknowledged { AreAcks (D.history devices).moment (D.history result.devices).moment result.trace result.acks }
+    ensures survives { D.tells → Survives (mounted_as plan.loaded.records O.forest) (D.history devices) (D.history result.devices) result.trace result.acks }
+    ensures past { D.tells → (m : ℕ) → m ≤ (D.history devices).moment → (D.history result.devices).disks m ≡ (D.history devices).disks m }
+    ensures later { (D.history devices).moment ≤ (D.history result.devices).moment }
 {
     let Plan { script, loaded } = plan;
     let mut log = RecordLog::<D, O>::start(alloc, devices, loaded);
     let mut page = Page::new(alloc);
     run_lines(&mut log, script.as_slice(), gate, &mut page);
     let status = end_run(&mut log, &mut page, sink);
-    let (devices, trace) = log.finish();
+    let Finished {
+        devices,
+        trace,
+        acks,
+        ..
+    } = log.finish();
     Ended {
         status,
         devices,
         trace,
-        acks: Acks::new(alloc),
+        acks,
         shorts: Shorts::none(alloc),
     }
 }

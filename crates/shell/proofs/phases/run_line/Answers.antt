@@ -2,4 +2,4 @@ use Rattle.shell.proofs.Running.{runs_barrier}
 use Rattle.shell.proofs.phases.run_line.Goals as goal
 
 pub returns-in_default : goal.returns-in_default
-returns-in_default g c = runs_barrier g.O.Opening.forest g.D.Devices.sizes g.D.Devices.faults c.args.line.now c.args.log.now c.args.page.now c.in_default.is
+returns-in_default g c = runs_barrier g.D.Devices.sizes c.args.line.now c.args.log.now c.args.page.now c.in_default.is

@@ -5,22 +5,20 @@ use Rattle.shell.proofs.Running.{runs_none, runs_then}
 use Rattle.shell.proofs.phases.run_lines.Goals as goal
 
 pub loop-line-init : goal.loop-line-init
-loop-line-init g c = runs_none g.O.Opening.forest g.D.Devices.sizes g.D.Devices.faults c.args.log.now c.args.page.now
+loop-line-init g c = runs_none g.D.Devices.sizes c.args.log.now c.args.page.now
 
 pub loop-line-preserved : goal.loop-line-preserved
 loop-line-preserved g c =
-    let O = g.O.Opening in
     let D = g.D.Devices in
     let script = c.args.script.now in
     let i = c.loop-line.line-index in
     let line = c.line-item.result in
     let lines : take (i + 1) script ≡ take i script ++ line ∷ [] = take_more script i line (omega (arith, c.loop-line-test.true)) ∙ ap (λ l. take i script ++ l ∷ []) (sym c.line-item.is) in
-    subst (λ list. RunsLines O.forest D.sizes D.faults list c.args.log.now c.run_line.new.log c.args.page.now c.run_line.new.page) (sym lines)
-    (runs_then O.forest D.sizes D.faults (take i script) (line ∷ []) c.args.log.now c.loop-line.log c.run_line.new.log c.args.page.now c.loop-line.page c.run_line.new.page c.loop-line.invariant c.run_line.ensures)
+    subst (λ list. RunsLines D.sizes list c.args.log.now c.run_line.new.log c.args.page.now c.run_line.new.page) (sym lines)
+    (runs_then D.sizes (take i script) (line ∷ []) c.args.log.now c.loop-line.log c.run_line.new.log c.args.page.now c.loop-line.page c.run_line.new.page c.loop-line.invariant c.run_line.ensures)
 
 pub returns : goal.returns
 returns g c =
-    let O = g.O.Opening in
     let D = g.D.Devices in
     let script = c.args.script.now in
-    subst (λ list. RunsLines O.forest D.sizes D.faults list c.args.log.now c.loop-line.log c.args.page.now c.loop-line.page) (take_all c.loop-line.line-index script (omega (arith, c.loop-line-test.false))) c.loop-line.invariant
+    subst (λ list. RunsLines D.sizes list c.args.log.now c.loop-line.log c.args.page.now c.loop-line.page) (take_all c.loop-line.line-index script (omega (arith, c.loop-line-test.false))) c.loop-line.invariant
