@@ -9,6 +9,14 @@ mod first_runs;
 #[cfg(test)]
 mod full_device;
 #[cfg(test)]
+mod pieces;
+#[cfg(test)]
 mod refused_scripts;
 #[cfg(test)]
 mod runs;
+#[cfg(test)]
+mod stop_table;
+#[cfg(test)]
+mod stops;
+#[cfg(test)]
+mod syncs;

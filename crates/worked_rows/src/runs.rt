@@ -1,51 +1,101 @@
 use dev_model::{MemDevices, NoGate};
-use plain_forest::Trace;
+use plain_forest::{Cause, Op, Reply, Trace};
+use record_log::Acks;
 use shell::{Ended, run_words};
 use std::alloc::{AllocError, Global};
 use std::rc::RcStr;
 use text_io::{MemSink, MemSource};
+use vol_types::Bytes;
 
-/// What a run left: its status, the devices, the history, and what the sink holds.
+/// What a run left: its status, the devices, the history, the acknowledgements, and what the sink holds.
 #[derive(Drop)]
 pub struct Ran {
     pub status: u8,
     pub devices: MemDevices,
     pub trace: Trace,
+    pub acks: Acks,
     pub sink: MemSink,
 }
 
 /// Runs a script with the word `run`.
 pub fn run(alloc: Global, script: &[u8], devices: MemDevices) -> Result<Ran, AllocError> {
-    run_with(alloc, &["run"], script, &[], &[], devices)
+    let mut source = MemSource::new(alloc, script, &[])?;
+    let sink = MemSink::new(alloc, &[])?;
+    run_over(alloc, &["run"], &mut source, sink, devices)
 }
 
-/// Runs a script with these words, over a source and a sink whose calls with these numbers fail.
-pub fn run_with(
+/// Runs what the source gives, with these words.
+pub fn run_over(
     alloc: Global,
     words: &[&str],
-    script: &[u8],
-    failing_takes: &[u64],
-    failing_gives: &[u64],
+    source: &mut MemSource,
+    sink: MemSink,
     devices: MemDevices,
 ) -> Result<Ran, AllocError> {
     let mut all = Vec::new(alloc);
     for word in words {
         all.push(RcStr::from_str(alloc, word)?)?;
     }
-    let mut source = MemSource::new(alloc, script, failing_takes)?;
-    let mut sink = MemSink::new(alloc, failing_gives)?;
-    let ended = run_words(&(), alloc, &all, &mut source, &mut sink, devices, &NoGate);
+    let mut sink = sink;
+    let ended = run_words(&(), alloc, &all, source, &mut sink, devices, &NoGate);
     let Ended {
         status,
         devices,
         trace,
-        acks: _,
+        acks,
         shorts: _,
     } = ended;
     Ok(Ran {
         status,
         devices,
         trace,
+        acks,
         sink,
     })
+}
+
+/// The history as two letters for each entry. The first is the operation: `m` makes a file, `l` lists, and `s` syncs. The
+/// second is the reply: `k` for Okay, `e` for a name that exists, `b` for a bad path, `f` for a full device, `d` for a
+/// failed one, `h` for a session that has halted, and the number of names of a listing or of commits of a sync.
+pub fn letters(alloc: Global, trace: &Trace) -> Result<Bytes, AllocError> {
+    let mut letters = Bytes::new(alloc);
+    for entry in trace.as_slice() {
+        letters.extend_from_slice(&[letter_of(&entry.op), letter(&entry.reply)])?;
+    }
+    Ok(letters)
+}
+
+fn letter_of(op: &Op) -> u8 {
+    match op {
+        Op::Mkfile { .. } => b'm',
+        Op::Ls { .. } => b'l',
+        Op::Sync => b's',
+    }
+}
+
+fn letter(reply: &Reply) -> u8 {
+    match reply {
+        Reply::Okay => b'k',
+        Reply::Refused(Cause::Exists) => b'e',
+        Reply::Refused(Cause::BadPath) => b'b',
+        Reply::NoSpace(_) => b'f',
+        Reply::DeviceFault(0) => b'd',
+        Reply::Halted { dev: 0, .. } => b'h',
+        Reply::List(names) if names.len() < 10 => b'0' + names.len() as u8,
+        Reply::Synced(count) if *count < 10 => b'0' + *count as u8,
+        _ => b'?',
+    }
+}
+
+/// Whether the run acknowledged just these numbers of commits, in this order, at moments that don't fall.
+pub fn has_acks(ran: &Ran, counts: &[u64]) -> bool {
+    let mut moment = 0;
+    let mut acks = ran.acks.as_slice().iter();
+    for count in counts {
+        match acks.next() {
+            Some(ack) if ack.commits == *count && ack.moment >= moment => moment = ack.moment,
+            _ => return false,
+        }
+    }
+    acks.next().is_none()
 }
