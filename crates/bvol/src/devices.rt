@@ -31,6 +31,11 @@ pub enum OpenFault {
 }
 
 impl<T: Drop> From<AllocFailed<T>> for OpenFault {
+    ghost use Rattle.std.specs.Prelude.{◌≡◌};
+    ghost use Rattle.bvol.specs.declared.devices.OpenFault.TheVariants.{NoMemory};
+
+    ghost from_gives = { λ _ fault. fault ≡ NoMemory };
+
     fn from(_error: AllocFailed<T>) -> Self {
         OpenFault::NoMemory
     }

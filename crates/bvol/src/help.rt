@@ -26,7 +26,8 @@ bvol run -- IMAGE < SCRIPT
 
 Reads the whole script, opens the volume in IMAGE, answers each line, and then
 makes all changes durable. `run` has no options. A script that has a bad line
-changes nothing.
+changes nothing. Whenever the run is stopped, and however, IMAGE has the volume
+after some first part of its commits, with all that a `sync` had acknowledged.
 
 IMAGE holds one block for each whole 4,096 bytes. Each commit that a run makes
 takes one block for good.
@@ -34,18 +35,23 @@ takes one block for good.
 script lines, each ended by a line feed:
   mkfile main:/NAME    make an empty file in the root of the subvolume main
   ls main:/            list the names in that root, in order of their bytes
+  sync                 make all commits so far durable
 A NAME is one byte or more, each from ! to ~ but neither / nor %. It has at most
 255 bytes. One space stands between a verb and its path, and nowhere else.
 
 replies, one a line, with the client (0) and the number of the script's line:
   @0 1 ok                    done
   @0 2 list a b              the names
+  @0 3 ok 2                  two commits of this run are on the disk, by `sync`
   @0 3 err exists            the name is there already
   @0 3 err bad-path          the name is too long
   @0 3 err no-space need 0   the image has no block left for the commit
+  @0 3 err device 0          the `sync` couldn't write to IMAGE, and the run halts:
+                             from here on it changes and writes nothing
+  @0 4 err halted 0          it has halted; `ls` goes on
   @0 3 err no-memory         memory was wanting
 The last line is `end commits N synced M`: the run made N commits, and M of them
-are on the disk.
+are known to be on the disk.
 
 exit status:
   0  the script ran, and all its commits are on the disk
@@ -55,7 +61,8 @@ exit status:
   4  error 4 source: standard input couldn't be read
   5  standard output couldn't be written
   6  error 6 device D: file D, from 0, isn't there, or can't be read and written
-     without that line: the last changes couldn't be written
+     without that line: the last changes couldn't be written, as the replies
+     or M in the last line say
   7  error 7 memory: memory was wanting; after the replies without that line
 
 example:

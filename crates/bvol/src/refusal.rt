@@ -1,3 +1,6 @@
+ghost use Rattle.std.specs.Prelude.{◌≡◌};
+ghost use Rattle.bvol.specs.Refusals.{refusal_status};
+
 use crate::devices::OpenFault;
 use std::alloc::{AllocError, AllocFailed};
 use std::{fmt, io};
@@ -15,7 +18,9 @@ pub enum Refusal {
 
 impl Refusal {
     /// The status with which the program ends.
-    pub fn status(self) -> u8 {
+    pub fn status(self) -> u8
+        ensures { result ≡ refusal_status self }
+    {
         match self {
             Refusal::Usage => 1,
             Refusal::Device(_) => 6,
@@ -35,18 +40,33 @@ impl fmt::Display for Refusal {
 }
 
 impl From<AllocError> for Refusal {
+    ghost use Rattle.std.specs.Prelude.{◌≡◌};
+    ghost use Rattle.bvol.specs.declared.refusal.Refusal.TheVariants.{Memory};
+
+    ghost from_gives = { λ _ refusal. refusal ≡ Memory };
+
     fn from(_error: AllocError) -> Self {
         Refusal::Memory
     }
 }
 
 impl<T: Drop> From<AllocFailed<T>> for Refusal {
+    ghost use Rattle.std.specs.Prelude.{◌≡◌};
+    ghost use Rattle.bvol.specs.declared.refusal.Refusal.TheVariants.{Memory};
+
+    ghost from_gives = { λ _ refusal. refusal ≡ Memory };
+
     fn from(_error: AllocFailed<T>) -> Self {
         Refusal::Memory
     }
 }
 
 impl From<OpenFault> for Refusal {
+    ghost use Rattle.std.specs.Prelude.{◌≡◌};
+    ghost use Rattle.bvol.specs.Refusals.{refusal_of};
+
+    ghost from_gives = { λ fault refusal. refusal ≡ refusal_of fault };
+
     fn from(fault: OpenFault) -> Self {
         match fault {
             OpenFault::Device(dev) => Refusal::Device(dev),
