@@ -1,4 +1,6 @@
-ghost use Rattle.std.specs.Prelude.{◌≡◌, ◌≤◌, length, IfSome};
+ghost use Rattle.std.specs.Prelude.{◌≡◌, ◌<◌, ◌≤◌, length, map, option_map, IfSome};
+ghost use Rattle.std.specs.Rc.{rc_str_bytes};
+ghost use Rattle.bvol.specs.Arguments.{is_dashes, first_dashes, words_and_files};
 
 use crate::devices::MOST_DEVICES;
 use crate::help::{HELP, RUN_HELP};
@@ -16,12 +18,33 @@ pub fn help_for(args: &[RcStr]) -> Option<&'static str> {
 /// The words before the first `--`, and the image files behind it. None where there is no `--`, no file, or more files
 /// than there can be devices.
 pub fn words_and_paths(args: &[RcStr]) -> Option<(&[RcStr], &[RcStr])>
+    ensures parts { option_map (λ parts. (map rc_str_bytes parts.0.now, map rc_str_bytes parts.1.now)) result ≡ words_and_files (map rc_str_bytes args.now) }
     ensures files { IfSome result (λ parts. (1 ≤ length parts.1.now) × (length parts.1.now ≤ 8)) }
 {
-    let dashes = args.iter().position(|arg| arg.as_str() == "--")?;
+    let dashes = first_dashes(args)?;
     let paths = &args[dashes + 1..];
     if paths.is_empty() || paths.len() > MOST_DEVICES {
         return None;
     }
     Some((&args[..dashes], paths))
+}
+
+// The place of the first `--`.
+fn first_dashes(args: &[RcStr]) -> Option<usize>
+    ensures place { result ≡ first_dashes (map rc_str_bytes args.now) }
+    ensures within { IfSome result (λ place. place < length args.now) }
+{
+    for place in 0..args.len() {
+        if is_dashes(&args[place]) {
+            return Some(place);
+        }
+    }
+    None
+}
+
+// Whether the argument is `--`.
+fn is_dashes(arg: &RcStr) -> bool
+    ensures { result ≡ is_dashes (rc_str_bytes arg.now) }
+{
+    arg.as_str() == "--"
 }
