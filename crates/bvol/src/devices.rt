@@ -80,6 +80,8 @@ impl<F: FileExt + OpenFile + Drop> Devices for FileDevices<F> {
 
     ghost sound = { λ told _. absurd told };
 
+    ghost steady = { λ told _ _ _. absurd told };
+
     fn count(&self) -> u8 {
         self.images.len() as u8
     }
