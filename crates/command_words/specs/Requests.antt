@@ -1,0 +1,45 @@
+-- What the words on the command line ask for.
+use Rattle.std.specs.Prelude.{ℕ, List, [], ◌∷◌, Option, Some, None, codes, if◌then◌else◌, option_and_then, option_map}
+use Rattle.std.specs.Str.{bytes_eq}
+use Rattle.uuid.specs.Text.{parsed}
+use Rattle.command_words.specs.Numbers.{number}
+use Rattle.command_words.specs.Options.{Text, options_of, value_of}
+use Rattle.command_words.specs.declared.request.FormatRequest.{FormatRequest}
+use Rattle.command_words.specs.declared.request.Request.{Request}
+use Rattle.command_words.specs.declared.request.Request.TheVariants.{Run, Format}
+
+-- the number that a text spells, or this one where there is no text
+abbrev pub number_or : ℕ → Option Text → Option ℕ
+number_or otherwise None = Some otherwise
+number_or otherwise (Some text) = number text
+
+-- the request that the values of the options make, where `value` gives what an option is given
+abbrev pub format_with : (Text → Option Text) → Option FormatRequest
+format_with value =
+    option_and_then (λ id.
+    option_and_then (λ blocks.
+    option_and_then (λ journal.
+    option_and_then (λ data_replicas.
+    option_map (λ meta_replicas. record { id = id; blocks = blocks; journal = journal; data_replicas = data_replicas; meta_replicas = meta_replicas })
+    (number_or 1 (value (codes "meta-replicas"))))
+    (number_or 1 (value (codes "data-replicas"))))
+    (number_or 256 (value (codes "journal"))))
+    (option_and_then number (value (codes "blocks"))))
+    (option_and_then parsed (value (codes "id")))
+
+-- what the words behind `format` ask for
+abbrev pub format_of : List Text → Option FormatRequest
+format_of words = option_and_then (λ given. format_with (λ name. value_of name given)) (options_of words)
+
+-- what the words behind `run` ask for: there are none
+abbrev pub run_of : List Text → Option Request
+run_of [] = Some Run
+run_of (word ∷ words) = None
+
+-- what the words ask for, by the first of them
+abbrev pub request_of : List Text → Option Request
+request_of [] = None
+request_of (command ∷ words) =
+    if bytes_eq command (codes "run") then run_of words
+    else if bytes_eq command (codes "format") then option_map Format (format_of words)
+    else None

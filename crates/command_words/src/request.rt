@@ -1,0 +1,84 @@
+ghost use Rattle.std.specs.Prelude.{◌≡◌, IfErr, IfOk, Some, None, map};
+ghost use Rattle.std.specs.Rc.{rc_str_bytes};
+ghost use Rattle.command_words.specs.Requests.{request_of, run_of};
+
+use crate::format::read_format;
+use std::alloc::{AllocError, Global};
+use std::rc::RcStr;
+
+/// What the words ask for.
+#[derive(Clone, Copy, Debug, PartialEq, Eq)]
+pub enum Request {
+    /// To run the script on standard input.
+    Run,
+
+    /// To make a new volume.
+    Format(FormatRequest),
+}
+
+/// A new volume, as it is asked for. No number is judged against the devices.
+#[derive(Clone, Copy, Debug, PartialEq, Eq)]
+pub struct FormatRequest {
+    /// The volume's id.
+    pub id: [u8; 16],
+
+    /// The number of blocks of each device.
+    pub blocks: u64,
+
+    /// The number of blocks of the journal.
+    pub journal: u64,
+
+    /// The number of copies of each extent of data.
+    pub data_replicas: u64,
+
+    /// The number of copies of each node of a tree.
+    pub meta_replicas: u64,
+}
+
+/// Why the words ask for nothing.
+#[derive(Clone, Copy, Debug, PartialEq, Eq)]
+pub enum WordsFault {
+    /// The words are no request.
+    Usage,
+
+    /// Memory ran out before it was known what they ask for.
+    NoMemory,
+}
+
+impl From<AllocError> for WordsFault {
+    ghost use Rattle.std.specs.Prelude.{◌≡◌};
+    ghost use Rattle.command_words.specs.declared.request.WordsFault.TheVariants.{NoMemory};
+
+    ghost from_gives = { λ _ fault. fault ≡ NoMemory };
+
+    fn from(_: AllocError) -> Self {
+        WordsFault::NoMemory
+    }
+}
+
+/// Reads the words before the first `--`: a command and its options.
+pub fn read_words(alloc: Global, words: &[RcStr]) -> Result<Request, WordsFault>
+    ensures ok { IfOk result (λ request. request_of (map rc_str_bytes words.now) ≡ Some request) }
+    ensures usage { IfErr result (λ fault. fault ≡ WordsFault.Usage → request_of (map rc_str_bytes words.now) ≡ None) }
+{
+    let (command, options) = words.split_first().ok_or(WordsFault::Usage)?;
+    if command.as_str() == "run" {
+        read_run(options)
+    } else if command.as_str() == "format" {
+        Ok(Request::Format(read_format(alloc, options)?))
+    } else {
+        Err(WordsFault::Usage)
+    }
+}
+
+// What the words behind `run` ask for.
+fn read_run(options: &[RcStr]) -> Result<Request, WordsFault>
+    ensures ok { IfOk result (λ request. run_of (map rc_str_bytes options.now) ≡ Some request) }
+    ensures usage { IfErr result (λ fault. fault ≡ WordsFault.Usage → run_of (map rc_str_bytes options.now) ≡ None) }
+{
+    if options.is_empty() {
+        Ok(Request::Run)
+    } else {
+        Err(WordsFault::Usage)
+    }
+}

@@ -1,0 +1,242 @@
+use crate::{FormatRequest, Request, WordsFault, id_text, read_number, read_words};
+use std::alloc::Global;
+use std::rc::RcStr;
+use std::test::Fail;
+
+/// The id that the words of these tests give.
+const ID: [u8; 16] = [0, 0, 0, 0, 0, 0, 0x40, 0, 0x80, 0, 0, 0, 0, 0, 0, 1];
+
+/// An id with letters in it: 67e55044-10b1-426f-9247-bb680e5fe0c8.
+const LETTERS: [u8; 16] = [
+    0x67, 0xe5, 0x50, 0x44, 0x10, 0xb1, 0x42, 0x6f, 0x92, 0x47, 0xbb, 0x68, 0x0e, 0x5f, 0xe0, 0xc8,
+];
+
+/// What the words of these tests ask for, but for what each of them gives otherwise.
+const BASE: FormatRequest = FormatRequest {
+    id: ID,
+    blocks: 4096,
+    journal: 256,
+    data_replicas: 1,
+    meta_replicas: 1,
+};
+
+// What the words of the line ask for. One blank stands between two words, and a word that is `.` stands for the id.
+fn answer(alloc: Global, line: &str) -> Result<Result<Request, WordsFault>, Fail> {
+    let mut words = Vec::new(alloc);
+    for word in line.split(' ') {
+        let text = if word == "." {
+            "00000000-0000-4000-8000-000000000001"
+        } else {
+            word
+        };
+        words.push(RcStr::from_str(alloc, text)?)?;
+    }
+    Ok(read_words(alloc, &words))
+}
+
+#[test]
+fn each_option_has_two_forms(rt: HostRuntime) -> Result<(), Fail> {
+    let alloc = rt.alloc();
+    let cases = [
+        ("format --id . --blocks 4096", BASE),
+        (
+            "format --id=00000000-0000-4000-8000-000000000001 --blocks=4096",
+            BASE,
+        ),
+        ("format --blocks 4096 --id .", BASE),
+        ("format --blocks=4096 --id .", BASE),
+        (
+            "format --id . --blocks 4096 --journal 496",
+            FormatRequest {
+                journal: 496,
+                ..BASE
+            },
+        ),
+        (
+            "format --journal=496 --id . --blocks 4096",
+            FormatRequest {
+                journal: 496,
+                ..BASE
+            },
+        ),
+        (
+            "format --id . --data-replicas 2 --blocks 4096",
+            FormatRequest {
+                data_replicas: 2,
+                ..BASE
+            },
+        ),
+        (
+            "format --id . --data-replicas=2 --blocks 4096",
+            FormatRequest {
+                data_replicas: 2,
+                ..BASE
+            },
+        ),
+        (
+            "format --id . --blocks 4096 --meta-replicas 3",
+            FormatRequest {
+                meta_replicas: 3,
+                ..BASE
+            },
+        ),
+        (
+            "format --meta-replicas=3 --id . --blocks 4096",
+            FormatRequest {
+                meta_replicas: 3,
+                ..BASE
+            },
+        ),
+        (
+            "format --id . --blocks 18446744073709551615",
+            FormatRequest {
+                blocks: 18_446_744_073_709_551_615,
+                ..BASE
+            },
+        ),
+        (
+            "format --id . --blocks=0 --journal=0",
+            FormatRequest {
+                blocks: 0,
+                journal: 0,
+                ..BASE
+            },
+        ),
+        (
+            "format --meta-replicas 5 --data-replicas=4 --journal 3 --blocks=2 --id .",
+            FormatRequest {
+                id: ID,
+                blocks: 2,
+                journal: 3,
+                data_replicas: 4,
+                meta_replicas: 5,
+            },
+        ),
+    ];
+    for (line, format) in cases {
+        assert!(rt;
+            answer(alloc, line)? == Ok(Request::Format(format)),
+            "{line}"
+        );
+    }
+    assert!(rt; answer(alloc, "run")? == Ok(Request::Run));
+    Ok(())
+}
+
+#[test]
+fn an_id_has_five_forms(rt: HostRuntime) -> Result<(), Fail> {
+    let alloc = rt.alloc();
+    let cases = [
+        "format --blocks 4096 --id 67e5504410b1426f9247bb680e5fe0c8",
+        "format --blocks 4096 --id 67e55044-10b1-426f-9247-bb680e5fe0c8",
+        "format --blocks 4096 --id 67E55044-10B1-426F-9247-BB680E5FE0C8",
+        "format --blocks 4096 --id urn:uuid:67e55044-10b1-426f-9247-bb680e5fe0c8",
+        "format --blocks 4096 --id={67e55044-10b1-426f-9247-bb680e5fe0c8}",
+    ];
+    for line in cases {
+        let format = FormatRequest {
+            id: LETTERS,
+            ..BASE
+        };
+        assert!(rt;
+            answer(alloc, line)? == Ok(Request::Format(format)),
+            "{line}"
+        );
+    }
+    Ok(())
+}
+
+#[test]
+fn other_words_ask_for_nothing(rt: HostRuntime) -> Result<(), Fail> {
+    let alloc = rt.alloc();
+    let cases = [
+        "",
+        "help",
+        "mount",
+        "Run",
+        "run run",
+        "run ",
+        "run --schedule 1",
+        "run --id .",
+        "format",
+        "format --id .",
+        "format --blocks 4096",
+        "format --id . --blocks",
+        "format --id . --blocks 4096 --journal",
+        "format --id . --blocks 4096 --blocks 4096",
+        "format --id . --blocks 4096 --journal 1 --journal=1",
+        "format --id . --id . --blocks 4096",
+        "format --id . --block 4096",
+        "format --i . --blocks 4096",
+        "format --id . --blocks 4096 --replicas 1",
+        "format --id . --blocks 4096 --help",
+        "format --help",
+        "format -h",
+        "format --version",
+        "format --id . --blocks -1",
+        "format --id . --blocks --journal 1",
+        "format --id . --blocks --",
+        "format --id . --blocks -",
+        "format --id . --blocks 4096 --",
+        "format -- --id . --blocks 4096",
+        "format --id . --blocks 4096 -- 1",
+        "format --id . --blocks 4096 1",
+        "format 4096 --id . --blocks 4096",
+        "format --id . --blocks 4096 -b",
+        "format --id . --blocks 4096 --=1",
+        "format --id . -blocks 4096",
+        "format --id . --blocks 01",
+        "format --id . --blocks 00",
+        "format --id . --blocks +1",
+        "format --id . --blocks ",
+        "format --id . --blocks=",
+        "format --id . --blocks=-1",
+        "format --id . --blocks==1",
+        "format --id . --blocks 0x10",
+        "format --id . --blocks 18446744073709551616",
+        "format --id . --blocks 4096 --journal 18446744073709551616",
+        "format --id . --blocks 4096 --data-replicas one",
+        "format --id . --blocks 4096 --meta-replicas 1.0",
+        "format --id= --blocks 4096",
+        "format --id 1 --blocks 4096",
+        "format --id 00000000-0000-4000-8000-00000000000g --blocks 4096",
+        "format --ID . --blocks 4096",
+        "--id . --blocks 4096 format",
+    ];
+    for line in cases {
+        assert!(rt; answer(alloc, line)? == Err(WordsFault::Usage), "{line}");
+    }
+    let none: [RcStr; 0] = [];
+    assert!(rt; read_words(alloc, &none) == Err(WordsFault::Usage));
+    Ok(())
+}
+
+#[test]
+fn a_number_is_plain_digits(rt: HostRuntime) {
+    assert!(rt; read_number("0") == Some(0));
+    assert!(rt; read_number("7") == Some(7));
+    assert!(rt; read_number("1048576") == Some(1_048_576));
+    assert!(rt; read_number("18446744073709551615") == Some(18_446_744_073_709_551_615));
+    let refused = [
+        "",
+        "00",
+        "01",
+        "+1",
+        "-1",
+        " 1",
+        "1 ",
+        "1_000",
+        "1e3",
+        "18446744073709551616",
+        "99999999999999999999",
+    ];
+    for text in refused {
+        assert!(rt; read_number(text).is_none(), "{text}");
+    }
+}
+
+#[test]
+fn an_id_is_written_in_lower_case(rt: HostRuntime) {
+    assert!(rt; &id_text(&ID) == b"00000000-0000-4000-8000-000000000001");
+    assert!(rt; &id_text(&LETTERS) == b"67e55044-10b1-426f-9247-bb680e5fe0c8");
+}
