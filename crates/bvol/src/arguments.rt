@@ -3,14 +3,23 @@ ghost use Rattle.std.specs.Rc.{rc_str_bytes};
 ghost use Rattle.bvol.specs.Arguments.{is_dashes, first_dashes, words_and_files};
 
 use crate::devices::MOST_DEVICES;
-use crate::help::{HELP, RUN_HELP};
+use crate::help::{FORMAT_HELP, HELP, RUN_HELP};
 use std::rc::RcStr;
 
 /// The text that the arguments ask for, where they ask for help.
 pub fn help_for(args: &[RcStr]) -> Option<&'static str> {
     match args {
         [first] if first.as_str() == "--help" || first.as_str() == "help" => Some(HELP),
-        [first, second] if first.as_str() == "help" && second.as_str() == "run" => Some(RUN_HELP),
+        [first, second] if first.as_str() == "help" => help_of(second),
+        _ => None,
+    }
+}
+
+// The text on a command.
+fn help_of(command: &RcStr) -> Option<&'static str> {
+    match command.as_str() {
+        "format" => Some(FORMAT_HELP),
+        "run" => Some(RUN_HELP),
         _ => None,
     }
 }

@@ -1,36 +1,80 @@
 /// What `bvol --help` prints.
 pub const HELP: &str = "\
-bvol keeps files in a copy-on-write volume inside an image file.
+bvol keeps files in a copy-on-write volume over one to eight image files.
 
 usage:
-  bvol run -- IMAGE < SCRIPT    run a script on the volume in IMAGE
-  bvol help run                 the script, its replies and the statuses
-  bvol help, bvol --help        this text
+  bvol format OPTIONS -- IMAGE..   make a new volume of the IMAGEs
+  bvol run -- IMAGE.. < SCRIPT     run a script on the volume in the IMAGEs
+  bvol help format                 the options, and the statuses
+  bvol help run                    the script, its replies and the statuses
+  bvol help, bvol --help           this text
 
-IMAGE is a file that can be read and written, of 4,096 bytes or more. Zeros are
-an empty volume. The script comes from standard input; replies and errors go to
-standard output.
+An IMAGE is a file that can be read and written. A volume is run with all files
+that it was made of, in the same order. The script comes from standard input;
+replies and errors go to standard output.
 
 example:
-  truncate -s 64K disk.img
-  printf 'mkfile main:/a\\nls main:/\\n' | bvol run -- disk.img
+  touch a.img b.img
+  bvol format --id 00000000-0000-4000-8000-000000000001 --blocks 1024 \\
+    --meta-replicas 2 -- a.img b.img
+  printf 'mkfile main:/a\\nls main:/\\n' | bvol run -- a.img b.img
 prints
+  formatted 00000000-0000-4000-8000-000000000001 devices 2 blocks 1024 journal 256
   @0 1 ok
   @0 2 list a
   end commits 1 synced 1
 ";
 
+/// What `bvol help format` prints.
+pub const FORMAT_HELP: &str = "\
+bvol format OPTIONS -- IMAGE..
+
+Makes a new, empty volume of the IMAGEs, one to eight files. A shorter file is
+made as long as it has to be; whatever the files held is lost. A format that is
+stopped leaves the volume that was there, or none that mounts, or the new one.
+
+options, each as `--NAME VALUE` or `--NAME=VALUE`, in any order:
+  --id U              the volume's id, a UUID; needed
+  --blocks N          the blocks of each file, of 4,096 bytes each; needed.
+                      1024 to 1048576, a multiple of 16, at least 2 x (J + 16)
+  --journal J         the blocks of the journal; 256 to 4096, a multiple of 16;
+                      256 where it is left out. Each commit takes one for good
+  --data-replicas R   the copies of each extent of data, 1 to 3, at most one for
+                      each file; 1 where it is left out
+  --meta-replicas M   the first files, so many, each keep the journal; 1 to 3, at
+                      most one for each file; 1 where it is left out
+
+prints
+  formatted U devices D blocks N journal J
+
+exit status:
+  0  the files hold the new volume
+  1  error 1 usage: other words, or numbers that no volume may have; nothing
+     was touched
+  5  standard output couldn't be written
+  6  error 6 device D: file D, from 0, isn't there, or can't be read and written
+  7  error 7 memory: memory was wanting
+
+example:
+  touch a.img b.img
+  bvol format --id 00000000-0000-4000-8000-000000000001 --blocks 1024 \\
+    --meta-replicas 2 -- a.img b.img
+prints
+  formatted 00000000-0000-4000-8000-000000000001 devices 2 blocks 1024 journal 256
+";
+
 /// What `bvol help run` prints.
 pub const RUN_HELP: &str = "\
-bvol run -- IMAGE < SCRIPT
+bvol run -- IMAGE.. < SCRIPT
 
-Reads the whole script, opens the volume in IMAGE, answers each line, and then
-makes all changes durable. `run` has no options. A script that has a bad line
-changes nothing. Whenever the run is stopped, and however, IMAGE has the volume
-after some first part of its commits, with all that a `sync` had acknowledged.
+Reads the whole script, mounts the volume in the IMAGEs, answers each line, and
+then makes all changes durable. `run` has no options. The IMAGEs are all files
+that `bvol format` made the volume of, in the same order. A script that has a bad
+line changes nothing, nor does a run whose volume isn't mounted. Whenever the run
+is stopped, and however, the IMAGEs have the volume after some first part of its
+commits, with all that a `sync` had acknowledged.
 
-IMAGE holds one block for each whole 4,096 bytes. Each commit that a run makes
-takes one block for good.
+Each commit that a run makes takes one block of the journal for good.
 
 script lines, each ended by a line feed:
   mkfile main:/NAME    make an empty file in the root of the subvolume main
@@ -42,22 +86,28 @@ A NAME is one byte or more, each from ! to ~ but neither / nor %. It has at most
 replies, one a line, with the client (0) and the number of the script's line:
   @0 1 ok                    done
   @0 2 list a b              the names
-  @0 3 ok 2                  two commits of this run are on the disk, by `sync`
+  @0 3 ok 2                  two commits of this run are on the disks, by `sync`
   @0 3 err exists            the name is there already
   @0 3 err bad-path          the name is too long
-  @0 3 err no-space need 0   the image has no block left for the commit
-  @0 3 err device 0          the `sync` couldn't write to IMAGE, and the run halts:
-                             from here on it changes and writes nothing
+  @0 3 err no-space need 0   the journal has no block left for the commit
+  @0 3 err device 0          the `sync` couldn't write to file 0, and the run
+                             halts: from here on it changes and writes nothing
   @0 4 err halted 0          it has halted; `ls` goes on
   @0 3 err no-memory         memory was wanting
 The last line is `end commits N synced M`: the run made N commits, and M of them
-are known to be on the disk.
+are known to be on the disks.
 
 exit status:
-  0  the script ran, and all its commits are on the disk
-  1  error 1 usage: other words than `run -- IMAGE`, or IMAGE has no whole block
+  0  the script ran, and all its commits are on the disks
+  1  error 1 usage: other words than `run -- IMAGE..`
   2  error 2 line L not-built: line L is no line of a script
      error 2 too-long: the script has more than 16 MiB
+  3  mount refused 1: a file has no superblock, so it isn't formatted
+     mount refused 2: a superblock has another version
+     mount refused 3: the files aren't those of one volume in their order
+     mount refused 4: a superblock has a number out of its range, or a file is
+     shorter than it says
+     mount refused 5: no session is named, or no number is left for another
   4  error 4 source: standard input couldn't be read
   5  standard output couldn't be written
   6  error 6 device D: file D, from 0, isn't there, or can't be read and written
@@ -66,9 +116,12 @@ exit status:
   7  error 7 memory: memory was wanting; after the replies without that line
 
 example:
-  truncate -s 64K disk.img
-  printf 'mkfile main:/a\\nls main:/\\n' | bvol run -- disk.img
+  touch a.img b.img
+  bvol format --id 00000000-0000-4000-8000-000000000001 --blocks 1024 \\
+    --meta-replicas 2 -- a.img b.img
+  printf 'mkfile main:/a\\nls main:/\\n' | bvol run -- a.img b.img
 prints
+  formatted 00000000-0000-4000-8000-000000000001 devices 2 blocks 1024 journal 256
   @0 1 ok
   @0 2 list a
   end commits 1 synced 1

@@ -1,9 +1,6 @@
 pub mod Holding
 pub mod Names
-pub mod Payloads
-pub mod Scanning
 pub mod Sound
-pub mod Staying
 pub mod Surviving
-pub mod Taking
 pub mod WrittenRecords
+pub mod Images

@@ -10,7 +10,7 @@ use Rattle.plain_forest.specs.declared.operation.Cause.{Cause}
 use Rattle.plain_forest.specs.declared.operation.Cause.TheVariants.{BadPath}
 use Rattle.plain_forest.specs.declared.operation.Op.TheVariants.{Mkfile}
 use Rattle.plain_forest.specs.declared.operation.Reply.TheVariants.{Okay}
-use Rattle.record_log.specs.Found.{in_main}
+use Rattle.log_records.specs.Found.{in_main}
 
 both : (a b : Bool) → a && b ≡ true → (a ≡ true) × (b ≡ true)
 both true b is = (refl, is)

@@ -1,119 +1,122 @@
 -- What the images of a session mean: a prefix of its commits.
-use Rattle.std.proofs.Common.{◌≡◌, ℕ, zero, suc, ◌+◌, ◌-◌, ◌<◌, ◌≤◌, List, [], ◌∷◌, length, take, drop, map, slice_get, Option, Some, None, Bool, true, false, cond, refl, ap, ◌∙◌, sym, subst, arith, ⊎_elim}
+use Rattle.std.proofs.Common.{◌≡◌, ◌≢◌, ℕ, zero, suc, ◌+◌, ◌-◌, ◌<◌, ◌≤◌, ◌%◌, List, [], ◌∷◌, length, take, map, slice_get, Option, Some, None, Ok, Bool, true, false, cond, refl, ap, ◌∙◌, sym, subst, arith, inl, inr, ◌⊎◌, ⊎_elim}
 use Rattle.std.specs.Prelude.{◌==◌, max, nat_le, option_and_then}
 use Rattle.std.specs.Result.{result_ok}
 use Rattle.std.proofs.lemmas.Bool.Decides.{nat_tests}
 use Rattle.std.specs.Option.{option_map_or}
 use Rattle.std.proofs.lemmas.Bool.{cases_lt}
-use Rattle.std.proofs.lemmas.Option.{same_Some, slice_get_past, none-some as none_some}
+use Rattle.std.proofs.lemmas.Option.{same_Some, none-some as none_some}
 use Rattle.std.proofs.lemmas.List.{length-map}
-use Rattle.dev_model.specs.Disk.{Disk, Image, MayLeave, MayLeaveImage, as_read, at_rest, block_at}
+use Rattle.vol_types.specs.declared.layout.Layout.{Layout}
+use Rattle.dev_model.specs.Disk.{Disk, Image, MayLeaveImage, as_read, block_at}
 use Rattle.dev_model.specs.Devices.{History as Moments, now}
+use Rattle.dev_model.specs.Reading.{StaysSo}
+use Rattle.dev_model.specs.Stops.{LeavesOnly, MayLeaveBut}
+use Rattle.dev_model.specs.StopLaws.{left_itself}
+use Rattle.geometry.specs.Sessions.{IsSessionPlace, session_in, session_place}
+use Rattle.geometry.specs.SessionLaws.{place_is_low}
 use Rattle.plain_forest.specs.Forest.{Forest, fresh}
 use Rattle.plain_forest.specs.Steps.{made_file, next_number}
 use Rattle.plain_forest.specs.History.{History, after_all, commits_of, commit_count}
 use Rattle.plain_forest.specs.declared.operation.Op.{Op}
 use Rattle.plain_forest.specs.declared.operation.Op.TheVariants.{Mkfile, Ls, Sync}
 use Rattle.plain_forest.specs.declared.operation.Entry.{Entry}
-use Rattle.record_log.specs.Records.{record_in}
-use Rattle.record_log.specs.Found.{Mounted, IsMounted, commit_of, first_of, forest_with, forest_with_block, in_main, mounted, mounted_as, mounted_from}
-use Rattle.record_log.specs.Durable.{HasWritten, IsFromTo, StaysSo, record_at, with_files}
+use Rattle.log_records.specs.Records.{first_of_two, first_record, log_block, record_at, record_in, record_on}
+use Rattle.log_records.specs.Found.{AreMirrored, Mounted, commit_of, forest_with, forest_with_next, in_main, log_in, mounted_as, mounts, scanned_from}
+use Rattle.log_records.specs.declared.files.MadeFile.{MadeFile}
+use Rattle.record_log.specs.Durable.{HasWritten, IsOfSession, with_files}
 use Rattle.record_log.specs.Acknowledged.{acknowledged}
 use Rattle.record_log.specs.Survives.{HasNoChanceMatch, IsAlone, IsMadeBy, IsPrefix, IsQuiet, Survives}
 use Rattle.record_log.specs.Log.{IsSound, Log, Shown}
-use Rattle.record_log.specs.declared.files.MadeFile.{MadeFile}
-use Rattle.record_log.proofs.Holding.{slice_get-drop, with_commit}
 use Rattle.record_log.specs.declared.acks.Ack.{Ack}
-use Rattle.record_log.proofs.Scanning.{first_at}
-use Rattle.record_log.proofs.Staying.{stays_now}
-use Rattle.dev_model.specs.StopLaws.{left_itself}
+use Rattle.record_log.proofs.Holding.{with_commit}
+use Rattle.record_log.proofs.WrittenRecords.{may_differ_more}
+use Rattle.record_log.proofs.Images.{area_is_short, first_all, first_none, first_some, first_same, first_there, is_mounted, means_same, quiet_place, same_sizes}
 
 -- A scan counts no fewer commits than the place that it begins at.
-scan_least : (place : ℕ) (forest : Forest) (blocks : List (List ℕ)) → place ≤ (mounted_from place forest blocks).commits
-scan_least place forest [] = omega arith
-scan_least place forest (block ∷ blocks) = by (forest_with_block place block forest) (λ next. scan_least (suc place) next blocks)
+scan_least : (records : ℕ → Option MadeFile) (more place : ℕ) (forest : Forest) → place ≤ (scanned_from records more place forest).0
+scan_least records zero place forest = omega arith
+scan_least records (suc more) place forest = by (forest_with_next (records place) forest) (scan_least records more (suc place))
   where
-    by : (taken : Option Forest) → ((next : Forest) → suc place ≤ (mounted_from (suc place) next blocks).commits) → place ≤ (option_map_or (λ next. mounted_from (suc place) next blocks) taken (mounted_as place forest)).commits
+    by : (taken : Option Forest) → ((next : Forest) → suc place ≤ (scanned_from records more (suc place) next).0) → place ≤ (option_map_or (scanned_from records more (suc place)) taken (place, forest)).0
     by None rest = omega arith
     by (Some next) rest = omega (arith, rest next)
 
--- Where a scan ends behind so many blocks, another list with these blocks is scanned so far.
-scan_same : (place count : ℕ) (forest after : Forest) (blocks other : List (List ℕ)) → mounted_from place forest blocks ≡ mounted_as (place + count) after
-    → ((i : ℕ) → i < count → slice_get other i ≡ slice_get blocks i) → mounted_from place forest other ≡ mounted_from (place + count) after (drop count other)
-scan_same place zero forest after [] other is same =
-    let forests : forest ≡ after = ap (λ m. m.forest) is in
-    let here : place ≡ place + 0 = omega arith in
-    ap (λ f. mounted_from place f other) forests ∙ ap (λ n. mounted_from n after other) here
-scan_same place zero forest after (block ∷ blocks) other is same = by (forest_with_block place block forest) is (scan_least (suc place))
+-- Where a scan ends behind so many places, another one with these records comes as far.
+scan_same : (records other : ℕ → Option MadeFile) (count more place : ℕ) (forest after : Forest) → scanned_from records (count + more) place forest ≡ (place + count, after)
+    → ((i : ℕ) → i < count → other (place + i) ≡ records (place + i)) → scanned_from other (count + more) place forest ≡ scanned_from other more (place + count) after
+scan_same records other zero more place forest after is same =
+    let here : scanned_from records more place forest ≡ (place + 0, after) = ap (λ n. scanned_from records n place forest) (let e : more ≡ 0 + more = omega arith in e) ∙ is in
+    let forests : forest ≡ after = no_more more here in
+    ap (λ n. scanned_from other n place forest) (let e : 0 + more ≡ more = omega arith in e)
+    ∙ ap (λ f. scanned_from other more place f) forests ∙ ap (λ n. scanned_from other more n after) (let e : place ≡ place + 0 = omega arith in e)
   where
-    by : (taken : Option Forest) → option_map_or (λ next. mounted_from (suc place) next blocks) taken (mounted_as place forest) ≡ mounted_as (place + 0) after
-        → ((next : Forest) (rest : List (List ℕ)) → suc place ≤ (mounted_from (suc place) next rest).commits) → mounted_from place forest other ≡ mounted_from (place + 0) after other
-    by None is least =
-        let forests : forest ≡ after = ap (λ m. m.forest) is in
-        let here : place ≡ place + 0 = omega arith in
-        ap (λ f. mounted_from place f other) forests ∙ ap (λ n. mounted_from n after other) here
-    by (Some next) is least = absurd (let commits : (mounted_from (suc place) next blocks).commits ≡ place + 0 = ap (λ m. m.commits) is in omega (arith, commits, least next blocks))
-scan_same place (suc count) forest after [] other is same = absurd (let commits : place ≡ place + suc count = ap (λ m. m.commits) is in omega (arith, commits))
-scan_same place (suc count) forest after (block ∷ blocks) [] is same = absurd (none_some block (same 0 (omega arith)))
-scan_same place (suc count) forest after (block ∷ blocks) (first ∷ other) is same =
-    let here : first ≡ block = same_Some first block (same 0 (omega arith)) in
-    ap (λ b. mounted_from place forest (b ∷ other)) here
-    ∙ by (forest_with_block place block forest) is (λ next behind. scan_same (suc place) count next after blocks other behind (λ i lt. same (suc i) (omega (arith, lt))))
+    no_more : (more : ℕ) → scanned_from records more place forest ≡ (place + 0, after) → forest ≡ after
+    no_more zero here = ap (λ (s : ℕ × Forest). s.1) here
+    no_more (suc more) here = by (forest_with_next (records place) forest) here
+      where
+        by : (taken : Option Forest) → option_map_or (scanned_from records more (suc place)) taken (place, forest) ≡ (place + 0, after) → forest ≡ after
+        by None is = ap (λ (s : ℕ × Forest). s.1) is
+        by (Some next) is = absurd (let commits : (scanned_from records more (suc place) next).0 ≡ place + 0 = ap (λ (s : ℕ × Forest). s.0) is in omega (arith, commits, scan_least records more (suc place) next))
+scan_same records other (suc count) more place forest after is same =
+    let step : suc count + more ≡ suc (count + more) = omega arith in
+    let here : other place ≡ records place = subst (λ n. other n ≡ records n) (let e : place + 0 ≡ place = omega arith in e) (same 0 (omega arith)) in
+    let began : scanned_from records (suc (count + more)) place forest ≡ (place + suc count, after) = ap (λ n. scanned_from records n place forest) (sym step) ∙ is in
+    ap (λ n. scanned_from other n place forest) step
+    ∙ ap (λ r. option_map_or (scanned_from other (count + more) (suc place)) (forest_with_next r forest) (place, forest)) here
+    ∙ by (forest_with_next (records place) forest) began
+    (λ next behind. scan_same records other count more (suc place) next after behind (λ i lt. subst (λ n. other n ≡ records n) (let e : place + suc i ≡ suc place + i = omega arith in e) (same (suc i) (omega (arith, lt)))))
   where
-    by : (taken : Option Forest) → option_map_or (λ next. mounted_from (suc place) next blocks) taken (mounted_as place forest) ≡ mounted_as (place + suc count) after
-        → ((next : Forest) → mounted_from (suc place) next blocks ≡ mounted_as (suc place + count) after → mounted_from (suc place) next other ≡ mounted_from (suc place + count) after (drop count other))
-        → option_map_or (λ next. mounted_from (suc place) next other) taken (mounted_as place forest) ≡ mounted_from (place + suc count) after (drop count other)
-    by None is rest = absurd (let commits : place ≡ place + suc count = ap (λ m. m.commits) is in omega (arith, commits))
+    by : (taken : Option Forest) → option_map_or (scanned_from records (count + more) (suc place)) taken (place, forest) ≡ (place + suc count, after)
+        → ((next : Forest) → scanned_from records (count + more) (suc place) next ≡ (suc place + count, after) → scanned_from other (count + more) (suc place) next ≡ scanned_from other more (suc place + count) after)
+        → option_map_or (scanned_from other (count + more) (suc place)) taken (place, forest) ≡ scanned_from other more (place + suc count) after
+    by None is rest = absurd (let commits : place ≡ place + suc count = ap (λ (s : ℕ × Forest). s.0) is in omega (arith, commits))
     by (Some next) is rest =
         let behind : suc place + count ≡ place + suc count = omega arith in
-        rest next (is ∙ ap (λ n. mounted_as n after) (sym behind)) ∙ ap (λ n. mounted_from n after (drop count other)) behind
+        rest next (is ∙ ap (λ (n : ℕ). (n, after)) (sym behind)) ∙ ap (λ n. scanned_from other more n after) behind
 
--- the file whose record a block of a list holds, if it holds one
-abbrev pub record_of_block : ℕ → List (List ℕ) → ℕ → Option MadeFile
-record_of_block place blocks i = option_and_then (record_in (place + i)) (slice_get blocks i)
-
--- Blocks that hold no other records than those of files, and at least so many of these, make of a forest the one after a
--- prefix of their commits, up to the first block that holds none.
-pub record Scanned (place least : ℕ) (forest : Forest) (files : List MadeFile) (blocks : List (List ℕ)) : Type 0 where
+-- Places that hold no other records than those of files, and at least so many of these, make of a forest the one after a
+-- prefix of their commits, up to the first place that holds none.
+pub record Scanned (records : ℕ → Option MadeFile) (more place least : ℕ) (forest : Forest) (files : List MadeFile) : Type 0 where
   pub count : ℕ
   pub no_less : least ≤ count
   pub most : count ≤ length files
-  pub means : mounted_from place forest blocks ≡ mounted_as (place + count) (after_all forest (take count (map commit_of files)))
-  pub ends : record_of_block place blocks count ≡ None
-
-next_place : (place i : ℕ) (blocks : List (List ℕ)) → option_and_then (record_in (suc place + i)) (slice_get blocks i) ≡ option_and_then (record_in (place + suc i)) (slice_get blocks i)
-next_place place i blocks = ap (λ n. option_and_then (record_in n) (slice_get blocks i)) (let e : suc place + i ≡ place + suc i = omega arith in e)
+  pub means : scanned_from records more place forest ≡ (place + count, after_all forest (take count (map commit_of files)))
+  pub ends : count < more → records (place + count) ≡ None
 
 -- no record stands here, so none was to be
-scanned_none : (place least : ℕ) (forest : Forest) (files : List MadeFile) (blocks : List (List ℕ)) → record_of_block place blocks 0 ≡ None → mounted_from place forest blocks ≡ mounted_as place forest
-    → ((i : ℕ) → i < least → record_of_block place blocks i ≡ slice_get files i) → least ≤ length files → Scanned place least forest files blocks
-scanned_none place zero forest files blocks none means hold most = record {
+scanned_none : (records : ℕ → Option MadeFile) (more place least : ℕ) (forest : Forest) (files : List MadeFile) → (0 < more → records (place + 0) ≡ None) → scanned_from records more place forest ≡ (place, forest)
+    → ((i : ℕ) → i < least → records (place + i) ≡ slice_get files i) → least ≤ length files → least ≤ more → Scanned records more place least forest files
+scanned_none records more place zero forest files none means hold most fits = record {
   count = 0;
   no_less = omega arith;
   most = omega arith;
-  means = means ∙ ap (λ n. mounted_as n forest) (let e : place ≡ place + 0 = omega arith in e);
+  means = means ∙ ap (λ (n : ℕ). (n, forest)) (let e : place ≡ place + 0 = omega arith in e);
   ends = none;
 }
-scanned_none place (suc least) forest [] blocks none means hold most = absurd (omega (arith, most))
-scanned_none place (suc least) forest (file ∷ files) blocks none means hold most = absurd (none_some file (sym none ∙ hold 0 (omega arith)))
+scanned_none records more place (suc least) forest [] none means hold most fits = absurd (omega (arith, most))
+scanned_none records more place (suc least) forest (file ∷ files) none means hold most fits = absurd (none_some file (sym (none (omega (arith, fits))) ∙ hold 0 (omega arith)))
 
-pub scanned : (place least : ℕ) (forest after : Forest) (files : List MadeFile) (blocks : List (List ℕ)) → with_files files forest ≡ Some after
-    → ((i : ℕ) (file : MadeFile) → record_of_block place blocks i ≡ Some file → slice_get files i ≡ Some file) → ((i : ℕ) → i < least → record_of_block place blocks i ≡ slice_get files i) → least ≤ length files
-    → Scanned place least forest files blocks
-scanned place least forest after files [] made only hold most = scanned_none place least forest files [] refl refl hold most
-scanned place least forest after files (block ∷ blocks) made only hold most =
-    by (record_in place block) refl (λ less next fs. scanned (suc place) less next after fs blocks)
+pub scanned : (records : ℕ → Option MadeFile) (more place least : ℕ) (forest after : Forest) (files : List MadeFile) → with_files files forest ≡ Some after
+    → ((i : ℕ) (file : MadeFile) → i < more → records (place + i) ≡ Some file → slice_get files i ≡ Some file) → ((i : ℕ) → i < least → records (place + i) ≡ slice_get files i) → least ≤ length files → least ≤ more
+    → Scanned records more place least forest files
+scanned records zero place least forest after files made only hold most fits = scanned_none records zero place least forest files (λ lt. absurd (omega (arith, lt))) refl hold most fits
+scanned records (suc more) place least forest after files made only hold most fits =
+    by (records place) refl (λ less next fs. scanned records more (suc place) less next after fs)
   where
-    at_zero : record_of_block place (block ∷ blocks) 0 ≡ record_in place block
-    at_zero = ap (λ n. record_in n block) (let e : place + 0 ≡ place = omega arith in e)
+    at_zero : records (place + 0) ≡ records place
+    at_zero = ap records (let e : place + 0 ≡ place = omega arith in e)
+
+    next_place : (i : ℕ) → records (suc place + i) ≡ records (place + suc i)
+    next_place i = ap records (let e : suc place + i ≡ place + suc i = omega arith in e)
 
     Rest : Type 0
     Rest = (less : ℕ) (next : Forest) (fs : List MadeFile) → with_files fs next ≡ Some after
-        → ((i : ℕ) (file : MadeFile) → record_of_block (suc place) blocks i ≡ Some file → slice_get fs i ≡ Some file) → ((i : ℕ) → i < less → record_of_block (suc place) blocks i ≡ slice_get fs i) → less ≤ length fs
-        → Scanned (suc place) less next fs blocks
+        → ((i : ℕ) (file : MadeFile) → i < more → records (suc place + i) ≡ Some file → slice_get fs i ≡ Some file) → ((i : ℕ) → i < less → records (suc place + i) ≡ slice_get fs i) → less ≤ length fs → less ≤ more
+        → Scanned records more (suc place) less next fs
 
-    with_next : (file : MadeFile) (fs : List MadeFile) (next : Forest) (less : ℕ) → record_in place block ≡ Some file → forest_with file forest ≡ Some next → least ≤ suc less
-        → Scanned (suc place) less next fs blocks → Scanned place least forest (file ∷ fs) (block ∷ blocks)
+    with_next : (file : MadeFile) (fs : List MadeFile) (next : Forest) (less : ℕ) → records place ≡ Some file → forest_with file forest ≡ Some next → least ≤ suc less
+        → Scanned records more (suc place) less next fs → Scanned records (suc more) place least forest (file ∷ fs)
     with_next file fs next less is taken le rest =
         let end : suc place + rest.count ≡ place + suc rest.count = omega arith in
         let made_of : List MadeFile → Forest → Forest = λ files from. after_all from (take rest.count (map commit_of files)) in
@@ -121,36 +124,36 @@ scanned place least forest after files (block ∷ blocks) made only hold most =
           count = suc rest.count;
           no_less = omega (arith, le, rest.no_less);
           most = omega (arith, rest.most);
-          means = ap (λ r. option_map_or (λ n. mounted_from (suc place) n blocks) (option_and_then (λ f. forest_with f forest) r) (mounted_as place forest)) is
-              ∙ ap (λ o. option_map_or (λ n. mounted_from (suc place) n blocks) o (mounted_as place forest)) taken
+          means = ap (λ r. option_map_or (scanned_from records more (suc place)) (forest_with_next r forest) (place, forest)) is
+              ∙ ap (λ o. option_map_or (scanned_from records more (suc place)) o (place, forest)) taken
               ∙ rest.means
-              ∙ ap (λ n. mounted_as n (made_of fs next)) end
-              ∙ ap (λ f. mounted_as (place + suc rest.count) (made_of fs f)) (sym (with_commit file forest next taken));
-          ends = sym (next_place place rest.count blocks) ∙ rest.ends;
+              ∙ ap (λ (n : ℕ). (n, made_of fs next)) end
+              ∙ ap (λ f. (place + suc rest.count, made_of fs f)) (sym (with_commit file forest next taken));
+          ends = λ lt. sym (next_place rest.count) ∙ rest.ends (omega (arith, lt));
         }
 
-    with_record : (file : MadeFile) (fs : List MadeFile) (made_here : Option Forest) → record_in place block ≡ Some file → forest_with file forest ≡ made_here → option_and_then (with_files fs) made_here ≡ Some after
-        → ((i : ℕ) (f : MadeFile) → record_of_block place (block ∷ blocks) i ≡ Some f → slice_get (file ∷ fs) i ≡ Some f) → ((i : ℕ) → i < least → record_of_block place (block ∷ blocks) i ≡ slice_get (file ∷ fs) i) → least ≤ length (file ∷ fs)
-        → Rest → Scanned place least forest (file ∷ fs) (block ∷ blocks)
+    with_record : (file : MadeFile) (fs : List MadeFile) (made_here : Option Forest) → records place ≡ Some file → forest_with file forest ≡ made_here → option_and_then (with_files fs) made_here ≡ Some after
+        → ((i : ℕ) (f : MadeFile) → i < suc more → records (place + i) ≡ Some f → slice_get (file ∷ fs) i ≡ Some f) → ((i : ℕ) → i < least → records (place + i) ≡ slice_get (file ∷ fs) i) → least ≤ length (file ∷ fs)
+        → Rest → Scanned records (suc more) place least forest (file ∷ fs)
     with_record file fs None is taken rest_made only hold most rest = absurd (none_some after rest_made)
     with_record file fs (Some next) is taken rest_made only hold most rest =
         with_next file fs next (least - 1) is taken (omega arith)
         (rest (least - 1) next fs rest_made
-        (λ i f found. only (suc i) f (sym (next_place place i blocks) ∙ found))
-        (λ i lt. next_place place i blocks ∙ hold (suc i) (omega (arith, lt)))
-        (omega (arith, most)))
+        (λ i f lt found. only (suc i) f (omega (arith, lt)) (sym (next_place i) ∙ found))
+        (λ i lt. next_place i ∙ hold (suc i) (omega (arith, lt)))
+        (omega (arith, most)) (omega (arith, fits)))
 
-    with_first : (file : MadeFile) (files : List MadeFile) → record_in place block ≡ Some file → with_files files forest ≡ Some after
-        → ((i : ℕ) (f : MadeFile) → record_of_block place (block ∷ blocks) i ≡ Some f → slice_get files i ≡ Some f) → ((i : ℕ) → i < least → record_of_block place (block ∷ blocks) i ≡ slice_get files i) → least ≤ length files
-        → Rest → Scanned place least forest files (block ∷ blocks)
-    with_first file [] is made only hold most rest = absurd (none_some file (only 0 file (at_zero ∙ is)))
+    with_first : (file : MadeFile) (files : List MadeFile) → records place ≡ Some file → with_files files forest ≡ Some after
+        → ((i : ℕ) (f : MadeFile) → i < suc more → records (place + i) ≡ Some f → slice_get files i ≡ Some f) → ((i : ℕ) → i < least → records (place + i) ≡ slice_get files i) → least ≤ length files
+        → Rest → Scanned records (suc more) place least forest files
+    with_first file [] is made only hold most rest = absurd (none_some file (only 0 file (omega arith) (at_zero ∙ is)))
     with_first file (f ∷ fs) is made only hold most rest =
-        let same : file ≡ f = sym (same_Some f file (only 0 file (at_zero ∙ is))) in
+        let same : file ≡ f = sym (same_Some f file (only 0 file (omega arith) (at_zero ∙ is))) in
         with_record f fs (forest_with f forest) (is ∙ ap Some same) refl made only hold most rest
 
-    by : (found : Option MadeFile) → record_in place block ≡ found → Rest → Scanned place least forest files (block ∷ blocks)
-    by None is rest = scanned_none place least forest files (block ∷ blocks) (at_zero ∙ is)
-        (ap (λ r. option_map_or (λ next. mounted_from (suc place) next blocks) (option_and_then (λ file. forest_with file forest) r) (mounted_as place forest)) is) hold most
+    by : (found : Option MadeFile) → records place ≡ found → Rest → Scanned records (suc more) place least forest files
+    by None is rest = scanned_none records (suc more) place least forest files (λ lt. at_zero ∙ is)
+        (ap (λ r. option_map_or (scanned_from records more (suc place)) (forest_with_next r forest) (place, forest)) is) hold most fits
     by (Some file) is rest = with_first file files is made only hold most rest
 
 -- Which file a commit made.
@@ -202,89 +205,121 @@ made_by opening after history files i file commits made by =
     let of : ℕ → List ℕ → MadeFile = λ number name. record { number = number; name = name } in
     found.1 ∙ ap Some (ap (λ n. of n f.name) numbers ∙ ap (of file.number) found.2)
 
--- a disk at rest is left as it is read
-left_at_rest : (blocks left : List (List ℕ)) → MayLeave (at_rest blocks) left → (place : ℕ) → slice_get left place ≡ slice_get blocks place
-left_at_rest blocks left may place = ⊎_elim
-    (λ (within : place < length left). may.settled place within (λ has. omega (arith, has.1)))
-    (λ (past : length left ≤ place). slice_get_past left place past ∙ sym (slice_get_past blocks place (omega (arith, past, may.no_shorter))))
-    (cases_lt place (length left))
+low : (session : ℕ) → session_place session < 16
+low session = let le = place_is_low session in omega (arith, le)
 
-abbrev first_disk : Disk → List Disk → Disk
-first_disk otherwise [] = otherwise
-first_disk otherwise (d ∷ ds) = d
+-- two sessions behind each other are sealed in different blocks
+turns : (before session : ℕ) → session ≡ suc before → session_place before ≢ session_place session
+turns before session behind same = omega (arith, behind, same)
 
--- quiet disks are left as they are read
-left_quiet : (disks : List Disk) → IsQuiet disks → (image : Image) → MayLeaveImage disks image → (place : ℕ) → block_at image 0 place ≡ block_at (as_read disks) 0 place
-left_quiet [] quiet [] may place = refl
-left_quiet [] quiet (left ∷ image) may place = absurd may
-left_quiet (disk ∷ disks) quiet [] may place = absurd may
-left_quiet (disk ∷ disks) quiet (left ∷ image) may place =
-    let rests : disk ≡ at_rest disk.blocks = ap (first_disk disk) quiet in
-    left_at_rest disk.blocks left (subst (λ d. MayLeave d left) rests may.0) place
+module _ (opening : Mounted) (session : ℕ) (disks : List Disk) (history : History) (files : List MadeFile) (after : Forest)
+    (commits : commits_of opening.forest history ≡ map commit_of files) (made : with_files files opening.forest ≡ Some after) (room : opening.commits + length files ≤ opening.layout.journal)
+    (means : mounts (as_read disks) ≡ Ok opening) (before : ℕ) (named : session_in opening.layout (as_read disks) ≡ Some before) (behind : session ≡ suc before)
+    (quiet : IsQuiet disks) (alone : IsAlone opening.layout opening.commits (as_read disks)) (image : Image) (written : ℕ)
+    (has : HasWritten opening.layout session disks opening.commits written files image) (most : written ≤ length files)
+    (sizes : map (λ blocks. length blocks) image ≡ map (λ blocks. length blocks) (as_read disks)) where
+  abbrev base : ℕ
+  base = opening.commits
 
-module _ (opening : Forest) (base : ℕ) (disks : List Disk) (history : History) (files : List MadeFile) (after : Forest)
-    (commits : commits_of opening history ≡ map commit_of files) (made : with_files files opening ≡ Some after) (means : IsMounted (as_read disks) base opening)
-    (quiet : IsQuiet disks) (alone : IsAlone base (as_read disks)) (image : Image) (written : ℕ) (has : HasWritten disks base written files image) (most : written ≤ length files) where
   -- elsewhere the image is as it was read when the session began
-  block_elsewhere : (place : ℕ) → (base ≤ place → place ≤ base + written → ⊥) → block_at image 0 place ≡ block_at (as_read disks) 0 place
-  block_elsewhere place elsewhere = sym (has.others.2 0 place (λ at. elsewhere at.1 at.2)) ∙ left_quiet disks quiet has.others.0 has.others.1 place
+  block_elsewhere : (dev block : ℕ) → ¬ IsOfSession opening.layout session base (base + written) dev block → block_at image dev block ≡ block_at (as_read disks) dev block
+  block_elsewhere dev block elsewhere = sym (has.others.2 dev block elsewhere) ∙ quiet_place disks quiet has.others.0 has.others.1 dev block
 
-  record_of : (i : ℕ) → record_of_block base (drop base (first_of image)) i ≡ record_at (base + i) image
-  record_of i = ap (option_and_then (record_in (base + i))) (slice_get-drop (first_of image) base i ∙ sym (first_at image (base + i)))
+  -- so is a record on a device, but at the places that the session writes
+  record_elsewhere : (place dev : ℕ) → (base ≤ place → place ≤ base + written → ⊥) → record_on opening.layout place image dev ≡ record_on opening.layout place (as_read disks) dev
+  record_elsewhere place dev elsewhere = ap (option_and_then (record_in opening.layout.id place)) (block_elsewhere dev (log_block place)
+      (λ at. ⊎_elim (λ (own : IsSessionPlace opening.layout session dev (log_block place)). not_there own.1) (λ log. elsewhere (omega (arith, log.1)) (omega (arith, log.2))) at))
+    where
+      not_there : log_block place ≡ 4 + session % 2 → ⊥
+      not_there same = omega (arith, same)
 
-  commit_total : commit_count opening history ≡ length files
+  at_elsewhere : (place : ℕ) → (base ≤ place → place ≤ base + written → ⊥) → record_at opening.layout image place ≡ record_at opening.layout (as_read disks) place
+  at_elsewhere place elsewhere = first_same opening.layout place image (as_read disks) opening.layout.meta (λ dev within. record_elsewhere place dev elsewhere)
+
+  commit_total : commit_count opening.forest history ≡ length files
   commit_total = ap length commits ∙ length-map files commit_of
 
-  only_commits : HasNoChanceMatch (mounted_as base opening) (as_read disks) history image → (i : ℕ) (file : MadeFile) → record_of_block base (drop base (first_of image)) i ≡ Some file → slice_get files i ≡ Some file
-  only_commits no_chance i file found = ⊎_elim
-      (λ before. absurd (none_some file (sym (alone (base + i) (omega arith)) ∙ before)))
-      (λ (here : (commit : ℕ) × (base + i ≡ base + commit) × IsMadeBy opening history commit file).
-      let same : here.0 ≡ i = omega (arith, here.1) in
-      subst (λ n. slice_get files n ≡ Some file) same (made_by opening after history files here.0 file commits made here.2))
-      (no_chance (base + i) file (sym (record_of i) ∙ found))
+  none_before : (place dev : ℕ) → base ≤ place → place < opening.layout.journal → dev < opening.layout.meta → record_on opening.layout place (as_read disks) dev ≡ None
+  none_before place dev from to within = first_none opening.layout place (as_read disks) opening.layout.meta (alone.behind place from to) dev within
 
-  scan_image : HasNoChanceMatch (mounted_as base opening) (as_read disks) history image → Scanned base written opening files (drop base (first_of image))
-  scan_image no_chance = scanned base written opening after files (drop base (first_of image)) made (only_commits no_chance) (λ i lt. record_of i ∙ has.records i lt) most
+  -- a record behind the base is that of a commit
+  commit_at : HasNoChanceMatch opening (as_read disks) history image → (place dev : ℕ) (file : MadeFile) → base ≤ place → place < opening.layout.journal → dev < opening.layout.meta
+      → record_on opening.layout place image dev ≡ Some file → slice_get files (place - base) ≡ Some file
+  commit_at no_chance place dev file from to within found = ⊎_elim
+      (λ stood. absurd (none_some file (sym (none_before place dev from to within) ∙ stood)))
+      (λ (here : (commit : ℕ) × (place ≡ base + commit) × IsMadeBy opening.forest history commit file).
+      let same : here.0 ≡ place - base = omega (arith, here.1) in
+      subst (λ n. slice_get files n ≡ Some file) same (made_by opening.forest after history files here.0 file commits made here.2))
+      (no_chance place dev file to within found)
 
-  scan_begins : mounted image ≡ mounted_from (0 + base) opening (drop base (first_of image))
-  scan_begins = scan_same 0 base fresh opening (first_of (as_read disks)) (first_of image) (means ∙ ap (λ n. mounted_as n opening) (let e : base ≡ 0 + base = omega arith in e))
-      (λ i lt. sym (first_at image i) ∙ block_elsewhere i (λ from to. omega (arith, lt, from)) ∙ first_at (as_read disks) i)
+  only_commits : HasNoChanceMatch opening (as_read disks) history image → (i : ℕ) (file : MadeFile) → i < opening.layout.journal - base → record_at opening.layout image (base + i) ≡ Some file → slice_get files i ≡ Some file
+  only_commits no_chance i file lt found =
+      let on = first_some opening.layout (base + i) image opening.layout.meta file found in
+      let place : base + i - base ≡ i = omega arith in
+      subst (λ n. slice_get files n ≡ Some file) place (commit_at no_chance (base + i) on.0 file (omega arith) (omega (arith, lt)) on.1 on.2)
+
+  mirrored : 1 ≤ opening.layout.meta → (i : ℕ) → i < written → record_at opening.layout image (base + i) ≡ slice_get files i
+  mirrored some i lt = first_all opening.layout (base + i) image opening.layout.meta (slice_get files i) some (λ dev within. has.records i lt dev within)
+
+  scan_image : HasNoChanceMatch opening (as_read disks) history image → 1 ≤ opening.layout.meta → Scanned (record_at opening.layout image) (opening.layout.journal - base) base written opening.forest files
+  scan_image no_chance some = scanned (record_at opening.layout image) (opening.layout.journal - base) base written opening.forest after files made (only_commits no_chance) (mirrored some) most (let fits : written ≤ opening.layout.journal - base = omega (arith, room, most) in fits)
+
+  log_before : log_in opening.layout (as_read disks) ≡ (base, opening.forest)
+  log_before = (is_mounted (as_read disks) opening means).log
+
+  log_begins : log_in opening.layout image ≡ scanned_from (record_at opening.layout image) (opening.layout.journal - base) base opening.forest
+  log_begins =
+      let all : base + (opening.layout.journal - base) ≡ opening.layout.journal = omega (arith, room) in
+      ap (λ n. scanned_from (record_at opening.layout image) n 0 fresh) (sym all)
+      ∙ scan_same (record_at opening.layout (as_read disks)) (record_at opening.layout image) base (opening.layout.journal - base) 0 fresh opening.forest
+      (ap (λ n. scanned_from (record_at opening.layout (as_read disks)) n 0 fresh) all ∙ log_before ∙ ap (λ (n : ℕ). (n, opening.forest)) (let e : base ≡ 0 + base = omega arith in e))
+      (λ i lt. at_elsewhere (0 + i) (λ from to. omega (arith, lt, from)))
+      ∙ ap (λ n. scanned_from (record_at opening.layout image) (opening.layout.journal - base) n opening.forest) (let e : 0 + base ≡ base = omega arith in e)
+
+  -- The mirrors of the image agree: before the base as before, and behind it on the commits.
+  agrees : HasNoChanceMatch opening (as_read disks) history image → AreMirrored opening.layout image
+  agrees no_chance place within dev file device found = ⊎_elim
+      (λ (earlier : place < base).
+      let elsewhere : base ≤ place → place ≤ base + written → ⊥ = λ from to. omega (arith, earlier, from) in
+      at_elsewhere place elsewhere ∙ alone.mirrors place within dev file device (sym (record_elsewhere place dev elsewhere) ∙ found))
+      (λ (later : base ≤ place).
+      let first = first_there opening.layout place image opening.layout.meta dev file device found in
+      let on = first_some opening.layout place image opening.layout.meta first.0 first.1 in
+      let one = commit_at no_chance place dev file later within device found in
+      let other = commit_at no_chance place on.0 first.0 later within on.1 on.2 in
+      first.1 ∙ ap Some (same_Some first.0 file (sym other ∙ one)))
+      (cases_lt place base)
+
+  not_super : (dev block : ℕ) → block < 16 → block ≢ session_place session → IsOfSession opening.layout session base (base + written) dev block → ⊥
+  not_super dev block low other at = ⊎_elim (λ (own : IsSessionPlace opening.layout session dev block). other own.1) (λ log. omega (arith, low, log.1)) at
+
+  not_named : (dev : ℕ) → IsOfSession opening.layout session base (base + written) dev (session_place before) → ⊥
+  not_named dev = not_super dev (session_place before) (low before) (turns before session behind)
 
   -- An image means a prefix of the commits, with those that were acknowledged.
-  pub means_prefix : (least : ℕ) → least ≤ written → HasNoChanceMatch (mounted_as base opening) (as_read disks) history image → IsPrefix (mounted_as base opening) history least image
+  pub means_prefix : (least : ℕ) → least ≤ written → HasNoChanceMatch opening (as_read disks) history image → IsPrefix opening history least image
   means_prefix least le no_chance =
-      let scan = scan_image no_chance in
+      let is = is_mounted (as_read disks) opening means in
+      let scan = scan_image no_chance is.some in
       record {
         commits = scan.count;
         least = omega (arith, le, scan.no_less);
         most = omega (arith, commit_total, scan.most);
-        means = scan_begins
-            ∙ ap (λ n. mounted_from n opening (drop base (first_of image))) (let e : 0 + base ≡ base = omega arith in e)
-            ∙ scan.means
-            ∙ ap (λ (cs : History). mounted_as (base + scan.count) (after_all opening (take scan.count cs))) (sym commits);
-        alone = λ place behind. ⊎_elim
-            (λ (past : base + written < place). ap (option_and_then (record_in place)) (block_elsewhere place (λ from to. omega (arith, past, to))) ∙ alone place (omega (arith, past)))
-            (λ (up_to : place ≤ base + written).
-            let here : base + scan.count ≡ place = omega (arith, behind, up_to, scan.no_less) in
-            subst (λ n. record_at n image ≡ None) here (sym (record_of scan.count) ∙ scan.ends))
-            (cases_lt (base + written) place);
+        means = means_same opening.layout (as_read disks) image before is.layout named sizes
+            (λ dev. block_elsewhere dev 0 (λ at. not_super dev 0 (omega arith) (omega arith) at)) (λ dev. block_elsewhere dev 8 (λ at. not_super dev 8 (omega arith) (omega arith) at))
+            (λ dev. block_elsewhere dev (session_place before) (λ at. not_named dev at))
+            (base + scan.count, after_all opening.forest (take scan.count (commits_of opening.forest history)))
+            (log_begins ∙ scan.means ∙ ap (λ (cs : History). (base + scan.count, after_all opening.forest (take scan.count cs))) (sym commits));
+        alone = record {
+          behind = λ place from within. ⊎_elim
+              (λ (past : base + written < place). at_elsewhere place (λ _ to. omega (arith, past, to)) ∙ alone.behind place (omega (arith, past)) within)
+              (λ (up_to : place ≤ base + written).
+              let here : base + scan.count ≡ place = omega (arith, from, up_to, scan.no_less) in
+              subst (λ n. record_at opening.layout image n ≡ None) here (scan.ends (omega (arith, here, within))))
+              (cases_lt (base + written) place);
+          mirrors = agrees no_chance;
+        };
       }
-
--- Whatever a stop left of a session means a prefix of its commits, with those that were acknowledged by then.
-pub survives : {D : Type 0} (opening : Forest) (start : Shown) (tells : Type 0) (shown : Shown) (log : Log D) (forest : Forest) → IsSound opening start tells shown log forest → tells
-    → Survives (mounted_as log.base opening) start.moments shown.moments log.trace log.acks
-survives opening start tells shown log forest sound told quiet alone moment lo hi image may no_chance =
-    let has = (sound.acks.stops told).each moment lo hi image may in
-    means_prefix opening log.base (now start.moments) log.trace log.files forest sound.files.commits sound.files.made (sound.records.mounted told) quiet alone image has.count has.written
-    (let le : has.count ≤ length log.files = omega (arith, has.most, sound.records.written) in le)
-    (acknowledged log.acks moment) has.least no_chance
-
--- What was only read means what it meant.
-pub reading_survives : (opening : Mounted) (old new : Moments) → IsMounted (as_read (now old)) opening.commits opening.forest → StaysSo old new → Survives opening old new [] []
-reading_survives opening old new means stays quiet alone moment lo hi image may no_chance =
-    let may_before : MayLeaveImage (now old) image = subst (λ ds. MayLeaveImage ds image) (stays.same moment lo hi) may in
-    let has : HasWritten (now old) opening.commits 0 [] image = record { records = λ i lt. absurd (omega (arith, lt)); others = left_itself (IsFromTo opening.commits (opening.commits + 0)) (now old) image may_before } in
-    means_prefix opening.forest opening.commits (now old) [] [] opening.forest refl refl means quiet alone image 0 has (omega arith) 0 (omega arith) no_chance
 
 -- What is acknowledged later is no less.
 acknowledged_later : (acks : List Ack) (m n : ℕ) → m ≤ n → acknowledged acks m ≤ acknowledged acks n
@@ -301,17 +336,73 @@ acknowledged_later (ack ∷ acks) m n le = by (nat_le ack.moment m) (nat_le ack.
 prefix_less : (opening : Mounted) (history : History) (more less : ℕ) (image : Image) → less ≤ more → IsPrefix opening history more image → IsPrefix opening history less image
 prefix_less opening history more less image le is = record { commits = is.commits; least = omega (arith, le, is.least); most = is.most; means = is.means; alone = is.alone }
 
--- Before a session began its devices were only read.
-pub survives_earlier : (opening : Mounted) (old mid new : Moments) (trace : History) (acks : List Ack) → StaysSo old mid → ((m : ℕ) → m ≤ mid.moment → new.disks m ≡ mid.disks m) → mid.moment ≤ new.moment → Survives opening mid new trace acks → Survives opening old new trace acks
-survives_earlier opening old mid new trace acks stays past later survives quiet alone moment lo hi image may no_chance =
-    let same : now mid ≡ now old = stays_now old mid stays in
-    let from_mid = survives (subst (λ ds. IsQuiet ds) (sym same) quiet) (subst (λ ds. IsAlone opening.commits (as_read ds)) (sym same) alone) in
-    let no_chance_mid : HasNoChanceMatch opening (as_read (now mid)) trace image = subst (λ ds. HasNoChanceMatch opening (as_read ds) trace image) (sym same) no_chance in
-    ⊎_elim
-    (λ (earlier : moment < mid.moment).
-    let le : moment ≤ mid.moment = omega (arith, earlier) in
-    let as_mid : new.disks moment ≡ new.disks mid.moment = past moment le ∙ stays.same moment lo le ∙ sym same ∙ sym (past mid.moment (omega arith)) in
-    prefix_less opening trace (acknowledged acks mid.moment) (acknowledged acks moment) image (acknowledged_later acks moment mid.moment le)
-    (from_mid mid.moment (omega arith) later image (subst (λ ds. MayLeaveImage ds image) as_mid may) no_chance_mid))
-    (λ (behind : mid.moment ≤ moment). from_mid moment behind hi image may no_chance_mid)
-    (cases_lt moment mid.moment)
+-- An image has as many devices as the disks that it was left of.
+image_count : (disks : List Disk) (image : Image) → MayLeaveImage disks image → length disks ≡ length image
+image_count [] [] may = refl
+image_count [] (left ∷ image) may = absurd may
+image_count (disk ∷ disks) [] may = absurd may
+image_count (disk ∷ disks) (left ∷ image) may = ap suc (image_count disks image may.1)
+
+-- The sizes of the devices stay while a session writes.
+sizes_stay : (opening : Mounted) (session : ℕ) (disks : List Disk) → mounts (as_read disks) ≡ Ok opening → IsQuiet disks → (image : Image) (last : ℕ) → last ≤ opening.layout.journal
+    → MayLeaveBut (IsOfSession opening.layout session opening.commits last) disks image → length image ≡ length disks → map (λ blocks. length blocks) image ≡ map (λ blocks. length blocks) (as_read disks)
+sizes_stay opening session disks means quiet image last room others as_many =
+    same_sizes image (as_read disks) (17 + opening.layout.journal) (as_many ∙ sym (length-map {B = List (List ℕ)} disks (λ (disk : Disk). disk.blocks)))
+    (area_is_short (as_read disks) opening means)
+    (λ dev block behind. sym (others.2 dev block (λ at. outside dev block behind at)) ∙ quiet_place disks quiet others.0 others.1 dev block)
+  where
+    outside : (dev block : ℕ) → 17 + opening.layout.journal ≤ block → IsOfSession opening.layout session opening.commits last dev block → ⊥
+    outside dev block behind at = ⊎_elim (λ (own : IsSessionPlace opening.layout session dev block). let le = place_is_low session in omega (arith, behind, own.1, le)) (λ log. omega (arith, behind, log.2, room)) at
+
+scan_most : (records : ℕ → Option MadeFile) (more place : ℕ) (forest : Forest) → (scanned_from records more place forest).0 ≤ place + more
+scan_most records zero place forest = omega arith
+scan_most records (suc more) place forest = by (forest_with_next (records place) forest) (scan_most records more (suc place))
+  where
+    by : (taken : Option Forest) → ((next : Forest) → (scanned_from records more (suc place) next).0 ≤ suc place + more) → (option_map_or (scanned_from records more (suc place)) taken (place, forest)).0 ≤ place + suc more
+    by None rest = omega arith
+    by (Some next) rest = omega (arith, rest next)
+
+-- Before a session makes files, what is left means what it meant.
+without_files : (opening : Mounted) (session before : ℕ) (old : Moments) → mounts (as_read (now old)) ≡ Ok opening → session_in opening.layout (as_read (now old)) ≡ Some before → session ≡ suc before
+    → IsQuiet (now old) → IsAlone opening.layout opening.commits (as_read (now old)) → (image : Image) → MayLeaveBut (IsOfSession opening.layout session opening.commits (opening.commits + 0)) (now old) image
+    → length image ≡ length (now old) → HasNoChanceMatch opening (as_read (now old)) [] image → IsPrefix opening [] 0 image
+without_files opening session before old means named behind quiet alone image others as_many no_chance =
+    let log = (is_mounted (as_read (now old)) opening means).log in
+    let commits : (log_in opening.layout (as_read (now old))).0 ≡ opening.commits = ap (λ (s : ℕ × Forest). s.0) log in
+    let room : opening.commits ≤ opening.layout.journal = omega (arith, commits, scan_most (record_at opening.layout (as_read (now old))) opening.layout.journal 0 fresh) in
+    let has : HasWritten opening.layout session (now old) opening.commits 0 [] image = record { records = λ i lt. absurd (omega (arith, lt)); others = others } in
+    means_prefix opening session (now old) [] [] opening.forest refl refl (omega (arith, room)) means before named behind quiet alone image 0 has (omega arith)
+    (sizes_stay opening session (now old) means quiet image (opening.commits + 0) (let le : opening.commits + 0 ≤ opening.layout.journal = omega (arith, room) in le) others as_many)
+    0 (omega arith) no_chance
+
+-- Whatever a stop left of a session means a prefix of its commits, with those that were acknowledged by then.
+pub survives : {D : Type 0} (opening : Forest) (start : Shown) (tells : Type 0) (shown : Shown) (log : Log D) (forest : Forest) → IsSound opening start tells shown log forest → tells
+    → ((m : ℕ) → m ≤ shown.moments.moment → length (shown.moments.disks m) ≡ length shown.sizes) → start.moments.moment ≤ shown.moments.moment
+    → ((m : ℕ) → m ≤ start.moments.moment → shown.moments.disks m ≡ start.moments.disks m)
+    → Survives (mounted_as log.layout (log.base, opening)) start.moments shown.moments log.trace log.acks
+survives opening start tells shown log forest sound told steady later past means quiet alone moment lo hi image may no_chance =
+    let has = (sound.acks.stops told).each moment lo hi image may in
+    let behind = sound.records.behind told in
+    let volume : Mounted = mounted_as log.layout (log.base, opening) in
+    let as_many : length image ≡ length (now start.moments) = sym (image_count _ image may) ∙ steady moment hi ∙ sym (steady start.moments.moment later) ∙ ap length (past start.moments.moment (omega arith)) in
+    means_prefix volume log.session (now start.moments) log.trace log.files forest sound.files.commits sound.files.made sound.files.room means behind.0 behind.1 behind.2 quiet alone image has.count has.written
+    (let le : has.count ≤ length log.files = omega (arith, has.most, sound.records.written) in le)
+    (sizes_stay volume log.session (now start.moments) means quiet image (log.base + has.count) (let le : log.base + has.count ≤ log.layout.journal = omega (arith, has.most, sound.records.written, sound.files.room) in le) has.written.others as_many)
+    (acknowledged log.acks moment) has.least no_chance
+
+-- While only the next session's number is written, what is left means what it meant.
+pub beginning_survives : (opening : Mounted) (old new : Moments) (before devices : ℕ) → session_in opening.layout (as_read (now old)) ≡ Some before
+    → LeavesOnly (λ _ image. MayLeaveBut (IsSessionPlace opening.layout (suc before)) (now old) image) old new → ((m : ℕ) → m ≤ new.moment → length (new.disks m) ≡ devices) → Survives opening old new [] []
+beginning_survives opening old new before devices named only steady means quiet alone moment lo hi image may no_chance =
+    let left = only.each moment lo hi image may in
+    let others = may_differ_more (IsSessionPlace opening.layout (suc before)) (IsOfSession opening.layout (suc before) opening.commits (opening.commits + 0)) (now old) image (λ d b at. inl at) left in
+    let as_many : length image ≡ length (now old) = sym (image_count _ image may) ∙ steady moment hi ∙ sym (steady old.moment only.later) ∙ ap length (only.past old.moment (omega arith)) in
+    without_files opening (suc before) before old means named refl quiet alone image others as_many no_chance
+
+-- What was only read means what it meant.
+pub reading_survives : (opening : Mounted) (old new : Moments) → StaysSo old new → Survives opening old new [] []
+reading_survives opening old new stays means quiet alone moment lo hi image may no_chance =
+    let may_before : MayLeaveImage (now old) image = subst (λ ds. MayLeaveImage ds image) (stays.same moment lo hi) may in
+    let named = (is_mounted (as_read (now old)) opening means).named in
+    without_files opening (suc named.0) named.0 old means named.1 refl quiet alone image
+    (left_itself (IsOfSession opening.layout (suc named.0) opening.commits (opening.commits + 0)) (now old) image may_before) (sym (image_count (now old) image may_before)) no_chance

@@ -1,56 +1,58 @@
--- What the device holds of a session's records, whatever a stop leaves of it.
-use Rattle.std.specs.Prelude.{◌≡◌, ℕ, ◌+◌, ◌<◌, ◌≤◌, List, [], ◌∷◌, take, drop, slice_get, Option, Some, option_and_then}
-use Rattle.dev_model.specs.Disk.{Disk, Image, MayLeaveImage, block_at}
+-- What the devices hold of a session's records, whatever a stop leaves of them.
+use Rattle.std.specs.Prelude.{◌≡◌, ◌⊎◌, ℕ, ◌+◌, ◌<◌, ◌≤◌, List, [], ◌∷◌, slice_get, Option, Some, option_and_then}
+use Rattle.dev_model.specs.Disk.{Disk, Image}
 use Rattle.dev_model.specs.Stops.{LeavesOnly, MayLeaveBut}
-use Rattle.dev_model.specs.Devices.{History, now}
+use Rattle.dev_model.specs.Devices.{History}
+use Rattle.vol_types.specs.declared.layout.Layout.{Layout}
+use Rattle.geometry.specs.Mirrors.{EachLeft}
+use Rattle.geometry.specs.Sessions.{IsSessionPlace, session_at, session_place}
 use Rattle.plain_forest.specs.Forest.{Forest}
-use Rattle.record_log.specs.Records.{record_in}
-use Rattle.record_log.specs.Found.{Mounted, mounted_from, first_of, forest_with}
-use Rattle.record_log.specs.declared.files.MadeFile.{MadeFile}
+use Rattle.log_records.specs.Records.{log_block, record_on}
+use Rattle.log_records.specs.Found.{forest_with}
+use Rattle.log_records.specs.declared.files.MadeFile.{MadeFile}
+
+-- Each metadata device of the image names this session.
+abbrev pub NamesSession : Layout → ℕ → Image → Type 0
+NamesSession layout session image = (dev : ℕ) → dev < layout.meta → session_at layout.id image dev (session_place session) ≡ Some session
 
 -- the forest with these files, one after the other, where each may be made and gets its number
 abbrev pub with_files : List MadeFile → Forest → Option Forest
 with_files [] forest = Some forest
 with_files (file ∷ files) forest = option_and_then (with_files files) (forest_with file forest)
 
--- the file whose record an image holds at a place of the log, if it holds one
-abbrev pub record_at : ℕ → Image → Option MadeFile
-record_at place image = option_and_then (record_in place) (block_at image 0 place)
+-- Each metadata device of the image holds the record of a file at a place of the log.
+abbrev pub HoldRecord : Layout → ℕ → Option MadeFile → Image → Type 0
+HoldRecord layout place file image = (dev : ℕ) → dev < layout.meta → record_on layout place image dev ≡ file
 
--- From a place of the log on the image holds the records of the first so many files.
-abbrev pub HoldsRecords : ℕ → ℕ → List MadeFile → Image → Type 0
-HoldsRecords place count files image = (i : ℕ) → i < count → record_at (place + i) image ≡ slice_get files i
+-- From a place of the log on each metadata device of the image holds the records of the first so many files.
+abbrev pub HoldsRecords : Layout → ℕ → ℕ → List MadeFile → Image → Type 0
+HoldsRecords layout place count files image = (i : ℕ) → i < count → HoldRecord layout (place + i) (slice_get files i) image
 
--- what the next so many blocks from a place of the log on make of a forest
-abbrev pub mounted_next : ℕ → ℕ → Forest → Image → Mounted
-mounted_next place count forest image = mounted_from place forest (take count (drop place (first_of image)))
+-- this place of the log, on a metadata device
+abbrev pub IsLogPlace : Layout → ℕ → ℕ → ℕ → Type 0
+IsLogPlace layout place dev block = (dev < layout.meta) × (block ≡ log_block place)
 
--- Each image that a stop may leave now has the property.
-abbrev pub EachLeft : (Image → Type 0) → History → Type 0
-EachLeft P history = (image : Image) → MayLeaveImage (now history) image → P image
+-- the places of the log from this one up to that one, on metadata devices
+abbrev pub IsFromTo : Layout → ℕ → ℕ → ℕ → ℕ → Type 0
+IsFromTo layout first last dev block = (dev < layout.meta) × (log_block first ≤ block) × (block ≤ log_block last)
 
--- the places of the log from this one up to that one
-abbrev pub IsFromTo : ℕ → ℕ → ℕ → ℕ → Type 0
-IsFromTo first last dev block = (dev ≡ 0) × (first ≤ block) × (block ≤ last)
+-- the places of the log from this one on, on metadata devices
+abbrev pub IsFrom : Layout → ℕ → ℕ → ℕ → Type 0
+IsFrom layout place dev block = (dev < layout.meta) × (log_block place ≤ block)
 
--- The image is one of a session that has written so many of its files' records, from its base on. It holds them, and
--- differs only there and in the next block from what a stop might have left when the session began.
-pub record HasWritten (start : List Disk) (base count : ℕ) (files : List MadeFile) (image : Image) : Type 0 where
-  pub records : HoldsRecords base count files image
-  pub others : MayLeaveBut (IsFromTo base (base + count)) start image
+-- the places that a session writes: those of its number, and those of the log from this one up to that one
+abbrev pub IsOfSession : Layout → ℕ → ℕ → ℕ → ℕ → ℕ → Type 0
+IsOfSession layout session first last dev block = IsSessionPlace layout session dev block ⊎ IsFromTo layout first last dev block
 
--- the places of the log from this one on
-abbrev pub IsFrom : ℕ → ℕ → ℕ → Type 0
-IsFrom place dev block = (dev ≡ 0) × (place ≤ block)
+-- The image is one of a session that has written so many of its files' records, from its base on. Every mirror holds them, and
+-- it differs only there, in the next place of the log and in the session's blocks from what a stop might have left when the
+-- run began.
+pub record HasWritten (layout : Layout) (session : ℕ) (start : List Disk) (base count : ℕ) (files : List MadeFile) (image : Image) : Type 0 where
+  pub records : HoldsRecords layout base count files image
+  pub others : MayLeaveBut (IsOfSession layout session base (base + count)) start image
 
 -- Records are written one after the other, from the first on and up to the last: each image that a stop leaves meanwhile
 -- is one of a session that has written some of them, and in the end all.
-pub record Writes (start : List Disk) (base first last : ℕ) (files : List MadeFile) (old new : History) : Type 0 where
-  pub between : LeavesOnly (λ _ image. (count : ℕ) × (first ≤ count) × (count ≤ last) × HasWritten start base count files image) old new
-  pub held : EachLeft (HasWritten start base last files) new
-
--- While the disks were only read they stayed as they were.
-pub record StaysSo (old new : History) : Type 0 where
-  pub later : old.moment ≤ new.moment
-  pub past : (m : ℕ) → m ≤ old.moment → new.disks m ≡ old.disks m
-  pub same : (m : ℕ) → old.moment ≤ m → m ≤ new.moment → new.disks m ≡ now old
+pub record Writes (layout : Layout) (session : ℕ) (start : List Disk) (base first last : ℕ) (files : List MadeFile) (old new : History) : Type 0 where
+  pub between : LeavesOnly (λ _ image. (count : ℕ) × (first ≤ count) × (count ≤ last) × HasWritten layout session start base count files image) old new
+  pub held : EachLeft (HasWritten layout session start base last files) new

@@ -27,10 +27,9 @@ has_failed history = list_any (λ entry. is_device_fault entry.reply) history
 abbrev pub halt_behind : Halt → History → Option Halt
 halt_behind halt before = if has_failed before then Some halt else None
 
--- a device of so many blocks has as many records, those that stood there and the commits behind these entries, as it has
--- blocks
+-- a log of so many places has a record at each of them: those that stood there, and the commits behind these entries
 abbrev pub is_full_behind : ℕ → ℕ → Forest → History → Bool
-is_full_behind base blocks opening before = base + commit_count opening before == blocks
+is_full_behind base places opening before = base + commit_count opening before == places
 
 -- no extent is short of a place, and the log has no buckets to count
 abbrev pub log_short : Short
@@ -40,26 +39,26 @@ log_short = record { need = 0; free = []; held = [] }
 abbrev pub refusal_or : Reply → Path → Forest → Reply
 refusal_or reply path forest = option_map_or Refused (refusal_of 0 (Mkfile path) forest) reply
 
--- what a session answers to the making of a file: that it has halted, or else that the device is full, where this is so
+-- what a session answers to the making of a file: that it has halted, or else that the log is full, where this is so
 -- and the forest wouldn't refuse; and in all other cases what the forest answers
 abbrev pub file_reply : Option Halt → Bool → Path → Forest → Reply
 file_reply (Some halt) is_full path forest = refusal_or (Halted halt.dev halt.tick) path forest
 file_reply None is_full path forest = if is_full then refusal_or (NoSpace log_short) path forest else reply_of 0 (Mkfile path) 0 forest
 
--- What it answers to a sync: that it has halted, where it has; else that all commits are durable, or that the device
--- failed.
-abbrev pub IsSyncReply : Option Halt → ℕ → Reply → Type 0
-IsSyncReply (Some halt) count reply = reply ≡ Halted halt.dev halt.tick
-IsSyncReply None count reply = (reply ≡ Synced count) ⊎ (reply ≡ DeviceFault 0)
+-- What it answers to a sync: that it has halted, where it has; else that all commits are durable, or that the device failed
+-- by which it halts.
+abbrev pub IsSyncReply : Halt → Option Halt → ℕ → Reply → Type 0
+IsSyncReply halt (Some halted) count reply = reply ≡ Halted halted.dev halted.tick
+IsSyncReply halt None count reply = (reply ≡ Synced count) ⊎ (reply ≡ DeviceFault halt.dev)
 
--- What a session answers to an operation, behind the entries before it, halted or not. It opened this forest, of so many
--- commits, on a device of so many blocks.
-abbrev pub IsExactReply : Forest → ℕ → ℕ → Option Halt → History → Op → Reply → Type 0
-IsExactReply opening base blocks halted before (Mkfile path) reply =
-    reply ≡ file_reply halted (is_full_behind base blocks opening before) path (after_all opening before)
-IsExactReply opening base blocks halted before (Ls path) reply = reply ≡ reply_of 0 (Ls path) 0 (after_all opening before)
-IsExactReply opening base blocks halted before Sync reply = IsSyncReply halted (commit_count opening before) reply
+-- What a session answers to an operation, behind the entries before it, halted or not; it halts so, if it does. It opened
+-- this forest, of so many commits, with a log of so many places.
+abbrev pub IsExactReply : Forest → ℕ → ℕ → Halt → Option Halt → History → Op → Reply → Type 0
+IsExactReply opening base places halt halted before (Mkfile path) reply =
+    reply ≡ file_reply halted (is_full_behind base places opening before) path (after_all opening before)
+IsExactReply opening base places halt halted before (Ls path) reply = reply ≡ reply_of 0 (Ls path) 0 (after_all opening before)
+IsExactReply opening base places halt halted before Sync reply = IsSyncReply halt halted (commit_count opening before) reply
 
 -- An entry has the answer of a session that halted so, if it did.
 abbrev pub IsExact : Forest → ℕ → ℕ → Halt → History → Entry → Type 0
-IsExact opening base blocks halt before entry = IsExactReply opening base blocks (halt_behind halt before) before entry.op entry.reply
+IsExact opening base places halt before entry = IsExactReply opening base places halt (halt_behind halt before) before entry.op entry.reply

@@ -1,5 +1,3 @@
-pub mod Records
-pub mod Found
 pub mod Durable
 pub mod Exact
 pub mod Acknowledged

@@ -1,9 +1,13 @@
 -- A session over the log, what its type keeps, and what its calls answer.
-use Rattle.std.specs.Prelude.{◌≡◌, ◌⊎◌, ℕ, ◌+◌, ◌^◌, ◌<◌, ◌≤◌, Bool, true, false, List, [], ◌∷◌, ◌++◌, length, map, count_by, All, slice_index, Option, Some, None}
+use Rattle.std.specs.Prelude.{◌≡◌, ◌⊎◌, ℕ, suc, ◌+◌, ◌^◌, ◌<◌, ◌≤◌, Bool, true, false, List, [], ◌∷◌, ◌++◌, length, map, count_by, All, Option, Some, None}
 use Rattle.vol_types.specs.Faults.{RoseBy}
+use Rattle.vol_types.specs.declared.layout.Layout.{Layout}
 use Rattle.dev_model.specs.Disk.{Disk, Image, as_read}
 use Rattle.dev_model.specs.Devices.{History as Moments, now}
 use Rattle.dev_model.specs.Stops.{LeavesOnly, MayLeaveBut}
+use Rattle.geometry.specs.Layouts.{is_layout_of}
+use Rattle.geometry.specs.Mirrors.{EachLeft}
+use Rattle.geometry.specs.Sessions.{session_in}
 use Rattle.plain_forest.specs.Forest.{Forest}
 use Rattle.plain_forest.specs.Steps.{reply_of}
 use Rattle.plain_forest.specs.History.{History, EachEntry, IsLegal, after_all, after_commits, commits_of, commit_count}
@@ -11,12 +15,13 @@ use Rattle.plain_forest.specs.declared.operation.Op.{Op}
 use Rattle.plain_forest.specs.declared.operation.Op.TheVariants.{Mkfile, Ls, Sync}
 use Rattle.plain_forest.specs.declared.operation.Reply.{Reply}
 use Rattle.plain_forest.specs.declared.operation.Reply.TheVariants.{Synced, DeviceFault, Halted}
-use Rattle.record_log.specs.Found.{IsMounted, commit_of, in_main, mounted_as}
-use Rattle.record_log.specs.Durable.{EachLeft, HasWritten, IsFrom, mounted_next, with_files}
+use Rattle.log_records.specs.Records.{record_on}
+use Rattle.log_records.specs.Found.{commit_of, in_main, scanned_from}
+use Rattle.log_records.specs.declared.files.MadeFile.{MadeFile}
+use Rattle.record_log.specs.Durable.{HasWritten, IsFrom, with_files}
 use Rattle.record_log.specs.Exact.{IsExact, file_reply, has_failed, is_device_fault, is_full_behind}
 use Rattle.record_log.specs.Acknowledged.{AreAcks, acknowledged}
 use Rattle.record_log.specs.declared.acks.Ack.{Ack}
-use Rattle.record_log.specs.declared.files.MadeFile.{MadeFile}
 use Rattle.record_log.specs.declared.halt.Halt.{Halt}
 
 -- what devices show: their disks at each moment so far, their sizes, and how often they failed, at any call and at a write
@@ -27,10 +32,12 @@ pub record Shown : Type 0 where
   pub faults : ℕ
   pub write_faults : ℕ
 
--- a session: its devices, the records that stood on the first of them when it began, the files that it made, how many
--- of these it has written, its halt, if a device failed, its history, and its acknowledgements
+-- a session: its devices and how the volume lies on them, its number, the records that stood in the log when it began, the
+-- files that it made, how many of these it has written, its halt, if a device failed, its history, and its acknowledgements
 pub record Log (D : Type 0) : Type 0 where
   pub devices : D
+  pub layout : Layout
+  pub session : ℕ
   pub base : ℕ
   pub files : List MadeFile
   pub durable : ℕ
@@ -42,16 +49,16 @@ pub record Log (D : Type 0) : Type 0 where
 abbrev pub device_faults : History → ℕ
 device_faults history = count_by (λ entry. is_device_fault entry.reply) history
 
--- The first device failed at a moment between these.
-pub record IsHaltWithin (first last : ℕ) (halt : Halt) : Type 0 where
-  pub device : halt.dev ≡ 0
+-- One of so many devices failed at a moment between these.
+pub record IsHaltWithin (devices first last : ℕ) (halt : Halt) : Type 0 where
+  pub device : halt.dev < devices
   pub no_sooner : first ≤ halt.tick
   pub no_later : halt.tick ≤ last
 
 -- The session has halted so, exactly where an entry of its history says that a device failed.
-abbrev pub HasHalted : ℕ → ℕ → History → Option Halt → Type 0
-HasHalted first last history None = has_failed history ≡ false
-HasHalted first last history (Some halt) = (has_failed history ≡ true) × IsHaltWithin first last halt
+abbrev pub HasHalted : ℕ → ℕ → ℕ → History → Option Halt → Type 0
+HasHalted devices first last history None = has_failed history ≡ false
+HasHalted devices first last history (Some halt) = (has_failed history ≡ true) × IsHaltWithin devices first last halt
 
 -- the halt of a session; any where it has none
 abbrev pub halt_or_none : Option Halt → Halt
@@ -60,60 +67,63 @@ halt_or_none (Some halt) = halt
 
 -- A session's history is legal and exact, it has halted exactly where an entry says so, and no more of its entries say
 -- that a device failed than calls, and than writes and flushes, failed.
-pub record KeepsHistory (opening : Forest) (base : ℕ) (start shown : Shown) (halted : Option Halt) (trace : History) : Type 0 where
+pub record KeepsHistory (opening : Forest) (base places : ℕ) (start shown : Shown) (halted : Option Halt) (trace : History) : Type 0 where
   pub legal : IsLegal opening trace
-  pub exact : EachEntry (IsExact opening base (slice_index shown.sizes 0) (halt_or_none halted)) trace
-  pub halts : HasHalted start.moments.moment shown.moments.moment trace halted
+  pub exact : EachEntry (IsExact opening base places (halt_or_none halted)) trace
+  pub halts : HasHalted (length shown.sizes) start.moments.moment shown.moments.moment trace halted
   pub faults : RoseBy (device_faults trace) start.faults shown.faults
   pub write_faults : RoseBy (device_faults trace) start.write_faults shown.write_faults
 
--- Its files are those of its commits, its forest is the one after them, and the device has room for their records.
-pub record KeepsFiles (opening : Forest) (base blocks : ℕ) (files : List MadeFile) (trace : History) (forest : Forest) : Type 0 where
+-- Its files are those of its commits, its forest is the one after them, and the log has room for their records.
+pub record KeepsFiles (opening : Forest) (base places : ℕ) (files : List MadeFile) (trace : History) (forest : Forest) : Type 0 where
   pub kept : forest ≡ after_all opening trace
   pub commits : commits_of opening trace ≡ map commit_of files
   pub names : All (λ file. length file.name < 256) files
   pub made : with_files files opening ≡ Some forest
-  pub room : base + length files ≤ blocks
-  pub fits : base + length files < 2 ^ 32
+  pub room : base + length files ≤ places
 
--- It opened the forest that the image then meant, and whatever a stop leaves now has the records that it has written.
-pub record KeepsRecords (opening : Forest) (tells : Type 0) (start now_shown : Moments) (base durable : ℕ) (files : List MadeFile) : Type 0 where
+-- It is the session behind the one that the image then named, on devices that have room for the volume, and whatever a stop
+-- leaves now has the records that it has written.
+pub record KeepsRecords (layout : Layout) (session : ℕ) (tells : Type 0) (start shown : Shown) (base durable : ℕ) (files : List MadeFile) : Type 0 where
+  pub fits : is_layout_of shown.sizes layout ≡ true
   pub written : durable ≤ length files
-  pub mounted : tells → IsMounted (as_read (now start)) base opening
-  pub held : tells → EachLeft (HasWritten (now start) base durable files) now_shown
+  pub behind : tells → (before : ℕ) × (session_in layout (as_read (now start.moments)) ≡ Some before) × (session ≡ suc before)
+  pub held : tells → EachLeft (HasWritten layout session (now start.moments) base durable files) shown.moments
 
 -- The image has all records that were acknowledged by this moment, and maybe more.
-pub record HasAcknowledged (start : List Disk) (base durable : ℕ) (files : List MadeFile) (acks : List Ack) (moment : ℕ) (image : Image) : Type 0 where
+pub record HasAcknowledged (layout : Layout) (session : ℕ) (start : List Disk) (base durable : ℕ) (files : List MadeFile) (acks : List Ack) (moment : ℕ) (image : Image) : Type 0 where
   pub count : ℕ
   pub least : acknowledged acks moment ≤ count
   pub most : count ≤ durable
-  pub written : HasWritten start base count files image
+  pub written : HasWritten layout session start base count files image
 
 -- It acknowledged what was durable, and whatever a stop left at a moment since it began has the records that were
 -- acknowledged by then.
-pub record KeepsAcks (tells : Type 0) (start now_shown : Moments) (base count : ℕ) (files : List MadeFile) (trace : History) (acks : List Ack) : Type 0 where
+pub record KeepsAcks (layout : Layout) (session : ℕ) (tells : Type 0) (start now_shown : Moments) (base count : ℕ) (files : List MadeFile) (trace : History) (acks : List Ack) : Type 0 where
   pub each : AreAcks start.moment now_shown.moment trace acks
   pub durable : All (λ ack. ack.commits ≤ count) acks
-  pub stops : tells → LeavesOnly (HasAcknowledged (now start) base count files acks) start now_shown
+  pub stops : tells → LeavesOnly (HasAcknowledged layout session (now start) base count files acks) start now_shown
 
 -- What holds of every session that opened with this forest, when its devices showed that, and has this forest now, when
 -- they show this.
 pub record IsSound {D : Type 0} (opening : Forest) (start : Shown) (tells : Type 0) (shown : Shown) (log : Log D) (forest : Forest) : Type 0 where
-  pub history : KeepsHistory opening log.base start shown log.halted log.trace
-  pub files : KeepsFiles opening log.base (slice_index shown.sizes 0) log.files log.trace forest
-  pub records : KeepsRecords opening tells start.moments shown.moments log.base log.durable log.files
-  pub acks : KeepsAcks tells start.moments shown.moments log.base log.durable log.files log.trace log.acks
+  pub history : KeepsHistory opening log.base log.layout.journal start shown log.halted log.trace
+  pub files : KeepsFiles opening log.base log.layout.journal log.files log.trace forest
+  pub records : KeepsRecords log.layout log.session tells start shown log.base log.durable log.files
+  pub acks : KeepsAcks log.layout log.session tells start.moments shown.moments log.base log.durable log.files log.trace log.acks
 
--- The image holds a session's durable commits: behind the records that stood when it began, as many blocks as it has
--- written make of the opening forest the one after these commits.
+-- The image holds a session's durable commits, on every metadata device: behind the records that stood when it began, as many
+-- as it has written make of the opening forest the one after these commits.
 abbrev pub HoldsDurable : {D : Type 0} → Forest → Log D → Image → Type 0
-HoldsDurable opening log image = mounted_next log.base log.durable opening image ≡ mounted_as (log.base + log.durable) (after_commits opening log.trace log.durable)
+HoldsDurable opening log image =
+    (dev : ℕ) → dev < log.layout.meta
+    → scanned_from (λ place. record_on log.layout place image dev) log.durable log.base opening ≡ (log.base + log.durable, after_commits opening log.trace log.durable)
 
 -- From one state of a session to the next a stop at each moment leaves what it might have left before, but maybe behind
 -- the records that were durable.
 abbrev pub KeepsDurable : {D : Type 0} → (D → Moments) → Log D → Log D → Type 0
 KeepsDurable history old new =
-    LeavesOnly (λ _ image. MayLeaveBut (IsFrom (old.base + old.durable)) (now (history old.devices)) image) (history old.devices) (history new.devices)
+    LeavesOnly (λ _ image. MayLeaveBut (IsFrom old.layout (old.base + old.durable)) (now (history old.devices)) image) (history old.devices) (history new.devices)
 
 -- the operation is one that the log can keep: to make a file in the root of `main`, to list, or to sync
 abbrev pub IsFlat : Op → Type 0
@@ -127,9 +137,9 @@ IsListing (Mkfile path) = ⊥
 IsListing (Ls path) = Unit {0}
 IsListing Sync = ⊥
 
--- the device has as many records, on it or to come, as it has blocks
-abbrev pub is_full : {D : Type 0} → Forest → (D → List ℕ) → Log D → Bool
-is_full opening sizes log = is_full_behind log.base (slice_index (sizes log.devices) 0) opening log.trace
+-- the log has as many records, there or to come, as it has places
+abbrev pub is_full : {D : Type 0} → Forest → Log D → Bool
+is_full opening log = is_full_behind log.base log.layout.journal opening log.trace
 
 -- A sync has made all commits durable and acknowledged them at this moment.
 pub record HasSynced {D : Type 0} (opening : Forest) (moment : ℕ) (old new : Log D) (reply : Reply) : Type 0 where
@@ -140,10 +150,11 @@ pub record HasSynced {D : Type 0} (opening : Forest) (moment : ℕ) (old new : L
 
 -- A sync has failed, since a device did at a write or a flush, and the session has halted at this moment.
 pub record HasFailed {D : Type 0} (faults : D → ℕ) (moment : ℕ) (old new : Log D) (reply : Reply) : Type 0 where
-  pub is : reply ≡ DeviceFault 0
+  pub dev : ℕ
+  pub is : reply ≡ DeviceFault dev
   pub cause : RoseBy 1 (faults old.devices) (faults new.devices)
   pub acks : new.acks ≡ old.acks
-  pub halted : new.halted ≡ Some (record { dev = 0; tick = moment })
+  pub halted : new.halted ≡ Some (record { dev = dev; tick = moment })
 
 -- A session that has halted answers so, and does nothing.
 pub record StaysHalted {D : Type 0} (halt : Halt) (old new : Log D) (reply : Reply) : Type 0 where
@@ -156,13 +167,13 @@ Syncs history faults opening (Some halt) old new reply = StaysHalted halt old ne
 Syncs history faults opening None old new reply = HasSynced opening (history new.devices).moment old new reply ⊎ HasFailed faults (history new.devices).moment old new reply
 
 -- What the log answers to an operation. Only a sync halts it or acknowledges; `faults` counts failed writes and flushes.
-abbrev pub IsLogReply : {D : Type 0} → (D → Moments) → (D → List ℕ) → (D → ℕ) → Forest → Op → Log D → Log D → Reply → Type 0
-IsLogReply history sizes faults opening (Mkfile path) old new reply = reply ≡ file_reply old.halted (is_full opening sizes old) path (after_all opening old.trace)
-IsLogReply history sizes faults opening (Ls path) old new reply = reply ≡ reply_of 0 (Ls path) 0 (after_all opening old.trace)
-IsLogReply history sizes faults opening Sync old new reply = Syncs history faults opening old.halted old new reply
+abbrev pub IsLogReply : {D : Type 0} → (D → Moments) → (D → ℕ) → Forest → Op → Log D → Log D → Reply → Type 0
+IsLogReply history faults opening (Mkfile path) old new reply = reply ≡ file_reply old.halted (is_full opening old) path (after_all opening old.trace)
+IsLogReply history faults opening (Ls path) old new reply = reply ≡ reply_of 0 (Ls path) 0 (after_all opening old.trace)
+IsLogReply history faults opening Sync old new reply = Syncs history faults opening old.halted old new reply
 
 -- The operation was answered: its entry stands behind the others.
-pub record Answers {D : Type 0} (history : D → Moments) (sizes : D → List ℕ) (faults : D → ℕ) (opening : Forest) (op : Op) (old new : Log D) : Type 0 where
+pub record Answers {D : Type 0} (history : D → Moments) (faults : D → ℕ) (opening : Forest) (op : Op) (old new : Log D) : Type 0 where
   pub reply : Reply
-  pub is : IsLogReply history sizes faults opening op old new reply
+  pub is : IsLogReply history faults opening op old new reply
   pub trace : new.trace ≡ old.trace ++ record { client = 0; op = op; reply = reply } ∷ []

@@ -1,29 +1,24 @@
-//! A log of records on one device: the files that were made in the root of `main`, one sealed block each.
+//! A session over the log of records of a volume's devices.
 //!
-//! It carries a volume until the btrees do. Mounting reads the records from block 0 on, up to the first block that
-//! doesn't hold the next one. A session keeps new records in memory until a sync writes them. Once a write or a flush has
-//! failed, the session has halted: it writes no more.
+//! It takes the next session number before any other write, keeps new records in memory until a sync writes them, on every
+//! metadata device, and keeps its history and its acknowledgements. Once a write or a flush has failed, the session has halted:
+//! it writes no more.
 #![tactic(auto)]
 
 mod acks;
-mod blocks;
-mod fault;
-mod files;
+mod beginning;
 mod halt;
 mod laws;
 mod log;
-mod mounting;
 mod opening;
 mod shorts;
 mod writing;
 
 pub use acks::{Ack, Acks};
-pub use fault::LogFault;
-pub use files::MadeFile;
+pub use beginning::begin_session;
 pub use halt::Halt;
-pub use laws::{reading_is_survived, survives_since};
+pub use laws::{beginning_is_survived, reading_is_survived};
 pub use log::{Finished, RecordLog};
-pub use mounting::{Loaded, load};
 pub use opening::Opening;
 pub use shorts::Shorts;
 

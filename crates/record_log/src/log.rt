@@ -6,20 +6,26 @@ ghost use Rattle.plain_forest.specs.History.{EachEntry, IsLegal, after_all, comm
 ghost use Rattle.std.specs.Option.{option_map_or};
 ghost use Rattle.plain_forest.specs.Steps.{refusal_of, reply_of};
 ghost use Rattle.plain_forest.specs.declared.path.Path.{Path};
-ghost use Rattle.record_log.specs.Found.{IsMounted, in_main, mounted_as};
-ghost use Rattle.record_log.specs.Durable.{EachLeft, StaysSo};
+ghost use Rattle.dev_model.specs.Stops.{LeavesOnly, MayLeaveBut};
+ghost use Rattle.geometry.specs.Layouts.{is_layout_of};
+ghost use Rattle.geometry.specs.Mirrors.{EachLeft};
+ghost use Rattle.geometry.specs.Sessions.{IsSessionPlace, session_in};
+ghost use Rattle.log_records.specs.Found.{in_main, mounted_as};
+ghost use Rattle.record_log.specs.Durable.{NamesSession};
 ghost use Rattle.record_log.specs.Exact.{IsExact, file_reply, is_device_fault, log_short, refusal_or};
 ghost use Rattle.record_log.specs.Acknowledged.{AreAcks, synced_count};
 ghost use Rattle.record_log.specs.Survives.{Survives};
 ghost use Rattle.record_log.specs.Log.{Answers, HasHalted, HoldsDurable, IsFlat, IsListing, KeepsDurable, StaysHalted, Syncs, device_faults, halt_or_none, is_full};
 
 use crate::writing::write_files;
-use crate::{Ack, Acks, Halt, Loaded, LogFault, MadeFile, Opening};
+use crate::{Ack, Acks, Halt, Opening};
 use dev_model::Devices;
+use geometry::DiskFault;
+use log_records::{Loaded, MadeFile};
 use plain_forest::{Entry, Forest, Op, Reply, Trace};
 use std::alloc::{AllocError, Global};
 use std::marker::{Model, PhantomData};
-use vol_types::{Bytes, Counts, Duplicate, Short};
+use vol_types::{Bytes, Counts, Duplicate, Layout, Short};
 
 /// A session over the log. It keeps its history and its acknowledgements, and in its type what they promise: that the
 /// history is legal from the forest that it opened with, and what a stop at each moment leaves of it.
@@ -27,6 +33,8 @@ use vol_types::{Bytes, Counts, Duplicate, Short};
 pub struct RecordLog<D: Devices, O: Opening> {
     alloc: Global,
     devices: D,
+    layout: Layout,
+    session: u64,
     forest: Forest,
     base: u32,
     files: Vec<MadeFile>,
@@ -52,26 +60,31 @@ impl<D: Devices, O: Opening> Model for RecordLog<D, O> {
 
     ghost Value = { Log D };
 
-    ghost view = { λ l. record { devices = l.devices; base = l.base; files = l.files.items; durable = l.durable; halted = l.halted; trace = l.trace.items; acks = l.acks.items } };
+    ghost view = { λ l. record { devices = l.devices; layout = l.layout; session = l.session; base = l.base; files = l.files.items; durable = l.durable; halted = l.halted; trace = l.trace.items; acks = l.acks.items } };
 
-    ghost invariant = { λ l. IsSound O.forest O.start D.tells (record { moments = D.history l.devices; sizes = D.sizes l.devices; faults = D.faults l.devices; write_faults = D.write_faults l.devices }) (record { devices = l.devices; base = l.base; files = l.files.items; durable = l.durable; halted = l.halted; trace = l.trace.items; acks = l.acks.items }) l.forest };
+    ghost invariant = { λ l. IsSound O.forest O.start D.tells (record { moments = D.history l.devices; sizes = D.sizes l.devices; faults = D.faults l.devices; write_faults = D.write_faults l.devices }) (record { devices = l.devices; layout = l.layout; session = l.session; base = l.base; files = l.files.items; durable = l.durable; halted = l.halted; trace = l.trace.items; acks = l.acks.items }) l.forest };
 }
 
 impl<D: Devices, O: Opening> RecordLog<D, O> {
-    /// Begins a session over devices whose log was loaded.
+    /// Goes on with a session that `begin_session` has begun over devices whose volume was loaded.
     pub fn start(alloc: Global, devices: D, loaded: Loaded) -> Self
         requires opening { loaded.forest ≡ O.forest }
-        requires room { loaded.records ≤ slice_index (D.sizes devices) 0 }
-        requires mounted { D.tells → IsMounted (as_read (now O.start.moments)) loaded.records O.forest }
-        requires stays { D.tells → StaysSo O.start.moments (D.history devices) }
+        requires fits { is_layout_of (D.sizes devices) loaded.layout ≡ true }
+        requires room { loaded.records ≤ loaded.layout.journal }
+        requires unspent { loaded.session < 4294967295 }
+        requires named { D.tells → session_in loaded.layout (as_read (now O.start.moments)) ≡ Some loaded.session }
+        requires numbered { D.tells → EachLeft (NamesSession loaded.layout (loaded.session + 1)) (D.history devices) }
+        requires begun { D.tells → LeavesOnly (λ _ image. MayLeaveBut (IsSessionPlace loaded.layout (loaded.session + 1)) (now O.start.moments) image) O.start.moments (D.history devices) }
         requires later { O.start.moments.moment ≤ (D.history devices).moment }
         requires faults { O.start.faults ≤ D.faults devices }
         requires write_faults { O.start.write_faults ≤ D.write_faults devices }
-        ensures { result ≡ record { devices = devices; base = loaded.records; files = []; durable = 0; halted = None; trace = []; acks = [] } }
+        ensures { result ≡ record { devices = devices; layout = loaded.layout; session = loaded.session + 1; base = loaded.records; files = []; durable = 0; halted = None; trace = []; acks = [] } }
     {
         RecordLog {
             alloc,
             devices,
+            layout: loaded.layout,
+            session: loaded.session + 1,
             forest: loaded.forest,
             base: loaded.records,
             files: Vec::new(alloc),
@@ -107,12 +120,12 @@ impl<D: Devices, O: Opening> RecordLog<D, O> {
         ensures acks { result.acks ≡ self.acks }
         ensures halted { result.halted ≡ self.halted }
         ensures legal { IsLegal O.forest result.trace }
-        ensures exact { EachEntry (IsExact O.forest self.base (slice_index (D.sizes result.devices) 0) (halt_or_none result.halted)) result.trace }
-        ensures halts { HasHalted O.start.moments.moment (D.history result.devices).moment result.trace result.halted }
+        ensures exact { EachEntry (IsExact O.forest self.base self.layout.journal (halt_or_none result.halted)) result.trace }
+        ensures halts { HasHalted (length (D.sizes result.devices)) O.start.moments.moment (D.history result.devices).moment result.trace result.halted }
         ensures faults { RoseBy (device_faults result.trace) O.start.faults (D.faults result.devices) }
         ensures write_faults { RoseBy (device_faults result.trace) O.start.write_faults (D.write_faults result.devices) }
         ensures acknowledged { AreAcks O.start.moments.moment (D.history result.devices).moment result.trace result.acks }
-        ensures survives { D.tells → Survives (mounted_as self.base O.forest) O.start.moments (D.history result.devices) result.trace result.acks }
+        ensures survives { D.tells → Survives (mounted_as self.layout (self.base, O.forest)) O.start.moments (D.history result.devices) result.trace result.acks }
         ensures later { O.start.moments.moment ≤ (D.history result.devices).moment }
         ensures past { D.tells → (m : ℕ) → m ≤ O.start.moments.moment → (D.history result.devices).disks m ≡ O.start.moments.disks m }
     {
@@ -131,9 +144,10 @@ impl<D: Devices, O: Opening> RecordLog<D, O> {
     /// it; where a call to the device fails, the session has halted.
     pub fn call(&mut self, op: &Op) -> Result<(), AllocError>
         requires { IsFlat op.now }
-        ensures answered { OnOk result (Answers D.history D.sizes D.write_faults O.forest op.now self.old self.new) }
+        ensures answered { OnOk result (Answers D.history D.write_faults O.forest op.now self.old self.new) }
         ensures err { OnErr result (self.new ≡ record self.old { devices = self.new.devices; durable = self.new.durable }) }
         ensures base { self.new.base ≡ self.old.base }
+        ensures layout { self.new.layout ≡ self.old.layout }
         ensures rises { self.old.durable ≤ self.new.durable }
         ensures untouched { op.now ≢ Op.Sync → self.new ≡ record self.old { files = self.new.files; trace = self.new.trace } }
         ensures sizes { D.sizes self.new.devices ≡ D.sizes self.old.devices }
@@ -155,9 +169,10 @@ impl<D: Devices, O: Opening> RecordLog<D, O> {
 
     fn answer(&mut self, op: &Op) -> Result<(), AllocError>
         requires { IsFlat op.now }
-        ensures answered { OnOk result (Answers D.history D.sizes D.write_faults O.forest op.now self.old self.new) }
+        ensures answered { OnOk result (Answers D.history D.write_faults O.forest op.now self.old self.new) }
         ensures err { OnErr result (self.new ≡ record self.old { devices = self.new.devices; durable = self.new.durable }) }
         ensures base { self.new.base ≡ self.old.base }
+        ensures layout { self.new.layout ≡ self.old.layout }
         ensures rises { self.old.durable ≤ self.new.durable }
         ensures untouched { op.now ≢ Op.Sync → self.new ≡ record self.old { files = self.new.files; trace = self.new.trace } }
         ensures sizes { D.sizes self.new.devices ≡ D.sizes self.old.devices }
@@ -173,20 +188,18 @@ impl<D: Devices, O: Opening> RecordLog<D, O> {
         }
     }
 
-    // Whether the device has as many records, on it or to come, as it has blocks.
+    // Whether the log has as many records, there or to come, as it has places.
     fn is_full(&self) -> bool
-        ensures full { result ≡ is_full O.forest D.sizes self.now }
-        ensures full_of_files { result ≡ (self.now.base + length self.now.files == slice_index (D.sizes self.now.devices) 0) }
-        ensures fits { slice_index (D.sizes self.now.devices) 0 < 2 ^ 32 }
-        ensures room { self.now.base + length self.now.files ≤ slice_index (D.sizes self.now.devices) 0 }
+        ensures full { result ≡ is_full O.forest self.now }
+        ensures full_of_files { result ≡ (self.now.base + length self.now.files == self.now.layout.journal) }
+        ensures room { self.now.base + length self.now.files ≤ self.now.layout.journal }
     {
-        self.devices.count();
-        self.base as usize + self.files.len() == self.devices.blocks(0) as usize
+        self.base as usize + self.files.len() == self.layout.journal as usize
     }
 
     fn make_file(&mut self, op: &Op, name: &Bytes) -> Result<(), AllocError>
         requires { op.now ≡ Op.Mkfile (in_main name.now) }
-        ensures answered { OnOk result (Answers D.history D.sizes D.write_faults O.forest op.now self.old self.new) }
+        ensures answered { OnOk result (Answers D.history D.write_faults O.forest op.now self.old self.new) }
         ensures err { OnErr result (self.new ≡ self.old) }
         ensures others { self.new ≡ record self.old { files = self.new.files; trace = self.new.trace } }
     {
@@ -206,7 +219,7 @@ impl<D: Devices, O: Opening> RecordLog<D, O> {
         requires failure { may_fail op.now otherwise ≡ true }
         requires counted { synced_count otherwise ≡ None }
         requires working { is_device_fault otherwise ≡ false }
-        requires exact { (forest : Forest) → file_reply self.old.halted (is_full O.forest D.sizes self.old) (in_main name.now) forest ≡ refusal_or otherwise (in_main name.now) forest }
+        requires exact { (forest : Forest) → file_reply self.old.halted (is_full O.forest self.old) (in_main name.now) forest ≡ refusal_or otherwise (in_main name.now) forest }
         ensures answered { OnOk result (self.new ≡ record self.old { trace = self.old.trace ++ record { client = 0; op = op.now; reply = refusal_or otherwise (in_main name.now) (after_all O.forest self.old.trace) } ∷ [] }) }
         ensures err { OnErr result (self.new ≡ self.old) }
     {
@@ -220,13 +233,12 @@ impl<D: Devices, O: Opening> RecordLog<D, O> {
         Ok(())
     }
 
-    // The session hasn't halted, and the device has room for one more record.
+    // The session hasn't halted, and the log has room for one more record.
     fn add_file(&mut self, op: &Op, name: &Bytes) -> Result<(), AllocError>
         requires op { op.now ≡ Op.Mkfile (in_main name.now) }
         requires halted { self.old.halted ≡ None }
-        requires full { is_full O.forest D.sizes self.old ≡ false }
-        requires room { self.old.base + length self.old.files < slice_index (D.sizes self.old.devices) 0 }
-        requires fits { slice_index (D.sizes self.old.devices) 0 < 2 ^ 32 }
+        requires full { is_full O.forest self.old ≡ false }
+        requires room { self.old.base + length self.old.files < self.old.layout.journal }
         ensures answered { OnOk result (self.new.trace ≡ self.old.trace ++ record { client = 0; op = op.now; reply = reply_of 0 op.now 0 (after_all O.forest self.old.trace) } ∷ []) }
         ensures err { OnErr result (self.new ≡ self.old) }
         ensures others { self.new ≡ record self.old { files = self.new.files; trace = self.new.trace } }
@@ -266,11 +278,12 @@ impl<D: Devices, O: Opening> RecordLog<D, O> {
     }
 
     fn sync(&mut self) -> Result<(), AllocError>
-        ensures answered { OnOk result (Answers D.history D.sizes D.write_faults O.forest Op.Sync self.old self.new) }
+        ensures answered { OnOk result (Answers D.history D.write_faults O.forest Op.Sync self.old self.new) }
         ensures err { OnErr result (self.new ≡ record self.old { devices = self.new.devices; durable = self.new.durable }) }
         ensures rises { self.old.durable ≤ self.new.durable }
         ensures sizes { D.sizes self.new.devices ≡ D.sizes self.old.devices }
         ensures base { self.new.base ≡ self.old.base }
+        ensures layout { self.new.layout ≡ self.old.layout }
         ensures kept { D.tells → KeepsDurable D.history self.old self.new }
     {
         match self.halted {
@@ -297,11 +310,12 @@ impl<D: Devices, O: Opening> RecordLog<D, O> {
     // Writes each record that isn't written yet, and acknowledges all commits.
     fn sync_all(&mut self) -> Result<(), AllocError>
         requires { self.old.halted ≡ None }
-        ensures answered { OnOk result (Answers D.history D.sizes D.write_faults O.forest Op.Sync self.old self.new) }
+        ensures answered { OnOk result (Answers D.history D.write_faults O.forest Op.Sync self.old self.new) }
         ensures err { OnErr result (self.new ≡ record self.old { devices = self.new.devices; durable = self.new.durable }) }
         ensures rises { self.old.durable ≤ self.new.durable }
         ensures sizes { D.sizes self.new.devices ≡ D.sizes self.old.devices }
         ensures base { self.new.base ≡ self.old.base }
+        ensures layout { self.new.layout ≡ self.old.layout }
         ensures kept { D.tells → KeepsDurable D.history self.old self.new }
     {
         self.trace.reserve(1)?;
@@ -310,6 +324,8 @@ impl<D: Devices, O: Opening> RecordLog<D, O> {
         let written = write_files(
             self.alloc,
             &mut self.devices,
+            &self.layout,
+            self.session,
             self.base,
             self.files.as_slice(),
             &mut self.durable,
@@ -322,15 +338,12 @@ impl<D: Devices, O: Opening> RecordLog<D, O> {
                 put_entry(&mut self.trace, Op::Sync, Reply::Synced(commits));
                 Ok(())
             }
-            Err(LogFault::DeviceFault) => {
-                self.halted = Some(Halt {
-                    dev: 0,
-                    tick: moment,
-                });
-                put_entry(&mut self.trace, Op::Sync, Reply::DeviceFault(0));
+            Err(DiskFault::DeviceFault(dev)) => {
+                self.halted = Some(Halt { dev, tick: moment });
+                put_entry(&mut self.trace, Op::Sync, Reply::DeviceFault(dev));
                 Ok(())
             }
-            Err(LogFault::NoMemory) => Err(AllocError),
+            Err(DiskFault::NoMemory) => Err(AllocError),
         }
     }
 }
@@ -355,7 +368,7 @@ fn halted_reply(halt: Halt) -> Reply
     }
 }
 
-// What it answers where the device is full.
+// What it answers where the log is full.
 fn full_reply(alloc: Global) -> Reply
     ensures { result ≡ Reply.NoSpace log_short }
 {

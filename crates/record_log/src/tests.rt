@@ -1,19 +1,60 @@
-ghost use Rattle.std.specs.Prelude.{◌≡◌, ◌≤◌, slice_index, IfOk};
-ghost use Rattle.dev_model.specs.Disk.{as_read};
+ghost use Rattle.std.specs.Prelude.{◌≡◌, ◌≤◌, true, Some, IfOk};
+ghost use Rattle.dev_model.specs.Disk.{NothingPending, as_read};
 ghost use Rattle.dev_model.specs.Devices.{now};
-ghost use Rattle.record_log.specs.Found.{IsMounted};
+ghost use Rattle.geometry.specs.Layouts.{is_layout_of};
+ghost use Rattle.geometry.specs.Sessions.{session_in};
 ghost use Rattle.record_log.specs.Log.{IsFlat};
 
-use crate::blocks::seal_record;
-use crate::mounting::make_file_op;
-use crate::{Finished, Loaded, LogFault, MadeFile, Opening, RecordLog, load};
+use crate::{Finished, Opening, RecordLog, begin_session};
 use dev_model::{Devices, MemDevices, Pick};
+use geometry::{is_layout, read_session, session_bytes, write_super};
+use log_records::{Loaded, MountFault, load, make_file_op};
 use plain_forest::{Cause, Op, Path, Reply, Trace};
 use std::alloc::Global;
 use std::marker::Brand;
 use std::test::Fail;
-use vol_digest::digest;
-use vol_types::{Bytes, NameList};
+use vol_types::{Blocks, Bytes, Layout, NameList};
+
+const ID: [u8; 16] = [7; 16];
+
+// Sets a block between two sessions.
+fn put(devices: &mut MemDevices, dev: u8, block: u32, bytes: &[u8]) -> Result<(), Fail>
+    requires { NothingPending (now (⟦<MemDevices as Devices>⟧.history devices.old)) }
+    ensures { NothingPending (now (⟦<MemDevices as Devices>⟧.history devices.new)) }
+{
+    if dev >= devices.count() || block >= devices.blocks(dev) || bytes.len() != 4096 {
+        return Err(Fail::from("there is no such block"));
+    }
+    devices.patch(dev, block, bytes)?;
+    Ok(())
+}
+
+// A volume of no commits on two devices, with its metadata on both, last written by this session.
+fn volume_of_session(alloc: Global, session: u64) -> Result<MemDevices, Fail> {
+    let layout = Layout {
+        id: ID,
+        blocks: Blocks::from_slice(alloc, &[1024, 1024])?,
+        journal: 256,
+        meta: 2,
+        replicas: 1,
+    };
+    if !is_layout(&layout) || layout.blocks.len() != 2 {
+        return Err(Fail::from("the layout is one of two devices"));
+    }
+    let mut devices = MemDevices::blank(alloc, &[1024, 1024])?;
+    let mut block = vec![in alloc; 0; 4096]?;
+    write_super(&layout, 0, 0, 1, &mut block);
+    put(&mut devices, 0, 0, &block)?;
+    write_super(&layout, 1, 0, 1, &mut block);
+    put(&mut devices, 1, 0, &block)?;
+    session_bytes(&ID, session, &mut block);
+    put(&mut devices, 0, 4 + (session % 2) as u32, &block)?;
+    Ok(devices)
+}
+
+fn volume(alloc: Global) -> Result<MemDevices, Fail> {
+    volume_of_session(alloc, 1)
+}
 
 // A session over the devices that makes a file for each letter, but lists the root at `L` and syncs at `S`: what it leaves.
 fn session<D: Devices + Drop>(
@@ -33,10 +74,13 @@ fn session_from<D: Devices + Drop, O: Opening>(
     letters: &[u8],
 ) -> Result<Finished<D>, Fail>
     requires opening { loaded.forest ≡ O.forest }
-    requires room { loaded.records ≤ slice_index (D.sizes devices) 0 }
-    requires mounted { D.tells → IsMounted (as_read (now (D.history devices))) loaded.records O.forest }
+    requires fits { is_layout_of (D.sizes devices) loaded.layout ≡ true }
+    requires room { loaded.records ≤ loaded.layout.journal }
+    requires named { D.tells → session_in loaded.layout (as_read (now (D.history devices))) ≡ Some loaded.session }
     requires start { O.start ≡ record { moments = D.history devices; sizes = D.sizes devices; faults = D.faults devices; write_faults = D.write_faults devices } }
 {
+    let mut devices = devices;
+    begin_session(alloc, &mut devices, &loaded)?;
     let mut log = RecordLog::<D, O>::start(alloc, devices, loaded);
     for letter in letters {
         match *letter {
@@ -59,15 +103,15 @@ fn root_listing(alloc: Global) -> Result<Op, Fail>
     })
 }
 
-// A reply as a letter: `k` for Okay, `e` for a name that exists, `f` for a full device, `d` for a failed one, `h` for a
-// session that has halted, the number of names for a listing, and of commits for a sync.
+// A reply as a letter: `k` for Okay, `e` for a name that exists, `f` for a full log, `d` where device 1 failed, `h` for a
+// session that has halted by it, the number of names for a listing, and of commits for a sync.
 fn letter(reply: &Reply) -> u8 {
     match reply {
         Reply::Okay => b'k',
         Reply::Refused(Cause::Exists) => b'e',
         Reply::NoSpace(_) => b'f',
-        Reply::DeviceFault(0) => b'd',
-        Reply::Halted { dev: 0, .. } => b'h',
+        Reply::DeviceFault(1) => b'd',
+        Reply::Halted { dev: 1, .. } => b'h',
         Reply::List(names) if names.len() < 10 => b'0' + names.len() as u8,
         Reply::Synced(count) if *count < 10 => b'0' + *count as u8,
         _ => b'?',
@@ -85,16 +129,14 @@ fn letters(alloc: Global, trace: &Trace) -> Result<Bytes, Fail> {
 #[test]
 fn replies_of_a_session(rt: HostRuntime) -> Result<(), Fail> {
     let alloc = rt.alloc();
-    let cases: [(u32, &[u8], &[u8]); 5] = [
-        (4, b"babLS", b"kke22"),
-        (2, b"aabcbLS", b"kekfe22"),
-        (1, b"a.LS", b"k?11"),
-        (3, b"LS", b"00"),
-        (4, b"SaSSbcSLS", b"0k11kk333"),
+    let cases: [(&[u8], &[u8]); 4] = [
+        (b"babLS", b"kke22"),
+        (b"a.LS", b"k?11"),
+        (b"LS", b"00"),
+        (b"SaSSbcSLS", b"0k11kk333"),
     ];
-    for (size, session_letters, expected) in cases.iter() {
-        let devices = MemDevices::blank(alloc, &[*size])?;
-        let finished = session(alloc, devices, session_letters)?;
+    for (session_letters, expected) in cases.iter() {
+        let finished = session(alloc, volume(alloc)?, session_letters)?;
         assert!(rt; letters(alloc, &finished.trace)?.as_slice() == *expected);
     }
     Ok(())
@@ -104,7 +146,7 @@ fn replies_of_a_session(rt: HostRuntime) -> Result<(), Fail> {
 #[test]
 fn syncs_are_acknowledged(rt: HostRuntime) -> Result<(), Fail> {
     let alloc = rt.alloc();
-    let finished = session(alloc, MemDevices::blank(alloc, &[4])?, b"SabSSc")?;
+    let finished = session(alloc, volume(alloc)?, b"SabSSc")?;
     let counts: [u64; 3] = [0, 2, 2];
     assert!(rt; finished.acks.len() == counts.len());
     for (ack, count) in finished.acks.as_slice().iter().zip(counts.iter()) {
@@ -119,11 +161,10 @@ fn syncs_are_acknowledged(rt: HostRuntime) -> Result<(), Fail> {
 #[test]
 fn made_files_are_mounted_again(rt: HostRuntime) -> Result<(), Fail> {
     let alloc = rt.alloc();
-    let blank = MemDevices::blank(alloc, &[3])?;
-    let finished = session(alloc, blank, b"baS")?;
+    let finished = session(alloc, volume(alloc)?, b"baS")?;
     let mut devices = finished.devices.restart(Pick::AllWritten)?;
     let mut loaded = load(alloc, &mut devices)?;
-    assert_eq!(rt; loaded.records, 2);
+    assert!(rt; loaded.records == 2 && loaded.session == 2);
     let Reply::List(names) = loaded.forest.apply(0, &root_listing(alloc)?)? else {
         return Err(Fail::from("the root is listed"));
     };
@@ -133,40 +174,44 @@ fn made_files_are_mounted_again(rt: HostRuntime) -> Result<(), Fail> {
     Ok(())
 }
 
-// A block of another place, and then one whose inode has another number: each ends the log.
+// The last number may be taken, and then there is none.
 #[test]
-fn a_wrong_number_ends_the_log(rt: HostRuntime) -> Result<(), Fail> {
+fn sessions_end(rt: HostRuntime) -> Result<(), Fail> {
     let alloc = rt.alloc();
-    for (place, number, records) in [(1, 3, 3), (2, 3, 1), (1, 4, 1)] {
-        let blank = MemDevices::blank(alloc, &[3])?;
-        let finished = session(alloc, blank, b"abcS")?;
-        let mut devices = finished.devices.restart(Pick::AllWritten)?;
-        let file = MadeFile {
-            number,
-            name: Bytes::from_slice(alloc, b"other")?,
-        };
-        let mut block = vec![in alloc; 0; 4096]?;
-        seal_record(alloc, place, &file, &mut block)?;
-        assert!(rt; devices.blocks(0) == 3);
-        devices.patch(0, 1, &block)?;
-        assert_eq!(rt; load(alloc, &mut devices)?.records, records);
-    }
+    let finished = session(alloc, volume_of_session(alloc, 4_294_967_294)?, b"a")?;
+    let mut devices = finished.devices.restart(Pick::AllWritten)?;
+    let loaded = load(alloc, &mut devices)?;
+    assert!(rt; loaded.session == 4_294_967_295);
+    let before = devices.moment();
+    assert!(rt; begin_session(alloc, &mut devices, &loaded) == Err(MountFault::NoSession));
+    assert!(rt; devices.moment() == before);
     Ok(())
 }
 
-// A write or a flush that fails halts the session: nothing is written from then on.
+// Of 256 places the last is taken, and then the log is full.
+#[test]
+fn a_full_log(rt: HostRuntime) -> Result<(), Fail> {
+    let alloc = rt.alloc();
+    let mut letters = vec![in alloc; 0; 0]?;
+    for letter in 0..=255 {
+        if ![b'.', b'/', 0, b'L', b'S'].contains(&letter) {
+            letters.push(letter)?;
+        }
+    }
+    letters.push(b'S')?;
+    let finished = session(alloc, volume(alloc)?, &letters)?;
+    let mut devices = finished.devices.restart(Pick::AllWritten)?;
+    assert!(rt; load(alloc, &mut devices)?.records == 251);
+    Ok(())
+}
+
+// Calls 0 to 9 load, and 10 to 13 begin the session. A record costs six: two flushes, two writes and two flushes. A call to
+// device 1 fails.
 #[test]
 fn a_failed_call_halts_the_session(rt: HostRuntime) -> Result<(), Fail> {
     let alloc = rt.alloc();
-    for (failing, expected) in [
-        (1, b"kLdhehLh"),
-        (2, b"kLdhehLh"),
-        (3, b"kL1kekLd"),
-        (4, b"kL1kekLd"),
-        (5, b"kL1kekLd"),
-        (7, b"kL1kekL3"),
-    ] {
-        let mut devices = MemDevices::blank(alloc, &[4])?;
+    for (failing, expected) in [(17, b"kLdhehLh"), (23, b"kL1kekLd"), (40, b"kL1kekL3")] {
+        let mut devices = volume(alloc)?;
         devices.fail_at(&[failing])?;
         let finished = session(alloc, devices, b"aLSbacLS")?;
         let answers = letters(alloc, &finished.trace)?;
@@ -176,31 +221,20 @@ fn a_failed_call_halts_the_session(rt: HostRuntime) -> Result<(), Fail> {
         assert!(rt; answers.len() == expected.len());
         assert!(rt; finished.halted.is_some() == expected.contains(&b'd'));
     }
-    let mut devices = MemDevices::blank(alloc, &[4])?;
-    devices.fail_at(&[0])?;
-    assert!(rt; matches!(load(alloc, &mut devices), Err(LogFault::DeviceFault)));
     Ok(())
 }
 
-// The digest was computed by Python's hashlib over the block that its struct module packed: the head of 96 bytes with
-// kind 2, version 1, part 0 of 1, number 5 and sequence 6, the payload "<QB" of 7 and 4 with the name, zeros up to byte
-// 4,064, and the SHA-256 digest of all that.
+// The number stands on both metadata devices.
 #[test]
-fn known_block(rt: HostRuntime) -> Result<(), Fail> {
+fn the_session_is_sealed_on_both(rt: HostRuntime) -> Result<(), Fail> {
     let alloc = rt.alloc();
-    let file = MadeFile {
-        number: 7,
-        name: Bytes::from_slice(alloc, b"name")?,
-    };
-    let mut block = vec![in alloc; 0xff; 4096]?;
-    seal_record(alloc, 5, &file, &mut block)?;
-    assert_eq!(rt;
-        digest(&block),
-        [
-            0x3a, 0x8d, 0x7b, 0x38, 0x60, 0x76, 0x84, 0xb9, 0x7c, 0x9e, 0xe6, 0x14, 0x5d, 0x76,
-            0x53, 0x79, 0xfd, 0xfb, 0x72, 0x81, 0x34, 0xd7, 0xd2, 0xad, 0x46, 0x5f, 0x62, 0x2b,
-            0xee, 0xcc, 0x14, 0x15,
-        ]
-    );
+    let finished = session(alloc, volume(alloc)?, b"")?;
+    let mut devices = finished.devices.restart(Pick::NoneWritten)?;
+    let mut zeros = vec![in alloc; 0; 4096]?;
+    let loaded = load(alloc, &mut devices)?;
+    assert!(rt; loaded.session == 2);
+    zeros.fill(0);
+    put(&mut devices, 0, 4, &zeros)?;
+    assert!(rt; load(alloc, &mut devices)?.session == 2);
     Ok(())
 }

@@ -1,46 +1,83 @@
-ghost use Rattle.std.specs.Prelude.{◌≡◌, ◌+◌, ◌^◌, ◌<◌, ◌≤◌, List, length, slice_index, All, OnOk, IsErrOf};
+ghost use Rattle.std.specs.Prelude.{◌≡◌, ◌+◌, ◌<◌, ◌≤◌, ℕ, true, Some, Err, List, length, All, OnOk};
 ghost use Rattle.vol_types.specs.Faults.{RoseBy};
 ghost use Rattle.dev_model.specs.Disk.{Disk};
 ghost use Rattle.dev_model.specs.Devices.{now};
 ghost use Rattle.dev_model.specs.Stops.{LeavesOnly, MayLeaveBut};
-ghost use Rattle.record_log.specs.Durable.{EachLeft, HasWritten, IsFrom, Writes};
+ghost use Rattle.geometry.specs.Layouts.{is_layout_of};
+ghost use Rattle.geometry.specs.Mirrors.{EachLeft};
+ghost use Rattle.record_log.specs.Durable.{HasWritten, HoldRecord, IsFrom, IsLogPlace, Writes};
 
-use crate::blocks::write_record;
-use crate::fault::LogFault;
-use crate::files::MadeFile;
 use dev_model::Devices;
+use geometry::{DiskFault, flush_devices, write_mirrors};
+use log_records::{LOG_START, MadeFile, seal_record};
 use std::alloc::Global;
+use vol_types::Layout;
 
-/// Writes the records of files into the log that begins at `base`, from the first that isn't durable on, each with a flush
-/// behind it, and counts those that are. It costs a write and a flush of one block for each.
+/// Writes the record of a file at a place of the log: flushes every device, writes the record on each metadata device, and
+/// flushes these.
+pub fn write_record<D: Devices>(
+    alloc: Global,
+    devices: &mut D,
+    layout: &Layout,
+    session: u64,
+    place: u32,
+    file: &MadeFile,
+) -> Result<(), DiskFault>
+    requires fits { is_layout_of (D.sizes devices.old) layout.now ≡ true }
+    requires place { place < layout.now.journal }
+    requires name { length file.now.name < 256 }
+    ensures cause { (dev : ℕ) → result ≡ Err (DiskFault.DeviceFault dev) → (dev < length (D.sizes devices.old)) × RoseBy 1 (D.faults devices.old) (D.faults devices.new) × RoseBy 1 (D.write_faults devices.old) (D.write_faults devices.new) }
+    ensures faults { D.faults devices.old ≤ D.faults devices.new }
+    ensures write_faults { D.write_faults devices.old ≤ D.write_faults devices.new }
+    ensures sizes { D.sizes devices.new ≡ D.sizes devices.old }
+    ensures moment { (D.history devices.old).moment ≤ (D.history devices.new).moment }
+    ensures held { D.tells → OnOk result (EachLeft (HoldRecord layout.now place (Some file.now)) (D.history devices.new)) }
+    ensures stops { D.tells → LeavesOnly (λ _ image. MayLeaveBut (IsLogPlace layout.now place) (now (D.history devices.old)) image) (D.history devices.old) (D.history devices.new) }
+{
+    let mut block = vec![in alloc; 0; 4096]?;
+    seal_record(alloc, &layout.id, session, place, file, &mut block)?;
+    let count = devices.count();
+    flush_devices(devices, count)?;
+    write_mirrors(devices, layout.meta, LOG_START + place, &block)
+}
+
+/// Writes the records of files into the log that begins at `base`, from the first that isn't durable on, and counts those that
+/// are. Each costs a flush of every device, and a write and a flush of every metadata device.
 pub fn write_files<D: Devices>(
     alloc: Global,
     devices: &mut D,
+    layout: &Layout,
+    session: u64,
     base: u32,
     files: &[MadeFile],
     durable: &mut usize,
-) -> Result<(), LogFault>
-    requires device { 0 < length (D.sizes devices.old) }
-    requires room { base + length files.now ≤ slice_index (D.sizes devices.old) 0 }
-    requires fits { base + length files.now < 2 ^ 32 }
+) -> Result<(), DiskFault>
+    requires fits { is_layout_of (D.sizes devices.old) layout.now ≡ true }
+    requires room { base + length files.now ≤ layout.now.journal }
     requires names { All (λ file. length file.name < 256) files.now }
     requires some { durable.old ≤ length files.now }
     ensures ok { OnOk result (durable.new ≡ length files.now) }
     ensures rises { durable.old ≤ durable.new }
     ensures most { durable.new ≤ length files.now }
-    ensures cause { IsErrOf result LogFault.DeviceFault → RoseBy 1 (D.faults devices.old) (D.faults devices.new) }
-    ensures write_cause { IsErrOf result LogFault.DeviceFault → RoseBy 1 (D.write_faults devices.old) (D.write_faults devices.new) }
+    ensures cause { (dev : ℕ) → result ≡ Err (DiskFault.DeviceFault dev) → (dev < length (D.sizes devices.old)) × RoseBy 1 (D.faults devices.old) (D.faults devices.new) × RoseBy 1 (D.write_faults devices.old) (D.write_faults devices.new) }
     ensures faults { D.faults devices.old ≤ D.faults devices.new }
     ensures write_faults { D.write_faults devices.old ≤ D.write_faults devices.new }
     ensures sizes { D.sizes devices.new ≡ D.sizes devices.old }
     ensures moment { (D.history devices.old).moment ≤ (D.history devices.new).moment }
 
     // What a stop leaves meanwhile: at first what the session had written by then, whatever it started with.
-    ensures kept { D.tells → LeavesOnly (λ _ image. MayLeaveBut (IsFrom (base + durable.old)) (now (D.history devices.old)) image) (D.history devices.old) (D.history devices.new) }
-    ensures written { D.tells → (start : List Disk) → EachLeft (HasWritten start base durable.old files.now) (D.history devices.old) → Writes start base durable.old durable.new files.now (D.history devices.old) (D.history devices.new) }
+    ensures kept { D.tells → LeavesOnly (λ _ image. MayLeaveBut (IsFrom layout.now (base + durable.old)) (now (D.history devices.old)) image) (D.history devices.old) (D.history devices.new) }
+    ensures written { D.tells → (number : ℕ) (start : List Disk) → EachLeft (HasWritten layout.now number start base durable.old files.now) (D.history devices.old) → Writes layout.now number start base durable.old durable.new files.now (D.history devices.old) (D.history devices.new) }
 {
     while *durable < files.len() {
-        write_record(alloc, devices, base + *durable as u32, &files[*durable])?;
+        write_record(
+            alloc,
+            devices,
+            layout,
+            session,
+            base + *durable as u32,
+            &files[*durable],
+        )?;
         *durable += 1;
     }
     Ok(())

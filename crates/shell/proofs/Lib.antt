@@ -1,6 +1,10 @@
+pub mod Asking
+pub mod EarlyEnds
 pub mod Ending
 pub mod FlatScripts
+pub mod Formatted
 pub mod Mounting
 pub mod Preparing
 pub mod Printing
 pub mod Running
+pub mod Stopping

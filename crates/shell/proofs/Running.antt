@@ -39,12 +39,13 @@ module _ {D : Type 0} (sizes : D → List ℕ) where
   goes_then a b c first second one two = record {
     trace = two.trace ∙ ap (λ list. list ++ second) one.trace ∙ append_assoc a.trace first second;
     base = two.base ∙ one.base;
+    layout = two.layout ∙ one.layout;
     same_sizes = two.same_sizes ∙ one.same_sizes;
   }
 
   -- a session in which nothing was answered
-  pub goes_none : (old new : Log D) → new.trace ≡ old.trace → new.base ≡ old.base → sizes new.devices ≡ sizes old.devices → GoesOn sizes old new []
-  goes_none old new trace base same = record { trace = trace ∙ sym (append-nil old.trace); base = base; same_sizes = same }
+  pub goes_none : (old new : Log D) → new.trace ≡ old.trace → new.base ≡ old.base → new.layout ≡ old.layout → sizes new.devices ≡ sizes old.devices → GoesOn sizes old new []
+  goes_none old new trace base layout same = record { trace = trace ∙ sym (append-nil old.trace); base = base; layout = layout; same_sizes = same }
 
   -- lines are answered one list after another
   pub runs_then : (first second : List Line) (a b c : Log D) (page mid last : Page) → RunsLines sizes first a b page mid → RunsLines sizes second b c mid last → RunsLines sizes (first ++ second) a c page last
@@ -64,7 +65,7 @@ module _ {D : Type 0} (sizes : D → List ℕ) where
   runs_none log page = record {
     answered = [];
     are = refl;
-    history = goes_none log log refl refl refl;
+    history = goes_none log log refl refl refl refl;
     shows = λ before shows. subst (λ text. Shows page text) (sym (append-nil before)) shows;
     tally = refl;
   }
@@ -83,7 +84,7 @@ module _ {D : Type 0} (sizes : D → List ℕ) where
   pub runs_barrier : (line : Line) (log : Log D) (page : Page) → line.op ≡ None → RunsLines sizes (line ∷ []) log log page page
   runs_barrier line log page none =
       runs_one line Okay log log page page
-      (subst (λ op. GoesOn sizes log log (cons_option (entry_by op line.client Okay) [])) (sym none) (goes_none log log refl refl refl))
+      (subst (λ op. GoesOn sizes log log (cons_option (entry_by op line.client Okay) [])) (sym none) (goes_none log log refl refl refl refl))
       (λ before shows. subst (λ op. Shows page (before ++ reply_line_by op line.client line.line Okay)) (sym none) (subst (λ text. Shows page text) (sym (append-nil before)) shows))
       (same_tally page.tally)
     where
@@ -133,16 +134,17 @@ module _ {D : Type 0} (history : D → Moments) (sizes : D → List ℕ) (faults
   sync_found None old new reply (inr is) = ap is_no_memory is.is
 
   -- an answer of the log doesn't say that memory was wanting
-  found_memory : (op : Op) (old new : Log D) (reply : Reply) → IsLogReply history sizes faults forest op old new reply → is_no_memory reply ≡ false
-  found_memory (Mkfile path) old new reply is = ap is_no_memory is ∙ file_found old.halted (is_full forest sizes old) path (after_all forest old.trace)
+  found_memory : (op : Op) (old new : Log D) (reply : Reply) → IsLogReply history faults forest op old new reply → is_no_memory reply ≡ false
+  found_memory (Mkfile path) old new reply is = ap is_no_memory is ∙ file_found old.halted (is_full forest old) path (after_all forest old.trace)
   found_memory (Ls path) old new reply is = ap is_no_memory is ∙ answer_found Listed (λ _. refl) (listed path (after_all forest old.trace))
   found_memory Sync old new reply is = sync_found old.halted old new reply is
 
   -- an operation was answered
-  pub goes_answered : (op : Op) (old new : Log D) → (answers : Answers history sizes faults forest op old new) → new.base ≡ old.base → sizes new.devices ≡ sizes old.devices → GoesOn sizes old new (cons_option (entry_if_any 0 op answers.reply) [])
-  goes_answered op old new answers base same = record {
+  pub goes_answered : (op : Op) (old new : Log D) → (answers : Answers history faults forest op old new) → new.base ≡ old.base → new.layout ≡ old.layout → sizes new.devices ≡ sizes old.devices → GoesOn sizes old new (cons_option (entry_if_any 0 op answers.reply) [])
+  goes_answered op old new answers base layout same = record {
     trace = answers.trace ∙ ap (λ list. old.trace ++ list) (ap (λ e. cons_option e []) (sym (has_entry 0 op answers.reply (found_memory op old new answers.reply answers.is))));
     base = base;
+    layout = layout;
     same_sizes = same;
   }
 

@@ -1,5 +1,5 @@
 -- The causes of statuses and failures.
-use Rattle.std.specs.Prelude.{◌≡◌, ◌≢◌, ◌⊎◌, ℕ, ◌^◌, ◌<◌, ◌≤◌, Bool, true, false, if◌then◌else◌, List, [], ◌∷◌, codes, length, slice_index}
+use Rattle.std.specs.Prelude.{◌≡◌, ◌≢◌, ◌⊎◌, ℕ, ◌^◌, ◌<◌, ◌≤◌, Bool, true, false, if◌then◌else◌, List, length, Option, Some, None}
 use Rattle.std.specs.List.{list_any}
 use Rattle.vol_types.specs.Faults.{RoseBy}
 use Rattle.plain_forest.specs.History.{History, EachEntry}
@@ -8,31 +8,27 @@ use Rattle.plain_forest.specs.declared.operation.Reply.TheVariants.{DeviceFault,
 use Rattle.script_text.specs.Lines.{lines_of}
 use Rattle.script_text.specs.Scripts.{IsScript, IsFirstBad}
 use Rattle.script_text.specs.declared.reading.Line.{Line}
-use Rattle.record_log.specs.Found.{Mounted}
+use Rattle.dev_model.specs.Disk.{as_read}
+use Rattle.dev_model.specs.Devices.{now}
+use Rattle.vol_types.specs.declared.layout.Layout.{Layout}
+use Rattle.geometry.specs.declared.fault.DiskFault.{DiskFault}
+use Rattle.geometry.specs.declared.fault.DiskFault.TheVariants as of_disk
+use Rattle.log_records.specs.Found.{Mounted}
 use Rattle.record_log.specs.Exact.{IsExact, has_failed}
-use Rattle.record_log.specs.Log.{IsHaltWithin, device_faults}
+use Rattle.record_log.specs.Log.{IsHaltWithin, Shown, device_faults}
 use Rattle.record_log.specs.declared.halt.Halt.{Halt}
 use Rattle.shell.specs.declared.stop.Stop.{Stop}
-use Rattle.shell.specs.declared.stop.Stop.TheVariants.{Usage, BadLine, TooLong, Source, Device, Memory}
-use Rattle.shell.specs.Outcome.{Outcome, Stopped, Ran, Answered, replies_of, stop_status}
+use Rattle.shell.specs.declared.stop.Stop.TheVariants.{Usage, BadLine, TooLong, Source, Refused, Device, Memory}
+use Rattle.shell.specs.Outcome.{Outcome, Stopped, Ran, Formatted, Answered, format_status, replies_of, stop_status}
+use Rattle.shell.specs.Tasks.{IsFormat, IsRun, task_of}
+use Rattle.shell.specs.Mounts.{IsUnspent, MountStopped}
 
--- the words are the one command, for one device of at least one block
-pub record IsRun (words : List (List ℕ)) (sizes : List ℕ) : Type 0 where
-  pub command : words ≡ codes "run" ∷ []
-  pub device : length sizes ≡ 1
-  pub block : 1 ≤ slice_index sizes 0
-
--- how often the source, the sink and the devices had failed, before a run and after it; of the devices also how often at a
--- write or a flush
+-- how often the source and the sink had failed, before a run and after it
 pub record Faults : Type 0 where
   pub source : ℕ
   pub source_after : ℕ
   pub sink : ℕ
   pub sink_after : ℕ
-  pub devices : ℕ
-  pub devices_after : ℕ
-  pub writes : ℕ
-  pub writes_after : ℕ
 
 -- the most bytes of a script
 abbrev pub script_limit : ℕ
@@ -52,16 +48,27 @@ pub record IsText (source_tells : Type 0) (words : List (List ℕ)) (sizes left 
 abbrev pub IsReadable : Type 0 → List ℕ → Type 0
 IsReadable source_tells left = source_tells → (script : List Line) × IsScript (lines_of left) script
 
--- Why a run stopped, in the order of the tests: other words or devices, a source that failed, a text that is too long,
--- its first bad line, a device that failed while it was read; `faults` and `faults_after` count the devices' failures.
--- Want of memory may come at any of them.
-abbrev pub StopCause : Type 0 → List (List ℕ) → List ℕ → List ℕ → ℕ → ℕ → Stop → Type 0
-StopCause source_tells words sizes left faults faults_after Usage = ¬ IsRun words sizes
-StopCause source_tells words sizes left faults faults_after Source = IsRun words sizes
-StopCause source_tells words sizes left faults faults_after TooLong = IsRun words sizes × (source_tells → script_limit < length left)
-StopCause source_tells words sizes left faults faults_after (BadLine line cause) = IsText source_tells words sizes left × (source_tells → IsFirstBad (lines_of left) line cause)
-StopCause source_tells words sizes left faults faults_after (Device dev) = IsText source_tells words sizes left × IsReadable source_tells left × (dev ≡ 0) × RoseBy 1 faults faults_after
-StopCause source_tells words sizes left faults faults_after Memory = IsRun words sizes
+-- Why the source gave no script: it failed, its text is too long, or that has a first bad line. Want of memory may come at
+-- any time.
+abbrev pub TextStopped : Type 0 → List ℕ → Stop → Type 0
+TextStopped source_tells left Source = Unit {0}
+TextStopped source_tells left TooLong = source_tells → script_limit < length left
+TextStopped source_tells left (BadLine line cause) = source_tells → (length left ≤ script_limit) × IsFirstBad (lines_of left) line cause
+TextStopped source_tells left Memory = Unit {0}
+TextStopped source_tells left stop = ⊥
+
+-- Why a run stopped, in the order of the tests: words that ask for nothing, or for a layout that no volume may have; a source
+-- that gives no script; devices that aren't mounted. Want of memory may come at any of them.
+abbrev pub StopCause : Type 0 → Type 0 → List (List ℕ) → List ℕ → Shown → Shown → Stop → Type 0
+StopCause source_tells devices_tell words left old new Usage = task_of (length old.sizes) words ≡ None
+StopCause source_tells devices_tell words left old new Source = IsRun words old.sizes × TextStopped source_tells left Source
+StopCause source_tells devices_tell words left old new TooLong = IsRun words old.sizes × TextStopped source_tells left TooLong
+StopCause source_tells devices_tell words left old new (BadLine line cause) = IsRun words old.sizes × TextStopped source_tells left (BadLine line cause)
+StopCause source_tells devices_tell words left old new (Refused refusal) =
+    IsText source_tells words old.sizes left × IsReadable source_tells left × MountStopped devices_tell old new (Refused refusal)
+StopCause source_tells devices_tell words left old new (Device dev) =
+    IsText source_tells words old.sizes left × IsReadable source_tells left × MountStopped devices_tell old new (Device dev)
+StopCause source_tells devices_tell words left old new Memory = Unit {0}
 
 -- a stop before the volume is mounted
 abbrev pub is_before_mounting : Stop → Bool
@@ -69,6 +76,7 @@ is_before_mounting Usage = true
 is_before_mounting (BadLine line cause) = true
 is_before_mounting TooLong = true
 is_before_mounting Source = true
+is_before_mounting (Refused refusal) = false
 is_before_mounting (Device dev) = false
 is_before_mounting Memory = false
 
@@ -98,26 +106,44 @@ pub record IsStatus (IsAsFor : ℕ → Type 0) (status : ℕ) (faults : Faults) 
   pub otherwise : status ≢ 5 → IsAsFor status
 
 -- Why no line ran.
-pub record IsStopCaused {D : Type 0} (source_tells : Type 0) (words : List (List ℕ)) (sizes left : List ℕ) (faults : Faults) (status : ℕ) (devices devices_after : D) (stop : Stop) : Type 0 where
-  pub cause : StopCause source_tells words sizes left faults.devices faults.devices_after stop
+pub record IsStopCaused {D : Type 0} (source_tells devices_tell : Type 0) (words : List (List ℕ)) (left : List ℕ) (old new : Shown) (faults : Faults) (status : ℕ) (devices devices_after : D) (stop : Stop) : Type 0 where
+  pub cause : StopCause source_tells devices_tell words left old new stop
   pub source : SourceFailed stop faults.source faults.source_after
   pub ends : IsStatus (λ n. n ≡ stop_status stop) status faults
   pub untouched : is_before_mounting stop ≡ true → devices_after ≡ devices
 
--- Why the lines were answered as they were. Each reply is the one that a session gives at its place; once a device has
--- failed in a sync the session has halted, with one device and one moment of the run. The entries that say that a device
--- failed are together at most as many as the devices' failures, and as those at writes and flushes.
-pub record IsRunCaused (source_tells : Type 0) (words : List (List ℕ)) (sizes left : List ℕ) (faults : Faults) (status first last_moment : ℕ) (opening : Mounted) (trace : History) (answered : List Answered) (last : Reply) : Type 0 where
-  pub text : IsText source_tells words sizes left
+-- Why the lines were answered as they were. The image mounts and a number was left for the session. Each reply is the one that
+-- a session gives at its place; once a device has failed in a sync the session has halted, with one device and one moment of
+-- the run. The entries that say that a device failed are together at most as many as the devices' failures, and as those at
+-- writes and flushes.
+pub record IsRunCaused (source_tells devices_tell : Type 0) (words : List (List ℕ)) (left : List ℕ) (old new : Shown) (faults : Faults) (status : ℕ) (opening : Mounted) (trace : History) (answered : List Answered) (last : Reply) : Type 0 where
+  pub text : IsText source_tells words old.sizes left
   pub source : faults.source_after ≡ faults.source
+  pub unspent : devices_tell → IsUnspent (as_read (now old.moments)) opening.layout
   pub ends : IsStatus (λ n. (n ≡ replies_status (replies_of answered last)) ⊎ (n ≡ 7)) status faults
   pub halt : Halt
-  pub exact : EachEntry (IsExact opening.forest opening.commits (slice_index sizes 0) halt) trace
-  pub halted : has_failed trace ≡ true → IsHaltWithin first last_moment halt
-  pub call_faults : RoseBy (device_faults trace) faults.devices faults.devices_after
-  pub write_faults : RoseBy (device_faults trace) faults.writes faults.writes_after
+  pub exact : EachEntry (IsExact opening.forest opening.commits opening.layout.journal halt) trace
+  pub halted : has_failed trace ≡ true → IsHaltWithin (length old.sizes) old.moments.moment new.moments.moment halt
+  pub call_faults : RoseBy (device_faults trace) old.faults new.faults
+  pub write_faults : RoseBy (device_faults trace) old.write_faults new.write_faults
+
+-- Why a format failed, if it did: a call to a device failed, or memory was wanting.
+abbrev pub FormatCause : Shown → Shown → Option DiskFault → Type 0
+FormatCause old new (Some (of_disk.DeviceFault dev)) = (dev < length old.sizes) × RoseBy 1 old.faults new.faults
+FormatCause old new (Some of_disk.NoMemory) = Unit {0}
+FormatCause old new None = Unit {0}
+
+-- The words ask for a format with this layout, and the source wasn't touched.
+pub record IsFormatCaused (words : List (List ℕ)) (old new : Shown) (faults : Faults) (status : ℕ) (layout : Layout) (fault : Option DiskFault) : Type 0 where
+  pub format : IsFormat words old.sizes layout
+  pub source : faults.source_after ≡ faults.source
+  pub cause : FormatCause old new fault
+  pub ends : IsStatus (λ n. n ≡ format_status fault) status faults
 
 -- the causes of a run, by how it went
-abbrev pub Caused : {D : Type 0} → Type 0 → List (List ℕ) → List ℕ → List ℕ → Faults → ℕ → ℕ → ℕ → D → D → Mounted → History → Outcome → Type 0
-Caused source_tells words sizes left faults status first last_moment devices devices_after opening trace (Stopped stop) = IsStopCaused source_tells words sizes left faults status devices devices_after stop
-Caused source_tells words sizes left faults status first last_moment devices devices_after opening trace (Ran script answered last) = IsRunCaused source_tells words sizes left faults status first last_moment opening trace answered last
+abbrev pub Caused : {D : Type 0} → Type 0 → Type 0 → List (List ℕ) → List ℕ → Shown → Shown → Faults → ℕ → D → D → Mounted → History → Outcome → Type 0
+Caused source_tells devices_tell words left old new faults status devices devices_after opening trace (Stopped stop) =
+    IsStopCaused source_tells devices_tell words left old new faults status devices devices_after stop
+Caused source_tells devices_tell words left old new faults status devices devices_after opening trace (Ran script answered last) =
+    IsRunCaused source_tells devices_tell words left old new faults status opening trace answered last
+Caused source_tells devices_tell words left old new faults status devices devices_after opening trace (Formatted layout fault) = IsFormatCaused words old new faults status layout fault

@@ -1,7 +1,10 @@
 pub mod Flat
 pub mod Outcome
 pub mod Stops
+pub mod Tasks
+pub mod Mounts
 pub mod Told
 pub mod Caused
+pub mod Survived
 pub mod Phases
 pub mod Headline

@@ -1,5 +1,5 @@
 -- How a run goes, from beginning to end.
-use Rattle.std.specs.Prelude.{ℕ, List, [], ◌∷◌, ◌++◌, map, max, codes, Option, Some, None}
+use Rattle.std.specs.Prelude.{ℕ, length, slice_index, List, [], ◌∷◌, ◌++◌, map, max, codes, Option, Some, None}
 use Rattle.std.specs.List.{filter_map, flat_map}
 use Rattle.std.specs.Fmt.{decimal}
 use Rattle.plain_forest.specs.Forest.{Forest}
@@ -13,24 +13,33 @@ use Rattle.script_text.specs.Replies.{reply_line_of, end_line_of}
 use Rattle.script_text.specs.declared.reading.Line.{Line}
 use Rattle.script_text.specs.declared.reading.LineFault.{LineFault}
 use Rattle.script_text.specs.declared.reading.LineFault.TheVariants.{NotBuilt}
+use Rattle.uuid.specs.Text.{hyphenated_text, lower}
+use Rattle.vol_types.specs.declared.layout.Layout.{Layout}
+use Rattle.geometry.specs.declared.fault.DiskFault.{DiskFault}
+use Rattle.shell.specs.Stops.{stop_of_disk}
+use Rattle.shell.specs.declared.stop.Refusal.{Refusal}
+use Rattle.shell.specs.declared.stop.Refusal.TheVariants.{NoSuper, Version, Mixed, BadLayout, NoSession}
 use Rattle.shell.specs.declared.stop.Stop.{Stop}
-use Rattle.shell.specs.declared.stop.Stop.TheVariants.{Usage, BadLine, TooLong, Source, Device, Memory}
+use Rattle.shell.specs.declared.stop.Stop.TheVariants.{Usage, BadLine, TooLong, Source, Refused, Device, Memory}
 
 -- a line of the script with the reply to it
 pub record Answered : Type 0 where
   pub line : Line
   pub reply : Reply
 
--- A run stops before any line runs, or each line of the script is answered in order, and then a last sync.
+-- A run stops before any line runs, or each line of the script is answered in order, and then a last sync; or the devices
+-- are formatted with this layout, unless it fails by a fault.
 pub data Outcome : Type 0 where
   Stopped : Stop → Outcome
   Ran : List Line → List Answered → Reply → Outcome
+  Formatted : Layout → Option DiskFault → Outcome
 
 -- the status of a stop
 abbrev pub stop_status : Stop → ℕ
 stop_status Usage = 1
 stop_status (BadLine line cause) = 2
 stop_status TooLong = 2
+stop_status (Refused refusal) = 3
 stop_status Source = 4
 stop_status (Device dev) = 6
 stop_status Memory = 7
@@ -39,14 +48,39 @@ stop_status Memory = 7
 abbrev pub bad_end : LineFault → List ℕ
 bad_end NotBuilt = codes " not-built\n"
 
+-- the number of a reason why devices aren't mounted
+abbrev pub refusal_number : Refusal → ℕ
+refusal_number NoSuper = 1
+refusal_number Version = 2
+refusal_number Mixed = 3
+refusal_number BadLayout = 4
+refusal_number NoSession = 5
+
 -- the line of a stop
 abbrev pub stop_line : Stop → List ℕ
 stop_line Usage = codes "error 1 usage\n"
 stop_line (BadLine line cause) = codes "error 2 line " ++ decimal line ++ bad_end cause
 stop_line TooLong = codes "error 2 too-long\n"
+stop_line (Refused refusal) = codes "mount refused " ++ decimal (refusal_number refusal) ++ codes "\n"
 stop_line Source = codes "error 4 source\n"
 stop_line (Device dev) = codes "error 6 device " ++ decimal dev ++ codes "\n"
 stop_line Memory = codes "error 7 memory\n"
+
+-- the line of a format that succeeded: the volume's id, how many devices it has, of how many blocks, and its journal's blocks
+unfoldable pub formatted_line : Layout → List ℕ
+formatted_line layout =
+    codes "formatted " ++ hyphenated_text lower layout.id ++ codes " devices " ++ decimal (length layout.blocks) ++ codes " blocks " ++ decimal (slice_index layout.blocks 0)
+    ++ codes " journal " ++ decimal layout.journal ++ codes "\n"
+
+-- the line of a format, or of the fault by which it failed
+abbrev pub format_line : Layout → Option DiskFault → List ℕ
+format_line layout None = formatted_line layout
+format_line layout (Some fault) = stop_line (stop_of_disk fault)
+
+-- the status of a format, or of the fault by which it failed
+abbrev pub format_status : Option DiskFault → ℕ
+format_status None = 0
+format_status (Some fault) = stop_status (stop_of_disk fault)
 
 -- the entry of an operation with its reply: one that found no memory has none
 abbrev pub entry_if_any : ℕ → Op → Reply → Option Entry

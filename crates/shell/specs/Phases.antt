@@ -1,5 +1,5 @@
 -- How lines are answered, one after another, and what their replies amount to.
-use Rattle.std.specs.Prelude.{◌≡◌, ◌≢◌, ◌⊎◌, ℕ, ◌||◌, false, max, List, [], ◌∷◌, ◌++◌, take, map}
+use Rattle.std.specs.Prelude.{◌≡◌, ◌≢◌, ◌⊎◌, ◌≤◌, ℕ, ◌||◌, false, max, List, [], ◌∷◌, ◌++◌, take, map, Option, None, Ok}
 use Rattle.std.specs.List.{filter_map}
 use Rattle.vol_types.specs.Faults.{RoseBy}
 use Rattle.plain_forest.specs.Forest.{Forest}
@@ -9,11 +9,17 @@ use Rattle.plain_forest.specs.History.{History, commit_count}
 use Rattle.plain_forest.specs.declared.operation.Op.TheVariants.{Sync}
 use Rattle.plain_forest.specs.declared.operation.Reply.{Reply}
 use Rattle.script_text.specs.declared.reading.Line.{Line}
-use Rattle.record_log.specs.Log.{Log}
+use Rattle.record_log.specs.Log.{Log, Shown}
+use Rattle.vol_types.specs.declared.layout.Layout.{Layout}
+use Rattle.geometry.specs.Mirrors.{EachLeft}
+use Rattle.geometry.specs.declared.fault.DiskFault.{DiskFault}
+use Rattle.log_records.specs.Found.{mounts}
+use Rattle.log_format.specs.Formatting.{FormatSurvives, fresh_volume}
+use Rattle.record_log.specs.declared.acks.Ack.{Ack}
 use Rattle.shell.specs.declared.tally.Tally.{Tally}
 use Rattle.shell.specs.declared.page.Page.{Page}
-use Rattle.shell.specs.Outcome.{Answered, entries_of, entry_if_any, entry_of, replies_of, reply_lines, synced_by, text_of}
-use Rattle.shell.specs.Caused.{asked_status, is_failure, is_no_memory, replies_status}
+use Rattle.shell.specs.Outcome.{Answered, entries_of, entry_if_any, entry_of, format_line, format_status, replies_of, reply_lines, synced_by, text_of}
+use Rattle.shell.specs.Caused.{FormatCause, asked_status, is_failure, is_no_memory, replies_status}
 
 -- a tally of replies, with one reply more
 abbrev pub tally_with : Tally → Reply → Tally
@@ -42,6 +48,7 @@ pub record Shows (page : Page) (text : List ℕ) : Type 0 where
 pub record GoesOn {D : Type 0} (sizes : D → List ℕ) (old new : Log D) (more : History) : Type 0 where
   pub trace : new.trace ≡ old.trace ++ more
   pub base : new.base ≡ old.base
+  pub layout : new.layout ≡ old.layout
   pub same_sizes : sizes new.devices ≡ sizes old.devices
 
 -- Each of the lines was answered, in order: the history has the entries, and the page the lines and the tally of the
@@ -83,3 +90,22 @@ pub record RunsScript (forest : Forest) (sink_tells : Type 0) (script : List Lin
   pub failed : status ≡ 5 → RoseBy 1 sink_faults sink_faults_after
   pub printed : status ≢ 5 → sink_faults_after ≡ sink_faults
   pub otherwise : status ≢ 5 → (status ≡ replies_status (replies_of answered last)) ⊎ (status ≡ 7)
+
+-- Nothing of a script ran: there is no history, and the sink has gained this line, or a front of it with status 5.
+pub record EndsEarly (sink_tells : Type 0) (line : List ℕ) (as_asked : ℕ) (held held_after : List ℕ) (sink_faults sink_faults_after status : ℕ) (trace : History) (acks : List Ack) : Type 0 where
+  pub nothing : trace ≡ []
+  pub no_acks : acks ≡ []
+  pub front : sink_tells → GivesPrefix line held held_after
+  pub whole : sink_tells → status ≢ 5 → held_after ≡ held ++ line
+  pub failed : status ≡ 5 → RoseBy 1 sink_faults sink_faults_after
+  pub printed : status ≢ 5 → sink_faults_after ≡ sink_faults
+  pub otherwise : status ≢ 5 → status ≡ as_asked
+
+-- The devices were formatted, or that failed by a fault, and the sink has gained the line that says so.
+pub record Formats (sink_tells devices_tell : Type 0) (layout : Layout) (old new : Shown) (held held_after : List ℕ) (sink_faults sink_faults_after status : ℕ) (trace : History) (acks : List Ack) : Type 0 where
+  pub fault : Option DiskFault
+  pub survives : devices_tell → FormatSurvives layout old.moments new.moments
+  pub done : devices_tell → fault ≡ None → EachLeft (λ image. mounts image ≡ Ok (fresh_volume layout)) new.moments
+  pub cause : FormatCause old new fault
+  pub later : old.moments.moment ≤ new.moments.moment
+  pub ends : EndsEarly sink_tells (format_line layout fault) (format_status fault) held held_after sink_faults sink_faults_after status trace acks

@@ -7,8 +7,7 @@ use Rattle.plain_forest.specs.declared.operation.Reply.{Reply}
 use Rattle.script_text.specs.Lines.{lines_of}
 use Rattle.script_text.specs.Scripts.{IsScript}
 use Rattle.script_text.specs.declared.reading.Line.{Line}
-use Rattle.shell.specs.declared.stop.Stop.{Stop}
-use Rattle.shell.specs.Outcome.{Outcome, Stopped, Ran, Answered, stop_line, entries_of, text_of}
+use Rattle.shell.specs.Outcome.{Outcome, Stopped, Ran, Formatted, Answered, stop_line, format_line, entries_of, text_of}
 
 -- what the source gave and the sink took, where they tell it
 pub record Streams : Type 0 where
@@ -16,11 +15,11 @@ pub record Streams : Type 0 where
   pub held : List ℕ
   pub held_after : List ℕ
 
--- No line ran: the history is empty, and the sink has gained the line of the stop, or a front of it with status 5.
-pub record IsStopped (sink_tells : Type 0) (streams : Streams) (status : ℕ) (trace : History) (stop : Stop) : Type 0 where
+-- No line of a script ran: the history is empty, and the sink has gained this line, or a front of it with status 5.
+pub record TellsLine (sink_tells : Type 0) (streams : Streams) (status : ℕ) (trace : History) (line : List ℕ) : Type 0 where
   pub nothing : trace ≡ []
-  pub front : sink_tells → GivesPrefix (stop_line stop) streams.held streams.held_after
-  pub whole : sink_tells → status ≢ 5 → streams.held_after ≡ streams.held ++ stop_line stop
+  pub front : sink_tells → GivesPrefix line streams.held streams.held_after
+  pub whole : sink_tells → status ≢ 5 → streams.held_after ≡ streams.held ++ line
 
 -- Each line of the script was answered, in order, and then a sync. The history has the entries of these answers, and
 -- the sink has gained their text, or a front of it with status 5 or 7.
@@ -33,5 +32,6 @@ pub record HasRun (source_tells sink_tells : Type 0) (streams : Streams) (status
 
 -- what a run tells, by how it went
 abbrev pub Told : Type 0 → Type 0 → Streams → ℕ → Forest → History → Outcome → Type 0
-Told source_tells sink_tells streams status opening trace (Stopped stop) = IsStopped sink_tells streams status trace stop
+Told source_tells sink_tells streams status opening trace (Stopped stop) = TellsLine sink_tells streams status trace (stop_line stop)
 Told source_tells sink_tells streams status opening trace (Ran script answered last) = HasRun source_tells sink_tells streams status opening trace script answered last
+Told source_tells sink_tells streams status opening trace (Formatted layout fault) = TellsLine sink_tells streams status trace (format_line layout fault)

@@ -1,40 +1,50 @@
-ghost use Rattle.std.specs.Prelude.{◌≡◌, ◌≢◌, ◌≤◌, ◌++◌, [], ℕ, Option, map, slice_index};
+ghost use Rattle.std.specs.Prelude.{◌≡◌, ◌+◌, ◌<◌, ◌≤◌, ℕ, List, Option, Some, length, map, true};
 ghost use Rattle.std.specs.Rc.{rc_str_bytes};
 ghost use Rattle.vol_types.specs.Faults.{RoseBy};
-ghost use Rattle.text_io.specs.Streams.{GivesPrefix};
 ghost use Rattle.dev_model.specs.Disk.{as_read};
 ghost use Rattle.dev_model.specs.Devices.{now};
+ghost use Rattle.dev_model.specs.Stops.{LeavesOnly, MayLeaveBut};
+ghost use Rattle.geometry.specs.Layouts.{is_layout, is_layout_of};
+ghost use Rattle.geometry.specs.Mirrors.{EachLeft};
+ghost use Rattle.geometry.specs.Sessions.{IsSessionPlace, session_in};
 ghost use Rattle.plain_forest.specs.History.{EachEntry, IsLegal};
-ghost use Rattle.record_log.specs.Found.{IsMounted, mounted_as};
+ghost use Rattle.log_records.specs.Found.{mounted_as};
+ghost use Rattle.record_log.specs.Durable.{NamesSession};
 ghost use Rattle.record_log.specs.Exact.{IsExact};
 ghost use Rattle.record_log.specs.Acknowledged.{AreAcks};
 ghost use Rattle.record_log.specs.Survives.{Survives};
 ghost use Rattle.record_log.specs.Log.{HasHalted, device_faults, halt_or_none};
 ghost use Rattle.record_log.specs.declared.halt.Halt.{Halt};
-ghost use Rattle.shell.specs.Outcome.{stop_line, stop_status};
+ghost use Rattle.shell.specs.Outcome.{formatted_line, stop_line, stop_status};
+ghost use Rattle.shell.specs.Tasks.{IsRun};
 ghost use Rattle.shell.specs.Flat.{AreFlat};
 ghost use Rattle.shell.specs.Headline.{Headline};
-ghost use Rattle.shell.specs.Phases.{RunsScript};
+ghost use Rattle.shell.specs.Mounts.{last_session};
+ghost use Rattle.shell.specs.Phases.{EndsEarly, Formats, RunsScript};
 
 use crate::ended::Ended;
+use crate::formatting::formatted_line;
 use crate::page::Page;
 use crate::phases::{end_run, run_lines};
 use crate::prepare::{Plan, prepare};
 use crate::stop::{Stop, print_stop, status_of};
+use crate::task::{Task, read_task};
 use dev_model::{Devices, Gate};
+use log_format::format;
 use plain_forest::Trace;
-use record_log::{Acks, Finished, Opening, RecordLog, Shorts, reading_is_survived, survives_since};
+use record_log::{Acks, Finished, Opening, RecordLog, Shorts, reading_is_survived};
 use std::alloc::Global;
 use std::marker::Brand;
 use std::rc::RcStr;
-use text_io::{Sink, Source};
+use text_io::{Sink, Source, give_all};
+use vol_types::{Bytes, Layout};
 
-/// Runs the command that the words name: reads the script, mounts the volume on the devices, answers each line, and
-/// syncs. Every line, error lines too, goes to the sink.
+/// Does what the words ask for, on the devices. Every line, error lines too, goes to the sink.
 ///
-/// The one command is `run`, on one device of at least one block. The status is 0 where all went well, 1 for other
-/// words or devices, 2 for a script with a line that is no operation or of more than 16 MiB, 4 where the source failed,
-/// 5 where the sink failed, 6 where a device failed, and 7 where memory was wanting.
+/// `run` reads the script, mounts the volume, answers each line, and syncs. `format` makes a new volume of the devices, and
+/// doesn't touch the source. The status is 0 where all went well, 1 for other words, or a layout that no volume may have, 2
+/// for a script with a line that is no operation or of more than 16 MiB, 3 where the volume isn't mounted, 4 where the source
+/// failed, 5 where the sink failed, 6 where a device failed, and 7 where memory was wanting.
 pub fn run_words<R, S: Source, K: Sink, D: Devices, G: Gate>(
     _rt: &R,
     alloc: Global,
@@ -44,31 +54,29 @@ pub fn run_words<R, S: Source, K: Sink, D: Devices, G: Gate>(
     devices: D,
     gate: &G,
 ) -> Ended<D>
-    ensures { Headline S.tells K.tells D.tells D.history (record { words = map rc_str_bytes words.now; streams = record { left = S.left source.old; held = K.held sink.old; held_after = K.held sink.new }; faults = record { source = S.faults source.old; source_after = S.faults source.new; sink = K.faults sink.old; sink_after = K.faults sink.new; devices = D.faults devices; devices_after = D.faults result.devices; writes = D.write_faults devices; writes_after = D.write_faults result.devices }; sizes = D.sizes devices; devices = devices; devices_after = result.devices; status = result.status; trace = result.trace; acks = result.acks }) }
+    ensures { Headline S.tells K.tells D.tells (record { words = map rc_str_bytes words.now; streams = record { left = S.left source.old; held = K.held sink.old; held_after = K.held sink.new }; faults = record { source = S.faults source.old; source_after = S.faults source.new; sink = K.faults sink.old; sink_after = K.faults sink.new }; devices = devices; devices_after = result.devices; shown = record { moments = D.history devices; sizes = D.sizes devices; faults = D.faults devices; write_faults = D.write_faults devices }; shown_after = record { moments = D.history result.devices; sizes = D.sizes result.devices; faults = D.faults result.devices; write_faults = D.write_faults result.devices }; status = result.status; trace = result.trace; acks = result.acks }) }
 {
     reading_is_survived();
-    survives_since();
-    let mut devices = devices;
-    match prepare(alloc, words, source, &mut devices) {
-        Ok(plan) => run_plan::<K, D, G, Brand>(alloc, plan, sink, devices, gate),
-        Err(stop) => end_early(alloc, stop, sink, devices),
+    match read_task(alloc, words, devices.count()) {
+        Ok(Task::Run) => run_script::<S, K, D, G, Brand>(alloc, source, sink, devices, gate),
+        Ok(Task::Format(layout)) => match formatted_line(alloc, &layout) {
+            Ok(line) => format_devices(alloc, &layout, &line, sink, devices),
+            Err(_) => end_early(alloc, Stop::Memory, sink, devices),
+        },
+        Err(fault) => end_early(alloc, Stop::from(fault), sink, devices),
     }
 }
 
-// No line ran.
+// Nothing was run or formatted.
+#[tactic(auto, using(crate::proofs::EarlyEnds::given_front))]
 fn end_early<K: Sink, D: Devices>(alloc: Global, stop: Stop, sink: &mut K, devices: D) -> Ended<D>
-    ensures nothing { result.trace ≡ [] }
-    ensures no_acks { result.acks ≡ [] }
     ensures devices { result.devices ≡ devices }
-    ensures front { K.tells → GivesPrefix (stop_line stop) (K.held sink.old) (K.held sink.new) }
-    ensures whole { K.tells → result.status ≢ 5 → K.held sink.new ≡ K.held sink.old ++ stop_line stop }
-    ensures failed { result.status ≡ 5 → RoseBy 1 (K.faults sink.old) (K.faults sink.new) }
-    ensures printed { result.status ≢ 5 → K.faults sink.new ≡ K.faults sink.old }
-    ensures otherwise { result.status ≢ 5 → result.status ≡ stop_status stop }
+    ensures ends { EndsEarly K.tells (stop_line stop) (stop_status stop) (K.held sink.old) (K.held sink.new) (K.faults sink.old) (K.faults sink.new) result.status result.trace result.acks }
 {
+    let status = status_of(stop);
     let is_printed = print_stop(stop, sink).is_ok();
     Ended {
-        status: if is_printed { status_of(stop) } else { 5 },
+        status: if is_printed { status } else { 5 },
         devices,
         trace: Trace::new(alloc),
         acks: Acks::new(alloc),
@@ -76,7 +84,65 @@ fn end_early<K: Sink, D: Devices>(alloc: Global, stop: Stop, sink: &mut K, devic
     }
 }
 
-// Runs each line, and then a sync. What holds of the session from its beginning on is said as the session says it.
+// The devices were formatted.
+fn end_formatted<K: Sink, D: Devices>(
+    alloc: Global,
+    line: &Bytes,
+    sink: &mut K,
+    devices: D,
+) -> Ended<D>
+    ensures devices { result.devices ≡ devices }
+    ensures ends { EndsEarly K.tells line.now 0 (K.held sink.old) (K.held sink.new) (K.faults sink.old) (K.faults sink.new) result.status result.trace result.acks }
+{
+    let is_printed = give_all(sink, line.as_slice()).is_ok();
+    Ended {
+        status: if is_printed { 0 } else { 5 },
+        devices,
+        trace: Trace::new(alloc),
+        acks: Acks::new(alloc),
+        shorts: Shorts::none(alloc),
+    }
+}
+
+// Formats the devices, and says so.
+fn format_devices<K: Sink, D: Devices>(
+    alloc: Global,
+    layout: &Layout,
+    line: &Bytes,
+    sink: &mut K,
+    devices: D,
+) -> Ended<D>
+    requires layout { is_layout layout.now ≡ true }
+    requires count { length layout.now.blocks ≡ length (D.sizes devices) }
+    requires line { line.now ≡ formatted_line layout.now }
+    ensures { Formats K.tells D.tells layout.now (record { moments = D.history devices; sizes = D.sizes devices; faults = D.faults devices; write_faults = D.write_faults devices }) (record { moments = D.history result.devices; sizes = D.sizes result.devices; faults = D.faults result.devices; write_faults = D.write_faults result.devices }) (K.held sink.old) (K.held sink.new) (K.faults sink.old) (K.faults sink.new) result.status result.trace result.acks }
+{
+    let mut devices = devices;
+    match format(alloc, &mut devices, layout) {
+        Ok(()) => end_formatted(alloc, line, sink, devices),
+        Err(fault) => end_early(alloc, Stop::from(fault), sink, devices),
+    }
+}
+
+// Runs the script of the source. `B` stands for what the devices show when the run begins.
+fn run_script<S: Source, K: Sink, D: Devices, G: Gate, B: Opening>(
+    alloc: Global,
+    source: &mut S,
+    sink: &mut K,
+    devices: D,
+    gate: &G,
+) -> Ended<D>
+    requires { B.start ≡ record { moments = D.history devices; sizes = D.sizes devices; faults = D.faults devices; write_faults = D.write_faults devices } }
+    ensures { (words : List (List ℕ)) → IsRun words (D.sizes devices) → Headline S.tells K.tells D.tells (record { words = words; streams = record { left = S.left source.old; held = K.held sink.old; held_after = K.held sink.new }; faults = record { source = S.faults source.old; source_after = S.faults source.new; sink = K.faults sink.old; sink_after = K.faults sink.new }; devices = devices; devices_after = result.devices; shown = record { moments = D.history devices; sizes = D.sizes devices; faults = D.faults devices; write_faults = D.write_faults devices }; shown_after = record { moments = D.history result.devices; sizes = D.sizes result.devices; faults = D.faults result.devices; write_faults = D.write_faults result.devices }; status = result.status; trace = result.trace; acks = result.acks }) }
+{
+    let mut devices = devices;
+    match prepare(alloc, source, &mut devices) {
+        Ok(plan) => run_plan::<K, D, G, Brand>(alloc, plan, sink, devices, gate),
+        Err(stop) => end_early(alloc, stop, sink, devices),
+    }
+}
+
+// Runs each line, and then a sync. What holds of the session holds from the moments on when its volume wasn't loaded yet.
 fn run_plan<K: Sink, D: Devices, G: Gate, O: Opening>(
     alloc: Global,
     plan: Plan,
@@ -85,19 +151,23 @@ fn run_plan<K: Sink, D: Devices, G: Gate, O: Opening>(
     gate: &G,
 ) -> Ended<D>
     requires opening { plan.loaded.forest ≡ O.forest }
-    requires start { O.start ≡ record { moments = D.history devices; sizes = D.sizes devices; faults = D.faults devices; write_faults = D.write_faults devices } }
-    requires mounted { D.tells → IsMounted (as_read (now (D.history devices))) plan.loaded.records plan.loaded.forest }
-    requires room { plan.loaded.records ≤ slice_index (D.sizes devices) 0 }
+    requires faults { O.start.faults ≡ D.faults devices }
+    requires write_faults { O.start.write_faults ≡ D.write_faults devices }
+    requires fits { is_layout_of (D.sizes devices) plan.loaded.layout ≡ true }
+    requires room { plan.loaded.records ≤ plan.loaded.layout.journal }
+    requires unspent { plan.loaded.session < last_session }
+    requires named { D.tells → session_in plan.loaded.layout (as_read (now O.start.moments)) ≡ Some plan.loaded.session }
+    requires numbered { D.tells → EachLeft (NamesSession plan.loaded.layout (plan.loaded.session + 1)) (D.history devices) }
+    requires begun { D.tells → LeavesOnly (λ _ image. MayLeaveBut (IsSessionPlace plan.loaded.layout (plan.loaded.session + 1)) (now O.start.moments) image) O.start.moments (D.history devices) }
+    requires later { O.start.moments.moment ≤ (D.history devices).moment }
     requires flat { AreFlat plan.script }
     ensures legal { IsLegal O.forest result.trace }
     ensures ran { RunsScript O.forest K.tells plan.script (K.held sink.old) (K.held sink.new) (K.faults sink.old) (K.faults sink.new) result.status result.trace }
-    ensures caused { (halted : Option Halt) × HasHalted (D.history devices).moment (D.history result.devices).moment result.trace halted × EachEntry (IsExact O.forest plan.loaded.records (slice_index (D.sizes devices) 0) (halt_or_none halted)) result.trace }
+    ensures caused { (halted : Option Halt) × HasHalted (length (D.sizes devices)) O.start.moments.moment (D.history result.devices).moment result.trace halted × EachEntry (IsExact O.forest plan.loaded.records plan.loaded.layout.journal (halt_or_none halted)) result.trace }
     ensures faults { RoseBy (device_faults result.trace) (D.faults devices) (D.faults result.devices) }
     ensures write_faults { RoseBy (device_faults result.trace) (D.write_faults devices) (D.write_faults result.devices) }
-    ensures acknowledged { AreAcks (D.history devices).moment (D.history result.devices).moment result.trace result.acks }
-    ensures survives { D.tells → Survives (mounted_as plan.loaded.records O.forest) (D.history devices) (D.history result.devices) result.trace result.acks }
-    ensures past { D.tells → (m : ℕ) → m ≤ (D.history devices).moment → (D.history result.devices).disks m ≡ (D.history devices).disks m }
-    ensures later { (D.history devices).moment ≤ (D.history result.devices).moment }
+    ensures acknowledged { AreAcks O.start.moments.moment (D.history result.devices).moment result.trace result.acks }
+    ensures survives { D.tells → Survives (mounted_as plan.loaded.layout (plan.loaded.records, O.forest)) O.start.moments (D.history result.devices) result.trace result.acks }
 {
     let Plan { script, loaded } = plan;
     let mut log = RecordLog::<D, O>::start(alloc, devices, loaded);

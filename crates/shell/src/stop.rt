@@ -1,18 +1,35 @@
 ghost use Rattle.std.specs.Prelude.{◌≡◌, ◌++◌, OnOk, OnErr, decimal};
 ghost use Rattle.vol_types.specs.Faults.{CountsFaults};
 ghost use Rattle.text_io.specs.Streams.{GivesPrefix};
-ghost use Rattle.shell.specs.Outcome.{bad_end, stop_status, stop_line};
+ghost use Rattle.shell.specs.Outcome.{bad_end, refusal_number, stop_status, stop_line};
 
+use command_words::WordsFault;
+use geometry::DiskFault;
 use itoa::Buffer;
-use record_log::LogFault;
+use log_records::MountFault;
 use script_text::{LineFault, ScriptFault};
 use text_io::{Sink, TakeFault, give_all};
 use vol_types::Failed;
 
-/// Why a run ends before any line of the script runs.
+/// Why devices aren't mounted.
+#[derive(Clone, Copy, Debug, PartialEq, Eq)]
+pub enum Refusal {
+    /// A device has no superblock.
+    NoSuper,
+    /// A superblock has another version than 1.
+    Version,
+    /// The superblocks aren't those of one volume's devices in their order.
+    Mixed,
+    /// A superblock has another form, or a number out of its range, or a device has fewer blocks than it says.
+    BadLayout,
+    /// No session is named, or no number is left for a new one.
+    NoSession,
+}
+
+/// Why nothing is run or formatted.
 #[derive(Clone, Copy, Debug, PartialEq, Eq)]
 pub enum Stop {
-    /// The words are no command, or the devices don't fit it.
+    /// The words are no command, or ask for a layout that no volume may have.
     Usage,
     /// The first line that is no operation.
     BadLine(u32, LineFault),
@@ -20,7 +37,9 @@ pub enum Stop {
     TooLong,
     /// The script couldn't be read.
     Source,
-    /// This device failed while its volume was mounted.
+    /// The devices aren't mounted, for this reason.
+    Refused(Refusal),
+    /// This device failed while its volume was mounted, or while it was formatted.
     Device(u8),
     /// Memory was wanting.
     Memory,
@@ -33,6 +52,7 @@ pub fn status_of(stop: Stop) -> u8
     match stop {
         Stop::Usage => 1,
         Stop::BadLine(_, _) | Stop::TooLong => 2,
+        Stop::Refused(_) => 3,
         Stop::Source => 4,
         Stop::Device(_) => 6,
         Stop::Memory => 7,
@@ -50,8 +70,24 @@ pub fn print_stop<K: Sink>(stop: Stop, sink: &mut K) -> Result<(), Failed>
         Stop::BadLine(line, cause) => give_number(sink, b"error 2 line ", line, bad_end(cause)),
         Stop::TooLong => give_all(sink, b"error 2 too-long\n"),
         Stop::Source => give_all(sink, b"error 4 source\n"),
+        Stop::Refused(refusal) => {
+            give_number(sink, b"mount refused ", number_of(refusal), b"\n")
+        }
         Stop::Device(dev) => give_number(sink, b"error 6 device ", u32::from(dev), b"\n"),
         Stop::Memory => give_all(sink, b"error 7 memory\n"),
+    }
+}
+
+// The number of a reason why devices aren't mounted.
+fn number_of(refusal: Refusal) -> u32
+    ensures { result ≡ refusal_number refusal }
+{
+    match refusal {
+        Refusal::NoSuper => 1,
+        Refusal::Version => 2,
+        Refusal::Mixed => 3,
+        Refusal::BadLayout => 4,
+        Refusal::NoSession => 5,
     }
 }
 
@@ -110,16 +146,49 @@ impl From<ScriptFault> for Stop {
     }
 }
 
-impl From<LogFault> for Stop {
+impl From<WordsFault> for Stop {
     ghost use Rattle.std.specs.Prelude.{◌≡◌};
-    ghost use Rattle.shell.specs.Stops.{stop_of_log};
+    ghost use Rattle.shell.specs.Stops.{stop_of_words};
 
-    ghost from_gives = { λ fault stop. stop ≡ stop_of_log fault };
+    ghost from_gives = { λ fault stop. stop ≡ stop_of_words fault };
 
-    fn from(fault: LogFault) -> Self {
+    fn from(fault: WordsFault) -> Self {
         match fault {
-            LogFault::DeviceFault => Stop::Device(0),
-            LogFault::NoMemory => Stop::Memory,
+            WordsFault::Usage => Stop::Usage,
+            WordsFault::NoMemory => Stop::Memory,
+        }
+    }
+}
+
+impl From<MountFault> for Stop {
+    ghost use Rattle.std.specs.Prelude.{◌≡◌};
+    ghost use Rattle.shell.specs.Stops.{stop_of_mount};
+
+    ghost from_gives = { λ fault stop. stop ≡ stop_of_mount fault };
+
+    fn from(fault: MountFault) -> Self {
+        match fault {
+            MountFault::NoSuper => Stop::Refused(Refusal::NoSuper),
+            MountFault::Version => Stop::Refused(Refusal::Version),
+            MountFault::Mixed => Stop::Refused(Refusal::Mixed),
+            MountFault::BadLayout => Stop::Refused(Refusal::BadLayout),
+            MountFault::NoSession => Stop::Refused(Refusal::NoSession),
+            MountFault::DeviceFault(dev) => Stop::Device(dev),
+            MountFault::NoMemory => Stop::Memory,
+        }
+    }
+}
+
+impl From<DiskFault> for Stop {
+    ghost use Rattle.std.specs.Prelude.{◌≡◌};
+    ghost use Rattle.shell.specs.Stops.{stop_of_disk};
+
+    ghost from_gives = { λ fault stop. stop ≡ stop_of_disk fault };
+
+    fn from(fault: DiskFault) -> Self {
+        match fault {
+            DiskFault::DeviceFault(dev) => Stop::Device(dev),
+            DiskFault::NoMemory => Stop::Memory,
         }
     }
 }

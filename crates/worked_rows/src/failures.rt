@@ -1,31 +1,32 @@
 use crate::runs::{has_acks, run_over};
-use dev_model::MemDevices;
+use crate::volumes::{fail, one_device};
 use std::alloc::{AllocError, Global};
 use std::test::Fail;
 use text_io::{MemSink, MemSource};
 
-// Whether a run that makes a file ends so, over a blank device: its status, how many entries its history has, how many
-// calls of the device there were, and what the sink holds. No commit is acknowledged but where both calls behind the
-// first succeed.
+// Whether a run that makes a file ends so, over a volume without files: its status, how many entries its history has, how
+// many calls of the device there were, and what the sink holds. No commit is acknowledged but where all ten calls succeed.
 fn ends_so(
     alloc: Global,
     failing_takes: &[u64],
     failing_gives: &[u64],
-    failing_calls: &[u64],
+    failing_call: Option<u64>,
     expected: (u8, usize, u64),
     held: &[u8],
 ) -> Result<bool, AllocError> {
-    let mut devices = MemDevices::blank(alloc, &[16])?;
-    devices.fail_at(failing_calls)?;
+    let mut devices = one_device(alloc)?;
+    if let Some(call) = failing_call {
+        fail(&mut devices, call, false)?;
+    }
     let mut source = MemSource::new(alloc, b"mkfile main:/a\n", failing_takes)?;
     let sink = MemSink::new(alloc, failing_gives)?;
     let ran = run_over(alloc, &["run"], &mut source, sink, devices)?;
     let (status, entries, calls) = expected;
-    let is_acknowledged = calls == 3 && failing_calls.is_empty();
+    let is_acknowledged = calls == 10 && failing_call.is_none();
     Ok(
         ran.status == status
             && ran.trace.len() == entries
-            && ran.devices.calls() == calls
+            && ran.calls == calls
             && has_acks(&ran, if is_acknowledged { &[1] } else { &[] })
             && ran.sink.held() == held,
     )
@@ -36,28 +37,40 @@ fn ends_so(
 fn a_source_that_fails_stops_the_run(rt: HostRuntime) -> Result<(), Fail> {
     let alloc = rt.alloc();
     for call in [0, 1] {
-        assert!(rt; ends_so(alloc, &[call], &[], &[], (4, 0, 0), b"error 4 source\n")?);
+        assert!(rt; ends_so(alloc, &[call], &[], None, (4, 0, 0), b"error 4 source\n")?);
     }
     Ok(())
 }
 
-// The run goes on: the device is read, and the record is written and flushed.
+// The run goes on: the volume is mounted, and the record is written and flushed.
 #[test]
 fn a_sink_that_fails_stops_no_run(rt: HostRuntime) -> Result<(), Fail> {
     let alloc = rt.alloc();
-    assert!(rt; ends_so(alloc, &[], &[0], &[], (5, 2, 3), b"")?);
-    assert!(rt; ends_so(alloc, &[], &[1], &[], (5, 2, 3), b"@0 1 ok\n")?);
+    assert!(rt; ends_so(alloc, &[], &[0], None, (5, 2, 10), b"")?);
+    assert!(rt; ends_so(alloc, &[], &[1], None, (5, 2, 10), b"@0 1 ok\n")?);
     Ok(())
 }
 
-// Call 0 reads while mounting, call 1 writes the record, and call 2 flushes behind it.
+// Calls 0 to 4 read both superblocks, both sessions and the first record, 5 and 6 write the new session and flush it, 7
+// flushes before the record, 8 writes it, and 9 flushes behind it.
 #[test]
 fn a_device_that_fails_is_told(rt: HostRuntime) -> Result<(), Fail> {
     let alloc = rt.alloc();
-    assert!(rt; ends_so(alloc, &[], &[], &[0], (6, 0, 1), b"error 6 device 0\n")?);
+    for call in 0..7u64 {
+        let expected = (6, 0, call.saturating_add(1));
+        assert!(rt;
+            ends_so(alloc, &[], &[], Some(call), expected, b"error 6 device 0\n")?,
+            "at {call}"
+        );
+    }
     let lines = b"@0 1 ok\nend commits 1 synced 0\n".as_slice();
-    assert!(rt; ends_so(alloc, &[], &[], &[1], (6, 2, 2), lines)?);
-    assert!(rt; ends_so(alloc, &[], &[], &[2], (6, 2, 3), lines)?);
+    for call in 7..10u64 {
+        let expected = (6, 2, call.saturating_add(1));
+        assert!(rt;
+            ends_so(alloc, &[], &[], Some(call), expected, lines)?,
+            "at {call}"
+        );
+    }
     Ok(())
 }
 
@@ -66,10 +79,10 @@ fn a_device_that_fails_is_told(rt: HostRuntime) -> Result<(), Fail> {
 #[test]
 fn of_several_failures_the_sink_gives_the_status(rt: HostRuntime) -> Result<(), Fail> {
     let alloc = rt.alloc();
-    assert!(rt; ends_so(alloc, &[1], &[], &[0], (4, 0, 0), b"error 4 source\n")?);
-    assert!(rt; ends_so(alloc, &[0], &[0], &[], (5, 0, 0), b"")?);
-    assert!(rt; ends_so(alloc, &[], &[0], &[0], (5, 0, 1), b"")?);
-    assert!(rt; ends_so(alloc, &[], &[0], &[1], (5, 2, 2), b"")?);
-    assert!(rt; ends_so(alloc, &[], &[1], &[2], (5, 2, 3), b"@0 1 ok\n")?);
+    assert!(rt; ends_so(alloc, &[1], &[], Some(0), (4, 0, 0), b"error 4 source\n")?);
+    assert!(rt; ends_so(alloc, &[0], &[0], None, (5, 0, 0), b"")?);
+    assert!(rt; ends_so(alloc, &[], &[0], Some(0), (5, 0, 1), b"")?);
+    assert!(rt; ends_so(alloc, &[], &[0], Some(8), (5, 2, 9), b"")?);
+    assert!(rt; ends_so(alloc, &[], &[1], Some(9), (5, 2, 10), b"@0 1 ok\n")?);
     Ok(())
 }

@@ -7,16 +7,18 @@ mod failures;
 #[cfg(test)]
 mod first_runs;
 #[cfg(test)]
-mod full_device;
+mod formats;
 #[cfg(test)]
-mod pieces;
+mod halted;
 #[cfg(test)]
-mod refused_scripts;
+mod mirrors;
+#[cfg(test)]
+mod mounts;
+#[cfg(test)]
+mod refused_words;
 #[cfg(test)]
 mod runs;
 #[cfg(test)]
-mod stop_table;
-#[cfg(test)]
-mod stops;
-#[cfg(test)]
 mod syncs;
+#[cfg(test)]
+mod volumes;

@@ -7,11 +7,13 @@ use std::rc::RcStr;
 use text_io::{MemSink, MemSource};
 use vol_types::Bytes;
 
-/// What a run left: its status, the devices, the history, the acknowledgements, and what the sink holds.
+/// What a run left: its status, the devices and how many calls of them it made, the history, the acknowledgements, and what
+/// the sink holds.
 #[derive(Drop)]
 pub struct Ran {
     pub status: u8,
     pub devices: MemDevices,
+    pub calls: u64,
     pub trace: Trace,
     pub acks: Acks,
     pub sink: MemSink,
@@ -37,6 +39,7 @@ pub fn run_over(
         all.push(RcStr::from_str(alloc, word)?)?;
     }
     let mut sink = sink;
+    let before = devices.calls();
     let ended = run_words(&(), alloc, &all, source, &mut sink, devices, &NoGate);
     let Ended {
         status,
@@ -45,9 +48,11 @@ pub fn run_over(
         acks,
         shorts: _,
     } = ended;
+    let calls = devices.calls().saturating_sub(before);
     Ok(Ran {
         status,
         devices,
+        calls,
         trace,
         acks,
         sink,
@@ -55,8 +60,9 @@ pub fn run_over(
 }
 
 /// The history as two letters for each entry. The first is the operation: `m` makes a file, `l` lists, and `s` syncs. The
-/// second is the reply: `k` for Okay, `e` for a name that exists, `b` for a bad path, `f` for a full device, `d` for a
-/// failed one, `h` for a session that has halted, and the number of names of a listing or of commits of a sync.
+/// second is the reply: `k` for Okay, `e` for a name that exists, `b` for a bad path, `f` for a full log, `d` and `D` for
+/// device 0 and 1 that failed, `h` and `H` for a session that has halted since, and the number of names of a listing or of
+/// commits of a sync.
 pub fn letters(alloc: Global, trace: &Trace) -> Result<Bytes, AllocError> {
     let mut letters = Bytes::new(alloc);
     for entry in trace.as_slice() {
@@ -80,7 +86,9 @@ fn letter(reply: &Reply) -> u8 {
         Reply::Refused(Cause::BadPath) => b'b',
         Reply::NoSpace(_) => b'f',
         Reply::DeviceFault(0) => b'd',
+        Reply::DeviceFault(1) => b'D',
         Reply::Halted { dev: 0, .. } => b'h',
+        Reply::Halted { dev: 1, .. } => b'H',
         Reply::List(names) if names.len() < 10 => b'0' + names.len() as u8,
         Reply::Synced(count) if *count < 10 => b'0' + *count as u8,
         _ => b'?',

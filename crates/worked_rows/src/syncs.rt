@@ -1,5 +1,5 @@
 use crate::runs::{Ran, has_acks, letters, run};
-use dev_model::MemDevices;
+use crate::volumes::{fail, one_device};
 use std::alloc::{AllocError, Global};
 use std::test::Fail;
 
@@ -19,23 +19,34 @@ fn has_ended(
             && ran.sink.held() == lines
             && letters(alloc, &ran.trace)?.as_slice() == entries
             && has_acks(ran, acks)
-            && ran.devices.calls() == calls,
+            && ran.calls == calls,
     )
 }
 
-// Each sync says how many commits of the run are durable, and costs a write and a flush for each that wasn't. The next
-// run counts its own commits alone.
+// Each sync says how many commits of the run are durable, and costs a write and two flushes for each that wasn't. The next
+// run counts its own commits alone. The first run reads five blocks, and the second two more; each writes its session and
+// flushes it.
 #[test]
 fn each_sync_is_acknowledged(rt: HostRuntime) -> Result<(), Fail> {
     let alloc = rt.alloc();
     let first = run(
         alloc,
         b"sync\nmkfile main:/a\nsync\nsync\nmkfile main:/b\nls main:/\n",
-        MemDevices::blank(alloc, &[16])?,
+        one_device(alloc)?,
     )?;
     let lines =
         b"@0 1 ok 0\n@0 2 ok\n@0 3 ok 1\n@0 4 ok 1\n@0 5 ok\n@0 6 list a b\nend commits 2 synced 2\n".as_slice();
-    assert!(rt; has_ended(alloc, &first, 0, lines, b"s0mks1s1mkl2s2", &[0, 1, 1, 2], 5)?);
+    assert!(rt;
+        has_ended(
+            alloc,
+            &first,
+            0,
+            lines,
+            b"s0mks1s1mkl2s2",
+            &[0, 1, 1, 2],
+            13
+        )?
+    );
     let second = run(
         alloc,
         b"mkfile main:/a\nmkfile main:/c\nsync\nls main:/\n",
@@ -43,48 +54,7 @@ fn each_sync_is_acknowledged(rt: HostRuntime) -> Result<(), Fail> {
     )?;
     let lines =
         b"@0 1 err exists\n@0 2 ok\n@0 3 ok 1\n@0 4 list a b c\nend commits 1 synced 1\n".as_slice();
-    assert!(rt; has_ended(alloc, &second, 0, lines, b"memks1l3s1", &[1, 1], 10)?);
-    Ok(())
-}
-
-// A full device is synced as any other.
-#[test]
-fn a_full_device_is_synced(rt: HostRuntime) -> Result<(), Fail> {
-    let alloc = rt.alloc();
-    let ran = run(
-        alloc,
-        b"mkfile main:/a\nsync\nmkfile main:/b\nmkfile main:/c\nsync\n",
-        MemDevices::blank(alloc, &[2])?,
-    )?;
-    let lines =
-        b"@0 1 ok\n@0 2 ok 1\n@0 3 ok\n@0 4 err no-space need 0\n@0 5 ok 2\nend commits 2 synced 2\n".as_slice();
-    assert!(rt; has_ended(alloc, &ran, 0, lines, b"mks1mkmfs2s2", &[1, 2, 2], 5)?);
-    Ok(())
-}
-
-// Behind a sync that failed, at its write or at its flush, the forest still refuses what it would refuse, and lists. All
-// else has halted, on a full device too, and the device is called no more.
-#[test]
-fn a_halted_session_refuses_and_lists(rt: HostRuntime) -> Result<(), Fail> {
-    let alloc = rt.alloc();
-    let lines =
-        b"@0 1 ok\n@0 2 ok 1\n@0 3 ok\n@0 4 err device 0\n@0 5 err exists\n@0 6 err exists\n@0 7 err halted 0\n@0 8 err halted 0\n@0 9 list a b\nend commits 2 synced 1\n".as_slice();
-    for blocks in [2, 16] {
-        for call in [3, 4] {
-            let mut devices = MemDevices::blank(alloc, &[blocks])?;
-            devices.fail_at(&[call])?;
-            let ran = run(
-                alloc,
-                b"mkfile main:/a\nsync\nmkfile main:/b\nsync\nmkfile main:/a\nmkfile main:/b\nmkfile main:/c\nsync\nls main:/\n",
-                devices,
-            )?;
-            let calls = if call == 3 { 4 } else { 5 };
-            assert!(rt;
-                has_ended(alloc, &ran, 6, lines, b"mks1mksdmememhshl2sh", &[1], calls)?,
-                "at {blocks} {call}"
-            );
-        }
-    }
+    assert!(rt; has_ended(alloc, &second, 0, lines, b"memks1l3s1", &[1, 1], 12)?);
     Ok(())
 }
 
@@ -99,11 +69,11 @@ fn a_halted_session_refuses_bad_names(rt: HostRuntime) -> Result<(), Fail> {
     script.extend_from_slice(b"\nmkfile main:/")?;
     script.extend_from_slice(&name[..255])?;
     script.extend_from_slice(b"\n")?;
-    let mut devices = MemDevices::blank(alloc, &[16])?;
-    devices.fail_at(&[2])?;
+    let mut devices = one_device(alloc)?;
+    fail(&mut devices, 9, false)?;
     let ran = run(alloc, &script, devices)?;
     let lines =
         b"@0 1 ok\n@0 2 err device 0\n@0 3 err bad-path\n@0 4 err halted 0\nend commits 1 synced 0\n".as_slice();
-    assert!(rt; has_ended(alloc, &ran, 6, lines, b"mksdmbmhsh", &[], 3)?);
+    assert!(rt; has_ended(alloc, &ran, 6, lines, b"mksdmbmhsh", &[], 10)?);
     Ok(())
 }

@@ -1,6 +1,7 @@
-use Rattle.std.proofs.Common.{◌≡◌, ◌+◌, ◌≤◌, length, Some, refl, ◌∙◌, arith}
+use Rattle.std.proofs.Common.{◌≡◌, ◌+◌, ◌≤◌, ◌<◌, ◌^◌, length, Some, refl, ◌∙◌, arith}
 use Rattle.std.specs.Prelude.{slice_get}
 use Rattle.std.proofs.lemmas.Option.{slice_get_read}
+use Rattle.geometry.specs.LayoutFacts.{has_places}
 use Rattle.record_log.specs.Durable.{IsFrom}
 use Rattle.record_log.proofs.WrittenRecords.{goes_at, untouched, writes_none, writes_not, writes_one}
 use Rattle.record_log.proofs.writing.write_files.Goals as goal
@@ -16,8 +17,8 @@ loop-durable-init g c =
       write_faults = omega arith;
       sizes = refl;
       moment = omega arith;
-      kept = λ tells. untouched (IsFrom (c.args.base + c.args.durable.now)) history;
-      written = λ tells start held. writes_none start c.args.base c.args.files.now c.args.durable.now history held;
+      kept = λ tells. untouched (IsFrom c.args.layout.now (c.args.base + c.args.durable.now)) history;
+      written = λ tells number start held. writes_none c.args.layout.now number start c.args.base c.args.files.now c.args.durable.now history held;
     }
 
 pub loop-durable-preserved : goal.loop-durable-preserved
@@ -26,6 +27,7 @@ loop-durable-preserved g c =
     let old = D.history c.args.devices.now in
     let mid = D.history c.loop-durable.devices in
     let new = D.history c.write_record.new.devices in
+    let layout = c.args.layout.now in
     let base = c.args.base in
     let files = c.args.files.now in
     let first = c.args.durable.now in
@@ -39,9 +41,9 @@ loop-durable-preserved g c =
       write_faults = omega (arith, so_far.write_faults, c.write_record.ensures.write_faults);
       sizes = c.write_record.ensures.sizes ∙ so_far.sizes;
       moment = omega (arith, so_far.moment, c.write_record.ensures.moment);
-      kept = λ tells. goes_at (base + first) (base + count) old mid new (omega (arith, so_far.rises)) (so_far.kept tells) (c.write_record.ensures.stops tells);
-      written = λ tells start held.
-          writes_one start base files first count old mid new so_far.rises (so_far.written tells start held) (c.write_record.ensures.stops tells)
+      kept = λ tells. goes_at layout (base + first) (base + count) old mid new (omega (arith, so_far.rises)) (so_far.kept tells) (c.write_record.ensures.stops tells);
+      written = λ tells number start held.
+          writes_one layout number start base files first count old mid new so_far.rises (so_far.written tells number start held) (c.write_record.ensures.stops tells)
           c.index-files-durable.result here (c.in_ok-write_record.ensures.held tells);
     }
 
@@ -51,13 +53,23 @@ returns-in_err-write_record-clause-kept g c tells =
     let base = c.args.base in
     let first = c.args.durable.now in
     let count = c.loop-durable.durable in
-    goes_at (base + first) (base + count) (D.history c.args.devices.now) (D.history c.loop-durable.devices) (D.history c.write_record.new.devices)
+    goes_at c.args.layout.now (base + first) (base + count) (D.history c.args.devices.now) (D.history c.loop-durable.devices) (D.history c.write_record.new.devices)
     (let le : base + first ≤ base + count = omega (arith, c.loop-durable.invariant.rises) in le)
     (c.loop-durable.invariant.kept tells) (c.write_record.ensures.stops tells)
 
 pub returns-in_err-write_record-clause-written : goal.returns-in_err-write_record-clause-written
-returns-in_err-write_record-clause-written g c tells start held =
+returns-in_err-write_record-clause-written g c tells number start held =
     let D = g.D.Devices in
     let so_far = c.loop-durable.invariant in
-    writes_not start c.args.base c.args.files.now c.args.durable.now c.loop-durable.durable (D.history c.args.devices.now) (D.history c.loop-durable.devices) (D.history c.write_record.new.devices)
-    so_far.rises (so_far.written tells start held) (c.write_record.ensures.stops tells)
+    writes_not c.args.layout.now number start c.args.base c.args.files.now c.args.durable.now c.loop-durable.durable (D.history c.args.devices.now) (D.history c.loop-durable.devices) (D.history c.write_record.new.devices)
+    so_far.rises (so_far.written tells number start held) (c.write_record.ensures.stops tells)
+
+pub overflow_cast-durable : goal.overflow_cast-durable
+overflow_cast-durable g c =
+    let has = has_places (g.D.Devices.sizes c.args.devices.now) c.args.layout.now c.requires.fits in
+    let fits : c.loop-durable.durable < 2 ^ 32 = omega (arith, c.loop-durable-test.true, c.requires.room, has.journal) in record { fits = fits }
+
+pub overflow_add-base : goal.overflow_add-base
+overflow_add-base g c =
+    let has = has_places (g.D.Devices.sizes c.args.devices.now) c.args.layout.now c.requires.fits in
+    let fits : c.args.base + c.loop-durable.durable < 2 ^ 32 = omega (arith, c.loop-durable-test.true, c.requires.room, has.journal) in record { fits = fits }

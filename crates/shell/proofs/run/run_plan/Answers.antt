@@ -1,7 +1,10 @@
-use Rattle.std.proofs.Common.{◌≡◌, ap, ◌∙◌, subst}
-use Rattle.record_log.specs.Found.{mounted_as}
+use Rattle.std.proofs.Common.{◌≡◌, ℕ, List, length, ap, ◌∙◌, subst}
+use Rattle.plain_forest.specs.History.{EachEntry}
+use Rattle.log_records.specs.Found.{mounted_as}
+use Rattle.record_log.specs.Exact.{IsExact}
 use Rattle.record_log.specs.Survives.{Survives}
-use Rattle.record_log.specs.Log.{Log, Shown}
+use Rattle.record_log.specs.Log.{HasHalted, Log, halt_or_none}
+use Rattle.vol_types.specs.declared.layout.Layout.{Layout}
 use Rattle.shell.specs.Phases.{RunsLines}
 use Rattle.shell.proofs.Ending.{script_ran}
 use Rattle.shell.proofs.run.run_plan.Goals as goal
@@ -19,9 +22,29 @@ returns-clause-ran g c =
 pub returns-clause-survives : goal.returns-clause-survives
 returns-clause-survives g c told =
     let D = g.D.Devices in
-    let forest = g.O.Opening.forest in
+    let O = g.O.Opening in
     let base : c.end_run-status.new.log.base ≡ c.args.plan.loaded.records =
     c.end_run-status.ensures.history.base ∙ c.run_lines.ensures.history.base ∙ ap (λ (log : Log g.row.D.Denot). log.base) c.start-log.ensures in
+    let layout : c.end_run-status.new.log.layout ≡ c.args.plan.loaded.layout =
+    c.end_run-status.ensures.history.layout ∙ c.run_lines.ensures.history.layout ∙ ap (λ (log : Log g.row.D.Denot). log.layout) c.start-log.ensures in
     let after = c.finish-devices.result in
-    subst (λ (shown : Shown). Survives (mounted_as c.args.plan.loaded.records forest) shown.moments (D.history after.devices) after.trace after.acks) c.requires.start
-    (subst (λ n. Survives (mounted_as n forest) g.O.Opening.start.moments (D.history after.devices) after.trace after.acks) base (c.finish-devices.ensures.survives told))
+    subst (λ (l : Layout). Survives (mounted_as l (c.args.plan.loaded.records, O.forest)) O.start.moments (D.history after.devices) after.trace after.acks) layout
+    (subst (λ (n : ℕ). Survives (mounted_as c.end_run-status.new.log.layout (n, O.forest)) O.start.moments (D.history after.devices) after.trace after.acks) base (c.finish-devices.ensures.survives told))
+
+pub returns-clause-caused : goal.returns-clause-caused
+returns-clause-caused g c =
+    let D = g.D.Devices in
+    let O = g.O.Opening in
+    let last = c.end_run-status.new.log in
+    let base : last.base ≡ c.args.plan.loaded.records =
+    c.end_run-status.ensures.history.base ∙ c.run_lines.ensures.history.base ∙ ap (λ (log : Log g.row.D.Denot). log.base) c.start-log.ensures in
+    let layout : last.layout ≡ c.args.plan.loaded.layout =
+    c.end_run-status.ensures.history.layout ∙ c.run_lines.ensures.history.layout ∙ ap (λ (log : Log g.row.D.Denot). log.layout) c.start-log.ensures in
+    let after = c.finish-devices.result in
+    let sizes : D.sizes after.devices ≡ D.sizes c.args.devices =
+    ap D.sizes c.finish-devices.ensures.devices ∙ c.end_run-status.ensures.history.same_sizes ∙ c.run_lines.ensures.history.same_sizes ∙ ap (λ (log : Log g.row.D.Denot). D.sizes log.devices) c.start-log.ensures in (
+      after.halted,
+      subst (λ (s : List ℕ). HasHalted (length s) O.start.moments.moment (D.history after.devices).moment after.trace after.halted) sizes c.finish-devices.ensures.halts,
+      subst (λ (l : Layout). EachEntry (IsExact O.forest c.args.plan.loaded.records l.journal (halt_or_none after.halted)) after.trace) layout
+          (subst (λ (n : ℕ). EachEntry (IsExact O.forest n last.layout.journal (halt_or_none after.halted)) after.trace) base c.finish-devices.ensures.exact),
+    )

@@ -26,3 +26,13 @@ pub returns-in-BadLine-clause-failed : goal.returns-in-BadLine-clause-failed
 returns-in-BadLine-clause-failed g c tells =
     subst (λ stop. OnErr c.give_number.result (GivesPrefix (stop_line stop) (g.K.Sink.held c.args.sink.now) (g.K.Sink.held c.give_number.new.sink))) (sym c.in-BadLine.is)
     (subst (λ list. OnErr c.give_number.result (GivesPrefix (codes "error 2 line " ++ decimal c.in-BadLine.line ++ list) (g.K.Sink.held c.args.sink.now) (g.K.Sink.held c.give_number.new.sink))) c.bad_end.ensures (c.give_number.ensures.failed tells))
+
+pub returns-in-Refused-clause-ok : goal.returns-in-Refused-clause-ok
+returns-in-Refused-clause-ok g c tells =
+    subst (λ stop. OnOk c.give_number-in-Refused.result (g.K.Sink.held c.give_number-in-Refused.new.sink ≡ g.K.Sink.held c.args.sink.now ++ stop_line stop)) (sym c.in-Refused.is)
+    (subst (λ n. OnOk c.give_number-in-Refused.result (g.K.Sink.held c.give_number-in-Refused.new.sink ≡ g.K.Sink.held c.args.sink.now ++ (codes "mount refused " ++ decimal n ++ codes "\n"))) c.number_of.ensures (c.give_number-in-Refused.ensures.ok tells))
+
+pub returns-in-Refused-clause-failed : goal.returns-in-Refused-clause-failed
+returns-in-Refused-clause-failed g c tells =
+    subst (λ stop. OnErr c.give_number-in-Refused.result (GivesPrefix (stop_line stop) (g.K.Sink.held c.args.sink.now) (g.K.Sink.held c.give_number-in-Refused.new.sink))) (sym c.in-Refused.is)
+    (subst (λ n. OnErr c.give_number-in-Refused.result (GivesPrefix (codes "mount refused " ++ decimal n ++ codes "\n") (g.K.Sink.held c.args.sink.now) (g.K.Sink.held c.give_number-in-Refused.new.sink))) c.number_of.ensures (c.give_number-in-Refused.ensures.failed tells))

@@ -1,16 +1,15 @@
 use Rattle.std.proofs.Common.{◌≡◌, ◌+◌, ◌^◌, ◌<◌, ◌++◌, [], ◌∷◌, None, false, length, ap, ◌∙◌, sym, subst, rules}
-use Rattle.std.specs.Prelude.{slice_index}
 use Rattle.plain_forest.specs.Steps.{made_file, reply_of, forest_after}
 use Rattle.plain_forest.specs.History.{after_all}
 use Rattle.plain_forest.specs.declared.operation.Op.{Op}
 use Rattle.plain_forest.specs.declared.operation.Op.TheVariants.{Mkfile}
 use Rattle.plain_forest.specs.declared.operation.Reply.TheVariants.{Okay}
-use Rattle.record_log.specs.Found.{in_main}
+use Rattle.log_records.specs.Found.{in_main}
 use Rattle.record_log.specs.Exact.{is_full_behind}
-use Rattle.record_log.specs.Log.{Log, IsSound, is_full}
-use Rattle.record_log.specs.declared.files.MadeFile.{MadeFile}
+use Rattle.record_log.specs.Log.{Log, IsSound, halt_or_none, is_full}
+use Rattle.log_records.specs.declared.files.MadeFile.{MadeFile}
 use Rattle.record_log.proofs.Sound.{IsPlain, entry_of, sound_plain, sound_commit, making_is_exact, making_is_plain, legal_reply, not_done}
-use Rattle.record_log.proofs.Taking.{not_made}
+use Rattle.log_records.proofs.Taken.{not_made}
 use Rattle.record_log.proofs.log.RecordLog.add_file.Goals as goal
 
 pub invariant_of-self-in-Okay : goal.invariant_of-self-in-Okay
@@ -27,7 +26,7 @@ invariant_of-self-in-Okay g c =
     let pushed : c.push.new.self.items ≡ l.files.items ++ made ∷ [] = search rules in
     let done : Okay ≡ reply_of 0 op 0 l.forest = sym c.in-Okay.is ∙ c.in_ok-reply.ensures.reply ∙ ap (λ o. reply_of 0 o 0 l.forest) c.requires.op in
     let unhalted : l.halted ≡ None = subst (λ (log : Log g.row.D.Denot). log.halted ≡ None) (sym c.self.view_is) c.requires.halted in
-    let space : is_full_behind l.base (slice_index (D.sizes l.devices) 0) opening trace ≡ false = subst (λ (log : Log g.row.D.Denot). is_full opening D.sizes log ≡ false) (sym c.self.view_is) c.requires.full in
+    let space : is_full_behind l.base l.layout.journal opening trace ≡ false = subst (λ (log : Log g.row.D.Denot). is_full opening log ≡ false) (sym c.self.view_is) c.requires.full in
     sound_commit opening g.O.Opening.start D.tells _ _ l.forest c.self.invariant
     c.push.new.self.items file c.put_entry.new.trace.items c.apply.new.self
     (pushed ∙ ap (λ f. l.files.items ++ f ∷ []) same)
@@ -35,9 +34,8 @@ invariant_of-self-in-Okay g c =
     done
     (c.in_ok-reply.ensures.forest ∙ ap (λ o. forest_after 0 o l.forest) c.requires.op)
     (sym c.next_number.ensures)
-    (subst (λ (log : Log g.row.D.Denot). log.base + length log.files < slice_index (D.sizes log.devices) 0) (sym c.self.view_is) c.requires.room)
-    (subst (λ (log : Log g.row.D.Denot). slice_index (D.sizes log.devices) 0 < 2 ^ 32) (sym c.self.view_is) c.requires.fits)
-    (making_is_exact opening l.base (slice_index (D.sizes l.devices) 0) l.halted trace (in_main name) Okay unhalted space (done ∙ ap (reply_of 0 op 0) c.self.invariant.files.kept))
+    (subst (λ (log : Log g.row.D.Denot). log.base + length log.files < log.layout.journal) (sym c.self.view_is) c.requires.room)
+    (making_is_exact opening l.base l.layout.journal (halt_or_none l.halted) l.halted trace (in_main name) Okay unhalted space (done ∙ ap (reply_of 0 op 0) c.self.invariant.files.kept))
 
 pub invariant_of-self-in-Synced-1 : goal.invariant_of-self-in-Synced-1
 invariant_of-self-in-Synced-1 g c =
@@ -53,10 +51,10 @@ invariant_of-self-in-Synced-1 g c =
     let not : reply ≡ Okay → ⊥ = λ okay. c.in_default.not-Okay (c.in_default.reply-is ∙ okay) in
     let refused = not_made (made_file 0 path l.forest) l.forest reply is not in
     let unhalted : l.halted ≡ None = subst (λ (log : Log g.row.D.Denot). log.halted ≡ None) (sym c.self.view_is) c.requires.halted in
-    let space : is_full_behind l.base (slice_index (D.sizes l.devices) 0) opening trace ≡ false = subst (λ (log : Log g.row.D.Denot). is_full opening D.sizes log ≡ false) (sym c.self.view_is) c.requires.full in
+    let space : is_full_behind l.base l.layout.journal opening trace ≡ false = subst (λ (log : Log g.row.D.Denot). is_full opening log ≡ false) (sym c.self.view_is) c.requires.full in
     let files : c.reserve-2.new.self.items ≡ l.files.items = c.in_ok-reserve-2.ensures.items in
     let put : c.put_entry-in_default.new.trace.items ≡ trace ++ entry_of op reply ∷ [] = search rules in
-    let log : Log g.row.D.Denot = record { devices = l.devices; base = l.base; files = l.files.items; durable = l.durable; halted = l.halted; trace = c.put_entry-in_default.new.trace.items; acks = l.acks.items } in
+    let log : Log g.row.D.Denot = record { devices = l.devices; layout = l.layout; session = l.session; base = l.base; files = l.files.items; durable = l.durable; halted = l.halted; trace = c.put_entry-in_default.new.trace.items; acks = l.acks.items } in
     subst (λ fs. IsSound opening g.O.Opening.start D.tells (record { moments = D.history l.devices; sizes = D.sizes l.devices; faults = D.faults l.devices; write_faults = D.write_faults l.devices }) (record log { files = fs }) c.apply.new.self) (sym files)
     (sound_plain opening g.O.Opening.start D.tells _ _ l.forest c.self.invariant
     c.put_entry-in_default.new.trace.items (entry_of op reply) c.apply.new.self
@@ -64,5 +62,5 @@ invariant_of-self-in-Synced-1 g c =
     (not_done op reply not)
     (subst (λ r. IsPlain r) (sym answer) (making_is_plain path (after_all opening trace)))
     (legal_reply opening trace op reply answer)
-    (making_is_exact opening l.base (slice_index (D.sizes l.devices) 0) l.halted trace path reply unhalted space answer)
+    (making_is_exact opening l.base l.layout.journal (halt_or_none l.halted) l.halted trace path reply unhalted space answer)
     (c.in_ok-reply.ensures.forest ∙ ap (λ o. forest_after 0 o l.forest) c.requires.op ∙ refused.1))

@@ -1,9 +1,9 @@
 use Rattle.std.proofs.Common.{◌+◌, take, ap, ◌∙◌, sym, subst}
 use Rattle.plain_forest.specs.History.{after_all}
-use Rattle.record_log.specs.Found.{mounted_as}
-use Rattle.record_log.specs.Durable.{EachLeft}
+use Rattle.geometry.specs.Mirrors.{EachLeft}
+use Rattle.log_records.specs.Records.{record_on}
 use Rattle.record_log.specs.Log.{Log, HoldsDurable}
-use Rattle.record_log.proofs.Holding.{mounted_records}
+use Rattle.record_log.proofs.Holding.{scanned_files}
 use Rattle.record_log.proofs.log.RecordLog.durable_commits_are_held.Goals as goal
 
 pub returns : goal.returns
@@ -12,6 +12,6 @@ returns g c =
     let opening = g.O.Opening.forest in
     let l = c.self.inside in
     let sound = c.self.invariant in
-    subst (λ (log : Log g.row.D.Denot). D.tells → EachLeft (HoldsDurable opening log) (D.history log.devices)) c.self.view_is (λ tells image may.
-    mounted_records l.base l.durable l.files.items image opening l.forest (sound.records.held tells image may).records sound.records.written sound.files.made
-    ∙ ap (λ commits. mounted_as (l.base + l.durable) (after_all opening (take l.durable commits))) (sym sound.files.commits))
+    subst (λ (log : Log g.row.D.Denot). D.tells → EachLeft (HoldsDurable opening log) (D.history log.devices)) c.self.view_is (λ tells image may dev within.
+    scanned_files (λ place. record_on l.layout place image dev) l.base l.durable l.files.items opening l.forest (λ i lt. (sound.records.held tells image may).records i lt dev within) sound.records.written sound.files.made
+    ∙ ap (λ commits. (l.base + l.durable, after_all opening (take l.durable commits))) (sym sound.files.commits))

@@ -1,6 +1,7 @@
 use Rattle.std.proofs.Common.{◌++◌, [], ◌∷◌, ap, ◌∙◌, subst, sym}
 use Rattle.plain_forest.specs.Steps.{reply_of}
 use Rattle.plain_forest.specs.History.{after_all, commit_count}
+use Rattle.record_log.specs.Log.{halt_or_none}
 use Rattle.record_log.proofs.Sound.{IsPlain, entry_of, sound_plain, legal_reply, listing, listing_is_exact, listing_is_plain}
 use Rattle.record_log.proofs.log.RecordLog.list.Goals as goal
 
@@ -20,5 +21,5 @@ invariant_of-self-2 g c =
     same.0
     (subst (λ r. IsPlain r) (sym is) (listing_is_plain op c.requires (after_all opening trace)))
     (legal_reply opening trace op reply (c.in_ok-reply.ensures.reply ∙ same.1 ∙ ap (reply_of 0 op (commit_count opening trace)) c.self.invariant.files.kept))
-    (listing_is_exact op c.requires _ _ _ _ trace reply is)
+    (listing_is_exact op c.requires _ _ _ (halt_or_none l.halted) _ trace reply is)
     (c.in_ok-reply.ensures.forest ∙ same.2)

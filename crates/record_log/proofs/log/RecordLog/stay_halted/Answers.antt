@@ -4,7 +4,7 @@ use Rattle.plain_forest.specs.declared.operation.Op.TheVariants.{Sync}
 use Rattle.plain_forest.specs.declared.operation.Reply.{Reply}
 use Rattle.plain_forest.specs.declared.operation.Reply.TheVariants.{Halted}
 use Rattle.record_log.specs.Exact.{IsSyncReply}
-use Rattle.record_log.specs.Log.{Log}
+use Rattle.record_log.specs.Log.{Log, halt_or_none}
 use Rattle.record_log.proofs.Sound.{entry_of, sound_plain}
 use Rattle.record_log.proofs.log.RecordLog.stay_halted.Goals as goal
 
@@ -21,5 +21,5 @@ invariant_of-self-2 g c =
     c.push.new.self.items (entry_of Sync reply) l.forest
     (c.in_ok-push.ensures.items ∙ ap (λ r. trace ++ entry_of Sync r ∷ []) c.halted_reply.ensures)
     refl (record { works = refl; no_sync = refl }) (inr refl)
-    (subst (λ h. IsSyncReply h (commit_count opening trace) reply) (sym halted) refl)
+    (subst (λ h. IsSyncReply (halt_or_none l.halted) h (commit_count opening trace) reply) (sym halted) refl)
     refl

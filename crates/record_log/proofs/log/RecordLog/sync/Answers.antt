@@ -8,4 +8,4 @@ pub returns-in-Some-clause-kept : goal.returns-in-Some-clause-kept
 returns-in-Some-clause-kept g c told =
     let old = c.args.self.now in
     subst (λ (log : Log g.row.D.Denot). KeepsDurable g.D.Devices.history old log) (sym c.stay_halted.ensures.others)
-    (untouched (IsFrom (old.base + old.durable)) (g.D.Devices.history old.devices))
+    (untouched (IsFrom old.layout (old.base + old.durable)) (g.D.Devices.history old.devices))

@@ -1,5 +1,4 @@
-use Rattle.std.proofs.Common.{◌≡◌, ◌+◌, ◌≤◌, ◌++◌, [], ◌∷◌, ℕ, List, None, Some, length, refl, ap, ◌∙◌, sym, subst, inl, inr, rules}
-use Rattle.std.specs.Prelude.{IsErrOf}
+use Rattle.std.proofs.Common.{◌<◌, Err, arith, ◌≡◌, ◌+◌, ◌≤◌, ◌++◌, [], ◌∷◌, ℕ, List, None, Some, length, refl, ap, ◌∙◌, sym, subst, inl, inr, rules}
 use Rattle.std.proofs.lemmas.List.{length-map}
 use Rattle.vol_types.specs.Faults.{RoseBy}
 use Rattle.dev_model.specs.Disk.{Disk}
@@ -8,23 +7,24 @@ use Rattle.dev_model.specs.Stops.{LeavesOnly, MayLeaveBut}
 use Rattle.plain_forest.specs.History.{History, commit_count}
 use Rattle.plain_forest.specs.declared.operation.Op.TheVariants.{Sync}
 use Rattle.plain_forest.specs.declared.operation.Reply.TheVariants.{Synced, DeviceFault}
-use Rattle.record_log.specs.Found.{commit_of}
-use Rattle.record_log.specs.Durable.{EachLeft, HasWritten, IsFrom, Writes}
+use Rattle.log_records.specs.Found.{commit_of}
+use Rattle.geometry.specs.Mirrors.{EachLeft}
+use Rattle.geometry.specs.declared.fault.DiskFault.TheVariants as disks
+use Rattle.record_log.specs.Durable.{HasWritten, IsFrom, Writes}
 use Rattle.record_log.specs.Log.{IsSound, Log, Shown, Syncs}
 use Rattle.record_log.specs.declared.acks.Ack.{Ack}
-use Rattle.record_log.specs.declared.fault.LogFault.TheVariants as log_faults
-use Rattle.record_log.specs.declared.files.MadeFile.{MadeFile}
+use Rattle.log_records.specs.declared.files.MadeFile.{MadeFile}
 use Rattle.record_log.proofs.Sound.{HasWrittenTo, entry_of, sound_failed, sound_synced, sound_written}
 use Rattle.record_log.proofs.WrittenRecords.{untouched}
 use Rattle.record_log.proofs.log.RecordLog.sync_all.Goals as goal
 
 pub returns-in_err-reserve-clause-kept : goal.returns-in_err-reserve-clause-kept
-returns-in_err-reserve-clause-kept g c = subst (λ (log : Log g.row.D.Denot). g.D.Devices.tells → LeavesOnly (λ _ image. MayLeaveBut (IsFrom (log.base + log.durable)) (now (g.D.Devices.history log.devices)) image) (g.D.Devices.history log.devices) (g.D.Devices.history c.self.inside.devices)) c.self.view_is
-    (λ told. untouched (IsFrom (c.self.inside.base + c.self.inside.durable)) (g.D.Devices.history c.self.inside.devices))
+returns-in_err-reserve-clause-kept g c = subst (λ (log : Log g.row.D.Denot). g.D.Devices.tells → LeavesOnly (λ _ image. MayLeaveBut (IsFrom log.layout (log.base + log.durable)) (now (g.D.Devices.history log.devices)) image) (g.D.Devices.history log.devices) (g.D.Devices.history c.self.inside.devices)) c.self.view_is
+    (λ told. untouched (IsFrom c.self.inside.layout (c.self.inside.base + c.self.inside.durable)) (g.D.Devices.history c.self.inside.devices))
 
 pub returns-in_err-reserve-2-clause-kept : goal.returns-in_err-reserve-2-clause-kept
-returns-in_err-reserve-2-clause-kept g c = subst (λ (log : Log g.row.D.Denot). g.D.Devices.tells → LeavesOnly (λ _ image. MayLeaveBut (IsFrom (log.base + log.durable)) (now (g.D.Devices.history log.devices)) image) (g.D.Devices.history log.devices) (g.D.Devices.history c.self.inside.devices)) c.self.view_is
-    (λ told. untouched (IsFrom (c.self.inside.base + c.self.inside.durable)) (g.D.Devices.history c.self.inside.devices))
+returns-in_err-reserve-2-clause-kept g c = subst (λ (log : Log g.row.D.Denot). g.D.Devices.tells → LeavesOnly (λ _ image. MayLeaveBut (IsFrom log.layout (log.base + log.durable)) (now (g.D.Devices.history log.devices)) image) (g.D.Devices.history log.devices) (g.D.Devices.history c.self.inside.devices)) c.self.view_is
+    (λ told. untouched (IsFrom c.self.inside.layout (c.self.inside.base + c.self.inside.durable)) (g.D.Devices.history c.self.inside.devices))
 
 pub invariant_of-self-in-Ok : goal.invariant_of-self-in-Ok
 invariant_of-self-in-Ok g c =
@@ -36,16 +36,16 @@ invariant_of-self-in-Ok g c =
     let durable = c.write_files-written.new.durable in
     let shown : Shown = record { moments = D.history l.devices; sizes = D.sizes l.devices; faults = D.faults l.devices; write_faults = D.write_faults l.devices } in
     let later : Shown = record { moments = D.history devices; sizes = D.sizes devices; faults = D.faults devices; write_faults = D.write_faults devices } in
-    let log : Log g.row.D.Denot = record { devices = l.devices; base = l.base; files = l.files.items; durable = l.durable; halted = l.halted; trace = l.trace.items; acks = l.acks.items } in
+    let log : Log g.row.D.Denot = record { devices = l.devices; layout = l.layout; session = l.session; base = l.base; files = l.files.items; durable = l.durable; halted = l.halted; trace = l.trace.items; acks = l.acks.items } in
     let unhalted : l.halted ≡ None = subst (λ (log : Log g.row.D.Denot). log.halted ≡ None) (sym c.self.view_is) c.requires in
-    let has : HasWrittenTo D.tells l.base l.durable l.files.items shown durable later = record {
+    let has : HasWrittenTo l.layout l.session D.tells l.base l.durable l.files.items shown durable later = record {
       rises = wrote.rises;
       most = subst (λ (files : List MadeFile). durable ≤ length files) c.as_slice.ensures.value wrote.most;
       sizes = wrote.sizes;
       moment = wrote.moment;
       faults = wrote.faults;
       write_faults = wrote.write_faults;
-      writes = subst (λ (files : List MadeFile). D.tells → (disks : List Disk) → EachLeft (HasWritten disks l.base l.durable files) (D.history l.devices) → Writes disks l.base l.durable durable files (D.history l.devices) (D.history devices)) c.as_slice.ensures.value wrote.written;
+      writes = λ tells. subst (λ (files : List MadeFile). (start : List Disk) → EachLeft (HasWritten l.layout l.session start l.base l.durable files) (D.history l.devices) → Writes l.layout l.session start l.base l.durable durable files (D.history l.devices) (D.history devices)) c.as_slice.ensures.value (wrote.written tells l.session);
     } in
     let all : durable ≡ length l.files.items = c.in-Ok.ensures.ok ∙ ap length c.as_slice.ensures.value in
     let trace : c.put_entry.new.trace.items ≡ l.trace.items ++ entry_of Sync (Synced durable) ∷ [] = c.put_entry.ensures ∙ ap (λ (t : History). t ++ entry_of Sync (Synced durable) ∷ []) c.in_ok-reserve.ensures.items in
@@ -66,25 +66,28 @@ invariant_of-self-in-Err-DeviceFault g c =
     let durable = c.write_files-written.new.durable in
     let shown : Shown = record { moments = D.history l.devices; sizes = D.sizes l.devices; faults = D.faults l.devices; write_faults = D.write_faults l.devices } in
     let later : Shown = record { moments = D.history devices; sizes = D.sizes devices; faults = D.faults devices; write_faults = D.write_faults devices } in
-    let log : Log g.row.D.Denot = record { devices = l.devices; base = l.base; files = l.files.items; durable = l.durable; halted = l.halted; trace = l.trace.items; acks = l.acks.items } in
+    let log : Log g.row.D.Denot = record { devices = l.devices; layout = l.layout; session = l.session; base = l.base; files = l.files.items; durable = l.durable; halted = l.halted; trace = l.trace.items; acks = l.acks.items } in
     let unhalted : l.halted ≡ None = subst (λ (log : Log g.row.D.Denot). log.halted ≡ None) (sym c.self.view_is) c.requires in
-    let has : HasWrittenTo D.tells l.base l.durable l.files.items shown durable later = record {
+    let has : HasWrittenTo l.layout l.session D.tells l.base l.durable l.files.items shown durable later = record {
       rises = wrote.rises;
       most = subst (λ (files : List MadeFile). durable ≤ length files) c.as_slice.ensures.value wrote.most;
       sizes = wrote.sizes;
       moment = wrote.moment;
       faults = wrote.faults;
       write_faults = wrote.write_faults;
-      writes = subst (λ (files : List MadeFile). D.tells → (disks : List Disk) → EachLeft (HasWritten disks l.base l.durable files) (D.history l.devices) → Writes disks l.base l.durable durable files (D.history l.devices) (D.history devices)) c.as_slice.ensures.value wrote.written;
+      writes = λ tells. subst (λ (files : List MadeFile). (start : List Disk) → EachLeft (HasWritten l.layout l.session start l.base l.durable files) (D.history l.devices) → Writes l.layout l.session start l.base l.durable durable files (D.history l.devices) (D.history devices)) c.as_slice.ensures.value (wrote.written tells l.session);
     } in
-    let failed : IsErrOf c.write_files-written.result log_faults.DeviceFault = search rules in
-    let entry = entry_of Sync (DeviceFault 0) in
+    let dev = c.in-Err-DeviceFault.dev in
+    let failed : c.write_files-written.result ≡ Err (disks.DeviceFault dev) = search rules in
+    let cause = wrote.cause dev failed in
+    let device : dev < length later.sizes = omega (arith, cause.0, ap length wrote.sizes) in
+    let entry = entry_of Sync (DeviceFault dev) in
     let trace : c.put_entry-in-Err-DeviceFault.new.trace.items ≡ l.trace.items ++ entry ∷ [] = c.put_entry-in-Err-DeviceFault.ensures ∙ ap (λ (t : History). t ++ entry ∷ []) c.in_ok-reserve.ensures.items in
-    let at = λ (moment : ℕ) (trace : History) (acks : List Ack). IsSound opening g.O.Opening.start D.tells later (record log { devices = devices; durable = durable; halted = Some (record { dev = 0; tick = moment }); trace = trace; acks = acks }) l.forest in
+    let at = λ (moment : ℕ) (trace : History) (acks : List Ack). IsSound opening g.O.Opening.start D.tells later (record log { devices = devices; durable = durable; halted = Some (record { dev = dev; tick = moment }); trace = trace; acks = acks }) l.forest in
     subst (λ m. at m c.put_entry-in-Err-DeviceFault.new.trace.items c.reserve-2.new.self.items) (sym c.moment-moment.ensures.moment)
     (subst (λ t. at (D.history devices).moment t c.reserve-2.new.self.items) (sym trace)
     (subst (λ as_are. at (D.history devices).moment (l.trace.items ++ entry ∷ []) as_are) (sym c.in_ok-reserve-2.ensures.items)
-    (sound_failed opening g.O.Opening.start D.tells shown log l.forest c.self.invariant devices durable later has unhalted (wrote.cause failed) (wrote.write_cause failed))))
+    (sound_failed opening g.O.Opening.start D.tells shown log l.forest c.self.invariant devices durable later has dev device unhalted cause.1 cause.2)))
 
 pub invariant_of-self-in-Err-NoMemory : goal.invariant_of-self-in-Err-NoMemory
 invariant_of-self-in-Err-NoMemory g c =
@@ -96,16 +99,16 @@ invariant_of-self-in-Err-NoMemory g c =
     let durable = c.write_files-written.new.durable in
     let shown : Shown = record { moments = D.history l.devices; sizes = D.sizes l.devices; faults = D.faults l.devices; write_faults = D.write_faults l.devices } in
     let later : Shown = record { moments = D.history devices; sizes = D.sizes devices; faults = D.faults devices; write_faults = D.write_faults devices } in
-    let log : Log g.row.D.Denot = record { devices = l.devices; base = l.base; files = l.files.items; durable = l.durable; halted = l.halted; trace = l.trace.items; acks = l.acks.items } in
+    let log : Log g.row.D.Denot = record { devices = l.devices; layout = l.layout; session = l.session; base = l.base; files = l.files.items; durable = l.durable; halted = l.halted; trace = l.trace.items; acks = l.acks.items } in
     let unhalted : l.halted ≡ None = subst (λ (log : Log g.row.D.Denot). log.halted ≡ None) (sym c.self.view_is) c.requires in
-    let has : HasWrittenTo D.tells l.base l.durable l.files.items shown durable later = record {
+    let has : HasWrittenTo l.layout l.session D.tells l.base l.durable l.files.items shown durable later = record {
       rises = wrote.rises;
       most = subst (λ (files : List MadeFile). durable ≤ length files) c.as_slice.ensures.value wrote.most;
       sizes = wrote.sizes;
       moment = wrote.moment;
       faults = wrote.faults;
       write_faults = wrote.write_faults;
-      writes = subst (λ (files : List MadeFile). D.tells → (disks : List Disk) → EachLeft (HasWritten disks l.base l.durable files) (D.history l.devices) → Writes disks l.base l.durable durable files (D.history l.devices) (D.history devices)) c.as_slice.ensures.value wrote.written;
+      writes = λ tells. subst (λ (files : List MadeFile). (start : List Disk) → EachLeft (HasWritten l.layout l.session start l.base l.durable files) (D.history l.devices) → Writes l.layout l.session start l.base l.durable durable files (D.history l.devices) (D.history devices)) c.as_slice.ensures.value (wrote.written tells l.session);
     } in
     let at = λ (trace : History) (acks : List Ack). IsSound opening g.O.Opening.start D.tells later (record log { devices = devices; durable = durable; trace = trace; acks = acks }) l.forest in
     subst (λ t. at t c.reserve-2.new.self.items) (sym c.in_ok-reserve.ensures.items)
@@ -121,7 +124,7 @@ returns-in-Ok-clause-answered g c =
     let traces : l.trace.items ≡ old.trace = ap (λ (log : Log g.row.D.Denot). log.trace) c.self.view_is in
     let count : durable ≡ commit_count opening old.trace =
     c.in-Ok.ensures.ok ∙ ap length c.as_slice.ensures.value ∙ sym (ap length c.self.invariant.files.commits ∙ length-map l.files.items commit_of) ∙ ap (commit_count opening) traces in
-    let new : Log g.row.D.Denot = record { devices = c.write_files-written.new.devices; base = l.base; files = l.files.items; durable = durable; halted = l.halted; trace = c.put_entry.new.trace.items; acks = c.put_ack.new.acks.items } in
+    let new : Log g.row.D.Denot = record { devices = c.write_files-written.new.devices; layout = l.layout; session = l.session; base = l.base; files = l.files.items; durable = durable; halted = l.halted; trace = c.put_entry.new.trace.items; acks = c.put_ack.new.acks.items } in
     let ack : ℕ → ℕ → Ack = λ moment commits. record { moment = moment; commits = commits } in
     record {
       reply = Synced durable;
@@ -136,28 +139,30 @@ returns-in-Ok-clause-answered g c =
     }
 
 pub returns-in-Ok-clause-kept : goal.returns-in-Ok-clause-kept
-returns-in-Ok-clause-kept g c = subst (λ (log : Log g.row.D.Denot). g.D.Devices.tells → LeavesOnly (λ _ image. MayLeaveBut (IsFrom (log.base + log.durable)) (now (g.D.Devices.history log.devices)) image) (g.D.Devices.history log.devices) (g.D.Devices.history c.write_files-written.new.devices)) c.self.view_is c.write_files-written.ensures.kept
+returns-in-Ok-clause-kept g c = subst (λ (log : Log g.row.D.Denot). g.D.Devices.tells → LeavesOnly (λ _ image. MayLeaveBut (IsFrom log.layout (log.base + log.durable)) (now (g.D.Devices.history log.devices)) image) (g.D.Devices.history log.devices) (g.D.Devices.history c.write_files-written.new.devices)) c.self.view_is c.write_files-written.ensures.kept
 
 pub returns-in-Err-DeviceFault-clause-answered : goal.returns-in-Err-DeviceFault-clause-answered
 returns-in-Err-DeviceFault-clause-answered g c =
     let opening = g.O.Opening.forest in
     let old = c.args.self.now in
     let l = c.self.inside in
-    let new : Log g.row.D.Denot = record { devices = c.write_files-written.new.devices; base = l.base; files = l.files.items; durable = c.write_files-written.new.durable; halted = Some (record { dev = 0; tick = c.moment-moment.result }); trace = c.put_entry-in-Err-DeviceFault.new.trace.items; acks = c.reserve-2.new.self.items } in
-    let failed : IsErrOf c.write_files-written.result log_faults.DeviceFault = search rules in
+    let new : Log g.row.D.Denot = record { devices = c.write_files-written.new.devices; layout = l.layout; session = l.session; base = l.base; files = l.files.items; durable = c.write_files-written.new.durable; halted = Some (record { dev = c.in-Err-DeviceFault.dev; tick = c.moment-moment.result }); trace = c.put_entry-in-Err-DeviceFault.new.trace.items; acks = c.reserve-2.new.self.items } in
+    let dev = c.in-Err-DeviceFault.dev in
+    let failed : c.write_files-written.result ≡ Err (disks.DeviceFault dev) = search rules in
     record {
-      reply = DeviceFault 0;
-      is = subst (λ halted. Syncs g.D.Devices.history g.D.Devices.write_faults opening halted old new (DeviceFault 0)) (sym c.requires) (inr (record {
+      reply = DeviceFault dev;
+      is = subst (λ halted. Syncs g.D.Devices.history g.D.Devices.write_faults opening halted old new (DeviceFault dev)) (sym c.requires) (inr (record {
+        dev = dev;
         is = refl;
-        cause = subst (λ (log : Log g.row.D.Denot). RoseBy 1 (g.D.Devices.write_faults log.devices) (g.D.Devices.write_faults c.write_files-written.new.devices)) c.self.view_is (c.write_files-written.ensures.write_cause failed);
+        cause = subst (λ (log : Log g.row.D.Denot). RoseBy 1 (g.D.Devices.write_faults log.devices) (g.D.Devices.write_faults c.write_files-written.new.devices)) c.self.view_is (c.write_files-written.ensures.cause dev failed).2;
         acks = c.in_ok-reserve-2.ensures.items ∙ ap (λ (log : Log g.row.D.Denot). log.acks) c.self.view_is;
-        halted = ap (λ m. Some (record { dev = 0; tick = m })) c.moment-moment.ensures.moment;
+        halted = ap (λ m. Some (record { dev = dev; tick = m })) c.moment-moment.ensures.moment;
       }));
-      trace = c.put_entry-in-Err-DeviceFault.ensures ∙ ap (λ (t : History). t ++ entry_of Sync (DeviceFault 0) ∷ []) (c.in_ok-reserve.ensures.items ∙ ap (λ (log : Log g.row.D.Denot). log.trace) c.self.view_is);
+      trace = c.put_entry-in-Err-DeviceFault.ensures ∙ ap (λ (t : History). t ++ entry_of Sync (DeviceFault dev) ∷ []) (c.in_ok-reserve.ensures.items ∙ ap (λ (log : Log g.row.D.Denot). log.trace) c.self.view_is);
     }
 
 pub returns-in-Err-DeviceFault-clause-kept : goal.returns-in-Err-DeviceFault-clause-kept
-returns-in-Err-DeviceFault-clause-kept g c = subst (λ (log : Log g.row.D.Denot). g.D.Devices.tells → LeavesOnly (λ _ image. MayLeaveBut (IsFrom (log.base + log.durable)) (now (g.D.Devices.history log.devices)) image) (g.D.Devices.history log.devices) (g.D.Devices.history c.write_files-written.new.devices)) c.self.view_is c.write_files-written.ensures.kept
+returns-in-Err-DeviceFault-clause-kept g c = subst (λ (log : Log g.row.D.Denot). g.D.Devices.tells → LeavesOnly (λ _ image. MayLeaveBut (IsFrom log.layout (log.base + log.durable)) (now (g.D.Devices.history log.devices)) image) (g.D.Devices.history log.devices) (g.D.Devices.history c.write_files-written.new.devices)) c.self.view_is c.write_files-written.ensures.kept
 
 pub returns-in-Err-NoMemory-clause-kept : goal.returns-in-Err-NoMemory-clause-kept
-returns-in-Err-NoMemory-clause-kept g c = subst (λ (log : Log g.row.D.Denot). g.D.Devices.tells → LeavesOnly (λ _ image. MayLeaveBut (IsFrom (log.base + log.durable)) (now (g.D.Devices.history log.devices)) image) (g.D.Devices.history log.devices) (g.D.Devices.history c.write_files-written.new.devices)) c.self.view_is c.write_files-written.ensures.kept
+returns-in-Err-NoMemory-clause-kept g c = subst (λ (log : Log g.row.D.Denot). g.D.Devices.tells → LeavesOnly (λ _ image. MayLeaveBut (IsFrom log.layout (log.base + log.durable)) (now (g.D.Devices.history log.devices)) image) (g.D.Devices.history log.devices) (g.D.Devices.history c.write_files-written.new.devices)) c.self.view_is c.write_files-written.ensures.kept

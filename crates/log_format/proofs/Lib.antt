@@ -1,0 +1,12 @@
+pub mod Written
+pub mod Extended
+pub mod Stepping
+pub mod Preparing
+pub mod Sealing
+pub mod HandedFaults
+pub mod Copies
+pub mod SameMeaning
+pub mod Room
+pub mod Meaning
+pub mod FreshMeaning
+pub mod Surviving

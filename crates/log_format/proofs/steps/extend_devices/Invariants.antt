@@ -1,0 +1,18 @@
+use Rattle.std.proofs.Common.{◌≡◌, ◌<◌, ◌≤◌, ℕ, length}
+use Rattle.std.specs.Prelude.{slice_index}
+use Rattle.log_format.specs.Steps.{Wrote, extension, on_first}
+use Rattle.log_format.proofs.steps.extend_devices.Given as goal
+
+abbrev pub invariant-loop-dev : goal.invariant-loop-dev
+invariant-loop-dev g l =
+    let D = g.D.Devices in
+    let first = l.fn.devices in
+    record {
+      wrote : D.tells → Wrote (on_first l.dev ((λ dev. extension (slice_index (D.sizes first) dev) (slice_index l.fn.layout.blocks dev)))) (D.history first) (D.history l.devices);
+      faults : D.faults first ≤ D.faults l.devices;
+      write_faults : D.write_faults first ≤ D.write_faults l.devices;
+      count : length (D.sizes l.devices) ≡ length (D.sizes first);
+      others : (other : ℕ) → l.dev ≤ other → slice_index (D.sizes l.devices) other ≡ slice_index (D.sizes first) other;
+      room : (other : ℕ) → other < l.dev → slice_index l.fn.layout.blocks other ≤ slice_index (D.sizes l.devices) other;
+      moment : (D.history first).moment ≤ (D.history l.devices).moment;
+    }

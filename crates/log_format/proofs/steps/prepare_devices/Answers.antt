@@ -1,0 +1,69 @@
+use Rattle.std.proofs.Common.{◌≡◌, ◌<◌, ◌≤◌, ◌∙◌, List, ℕ, length, arith, subst, ap, refl}
+use Rattle.dev_model.specs.Devices.{now}
+use Rattle.geometry.specs.LayoutFacts.{has_places}
+use Rattle.log_format.specs.Formatting.{prepared}
+use Rattle.log_format.specs.Steps.{Wrote, on_first}
+use Rattle.std.specs.Prelude.{Err}
+use Rattle.vol_types.specs.Faults.{RoseBy}
+use Rattle.log_format.proofs.HandedFaults.{handed_cause}
+use Rattle.log_format.proofs.Written.{disk_count, fewer_devices, no_device, ok_wrote, one_device_more, one_of_first, step_by_flushes, step_failed, wrote_also, wrote_none}
+use Rattle.log_format.proofs.steps.prepare_devices.Goals as goal
+
+pub loop-dev-init : goal.loop-dev-init
+loop-dev-init g c =
+    let D = g.D.Devices in
+    let first = c.args.devices.now in
+    record {
+      wrote = λ tells. wrote_none _ _ (no_device (λ (dev : ℕ). prepared c.args.layout.now));
+      faults = omega arith;
+      write_faults = omega arith;
+      sizes = refl;
+      moment = omega arith;
+    }
+
+pub loop-dev-preserved : goal.loop-dev-preserved
+loop-dev-preserved g c =
+    let D = g.D.Devices in
+    let first = c.args.devices.now in
+    let so_far = c.loop-dev.invariant in
+    let dev = c.loop-dev.dev in
+    record {
+      wrote = λ tells. wrote_also _ _ _ _ _ _ (one_device_more dev (λ (dev : ℕ). prepared c.args.layout.now)) (so_far.wrote tells) (ok_wrote _ _ _ _ (c.in_ok-prepare_device.ensures.writes tells));
+      faults = omega (arith, so_far.faults, c.prepare_device.ensures.faults);
+      write_faults = omega (arith, so_far.write_faults, c.prepare_device.ensures.write_faults);
+      sizes = c.prepare_device.ensures.sizes ∙ so_far.sizes;
+      moment = omega (arith, so_far.moment, c.prepare_device.ensures.moment);
+    }
+
+pub returns-in_err-prepare_device-clause-step : goal.returns-in_err-prepare_device-clause-step
+returns-in_err-prepare_device-clause-step g c tells =
+    let D = g.D.Devices in
+    let first = c.args.devices.now in
+    let so_far = c.loop-dev.invariant in
+    let dev = c.loop-dev.dev in
+    step_failed c.from_residual.result c.prepare_device.result _ _ _ _ _ _ c.from_residual.ensures.0
+    (fewer_devices dev c.args.layout.now.meta (λ (dev : ℕ). prepared c.args.layout.now) (omega (arith, c.loop-dev-test.true)))
+    (one_of_first dev c.args.layout.now.meta (λ (dev : ℕ). prepared c.args.layout.now) (omega (arith, c.loop-dev-test.true)))
+    (so_far.wrote tells) (c.prepare_device.ensures.writes tells)
+
+pub returns-clause-step : goal.returns-clause-step
+returns-clause-step g c tells =
+    let D = g.D.Devices in
+    let first = c.args.devices.now in
+    let new = D.history c.flush_devices.new.devices in
+    let same : c.loop-dev.dev ≡ c.args.layout.now.meta = omega (arith, c.loop-dev-test.false) in
+    let few : length (now new) ≤ c.count-count.result = omega (arith, disk_count (now new), ap (λ (sizes : List ℕ). length sizes) (g.met.D.Devices.agree tells c.flush_devices.new.devices), ap (λ (sizes : List ℕ). length sizes) c.flush_devices.ensures.sizes, ap (λ (sizes : List ℕ). length sizes) c.loop-dev.invariant.sizes) in
+    step_by_flushes c.flush_devices.result _ _ (D.history c.loop-dev.devices) new c.count-count.result
+    (subst (λ n. Wrote (on_first n (λ (dev : ℕ). prepared c.args.layout.now)) (D.history first) (D.history c.loop-dev.devices)) same (c.loop-dev.invariant.wrote tells))
+    few (c.flush_devices.ensures.stops tells) (c.flush_devices.ensures.reads tells) (c.flush_devices.ensures.settled tells)
+
+pub prepare_device-requires-clause-device : goal.prepare_device-requires-clause-device
+prepare_device-requires-clause-device g c = omega (arith, c.loop-dev-test.true, (has_places (g.D.Devices.sizes c.args.devices.now) c.args.layout.now c.requires.fits).mirrors, ap (λ (sizes : List ℕ). length sizes) c.loop-dev.invariant.sizes)
+
+pub returns-in_err-prepare_device-clause-cause : goal.returns-in_err-prepare_device-clause-cause
+returns-in_err-prepare_device-clause-cause g c =
+    let D = g.D.Devices in
+    handed_cause c.from_residual.result c.in_err-prepare_device.field-0.0 (λ dev. (dev < length (D.sizes c.args.devices.now)) × RoseBy 1 (D.faults c.args.devices.now) (D.faults c.prepare_device.new.devices)) c.from_residual.ensures.1
+    (λ dev is.
+    let cause = c.in_err-prepare_device.ensures.cause dev (ap Err is) in
+    (omega (arith, cause.0, c.loop-dev-test.true, (has_places (g.D.Devices.sizes c.args.devices.now) c.args.layout.now c.requires.fits).mirrors), omega (arith, cause.1, c.loop-dev.invariant.faults)))

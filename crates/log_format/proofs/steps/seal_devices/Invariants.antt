@@ -1,0 +1,15 @@
+use Rattle.std.proofs.Common.{◌≡◌, ◌≤◌}
+use Rattle.log_format.specs.Steps.{Wrote, on_first, super_copies}
+use Rattle.log_format.proofs.steps.seal_devices.Given as goal
+
+abbrev pub invariant-loop-dev : goal.invariant-loop-dev
+invariant-loop-dev g l =
+    let D = g.D.Devices in
+    let first = l.fn.devices in
+    record {
+      wrote : D.tells → Wrote (on_first l.dev ((super_copies l.fn.layout))) (D.history first) (D.history l.devices);
+      faults : D.faults first ≤ D.faults l.devices;
+      write_faults : D.write_faults first ≤ D.write_faults l.devices;
+      sizes : D.sizes l.devices ≡ D.sizes first;
+      moment : (D.history first).moment ≤ (D.history l.devices).moment;
+    }

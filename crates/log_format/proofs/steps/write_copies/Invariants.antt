@@ -1,0 +1,16 @@
+use Rattle.std.proofs.Common.{◌≡◌, ◌≤◌}
+use Rattle.std.specs.Prelude.{slice_index}
+use Rattle.log_format.specs.Steps.{Wrote, if_there, on_first}
+use Rattle.log_format.proofs.steps.write_copies.Given as goal
+
+abbrev pub invariant-loop-dev : goal.invariant-loop-dev
+invariant-loop-dev g l =
+    let D = g.D.Devices in
+    let first = l.fn.devices in
+    record {
+      wrote : D.tells → Wrote (on_first l.dev ((λ dev. if_there (slice_index (D.sizes first) dev) (slice_index l.fn.places dev) l.fn.bytes))) (D.history first) (D.history l.devices);
+      faults : D.faults first ≤ D.faults l.devices;
+      write_faults : D.write_faults first ≤ D.write_faults l.devices;
+      sizes : D.sizes l.devices ≡ D.sizes first;
+      moment : (D.history first).moment ≤ (D.history l.devices).moment;
+    }

@@ -1,0 +1,17 @@
+use Rattle.std.proofs.Common.{◌≡◌, ◌≤◌}
+use Rattle.log_format.specs.Formatting.{prepared}
+use Rattle.log_format.specs.Steps.{Wrote, in_first, on_device}
+use Rattle.log_format.proofs.writing.prepare_device.Given as goal
+
+abbrev pub invariant-loop-block : goal.invariant-loop-block
+invariant-loop-block g l =
+    let D = g.D.Devices in
+    let first = l.fn.devices in
+    record {
+      started : 1 ≤ l.block;
+      wrote : D.tells → Wrote (on_device l.fn.dev (in_first l.block (prepared l.fn.layout))) (D.history first) (D.history l.devices);
+      faults : D.faults first ≤ D.faults l.devices;
+      write_faults : D.write_faults first ≤ D.write_faults l.devices;
+      sizes : D.sizes l.devices ≡ D.sizes first;
+      moment : (D.history first).moment ≤ (D.history l.devices).moment;
+    }

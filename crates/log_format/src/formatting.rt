@@ -1,0 +1,106 @@
+ghost use Rattle.std.specs.Prelude.{◌≡◌, ◌<◌, ◌≤◌, ℕ, true, Ok, Err, OnOk, length};
+ghost use Rattle.vol_types.specs.Faults.{RoseBy};
+ghost use Rattle.dev_model.specs.Devices.{History, now};
+ghost use Rattle.dev_model.specs.Disk.{as_read, sizes_of, zeros};
+ghost use Rattle.dev_model.specs.Reading.{StaysSo};
+ghost use Rattle.geometry.specs.Layouts.{is_layout};
+ghost use Rattle.geometry.specs.Sessions.{session_block};
+ghost use Rattle.geometry.specs.Mirrors.{EachLeft};
+ghost use Rattle.log_records.specs.Found.{mounts};
+ghost use Rattle.log_format.specs.Formatting.{Done, Extend, FormatSurvives, fresh_volume};
+ghost use Rattle.log_format.specs.Steps.{ArePlaces, AreSupers, Formats, Reached};
+
+use crate::bytes::{find_spares, first_session, other_blocks, super_blocks, zero_block};
+use crate::steps::{extend_devices, prepare_devices, seal_devices, write_copies};
+use dev_model::Devices;
+use geometry::DiskFault;
+use std::alloc::Global;
+use vol_types::{Bytes, Layout};
+
+// Makes zero blocks of the superblock copies of every device that don't count, and then of the others.
+fn clear_supers<D: Devices>(
+    devices: &mut D,
+    layout: &Layout,
+    spares: &[u32],
+    others: &[u32],
+    blank: &[u8],
+) -> Result<(), DiskFault>
+    requires size { length blank.now ≡ 4096 }
+    requires blank { blank.now ≡ zeros }
+    requires spares { length spares.now ≡ length (D.sizes devices.old) }
+    requires others { length others.now ≡ length (D.sizes devices.old) }
+    ensures formats { D.tells → (start : History) → StaysSo start (D.history devices.old) → ArePlaces (as_read (now start)) spares.now others.now → Formats result layout.now Extend start (D.history devices.new) }
+    ensures cause { (dev : ℕ) → result ≡ Err (DiskFault.DeviceFault dev) → (dev < length (D.sizes devices.old)) × RoseBy 1 (D.faults devices.old) (D.faults devices.new) }
+    ensures faults { D.faults devices.old ≤ D.faults devices.new }
+    ensures write_faults { D.write_faults devices.old ≤ D.write_faults devices.new }
+    ensures sizes { D.sizes devices.new ≡ D.sizes devices.old }
+    ensures moment { (D.history devices.old).moment ≤ (D.history devices.new).moment }
+{
+    let _ = layout.meta;
+    write_copies(devices, spares, blank)?;
+    write_copies(devices, others, blank)
+}
+
+// Makes devices whose superblocks are zeros as long as they shall be, and prepares and seals them.
+fn lay_out<D: Devices>(
+    devices: &mut D,
+    layout: &Layout,
+    blank: &[u8],
+    session: &[u8],
+    firsts: &[Bytes],
+    seconds: &[Bytes],
+) -> Result<(), DiskFault>
+    requires layout { is_layout layout.now ≡ true }
+    requires count { length layout.now.blocks ≡ length (D.sizes devices.old) }
+    requires size { length blank.now ≡ 4096 }
+    requires blank { blank.now ≡ zeros }
+    requires session_size { length session.now ≡ 4096 }
+    requires session { session.now ≡ session_block layout.now.id 1 }
+    requires firsts { AreSupers layout.now 0 firsts.now }
+    requires seconds { AreSupers layout.now 8 seconds.now }
+    ensures formats { D.tells → (start : History) → Reached layout.now Extend start (D.history devices.old) → sizes_of (now start) ≡ D.sizes devices.old → Formats result layout.now Done start (D.history devices.new) }
+    ensures cause { (dev : ℕ) → result ≡ Err (DiskFault.DeviceFault dev) → (dev < length (D.sizes devices.old)) × RoseBy 1 (D.faults devices.old) (D.faults devices.new) }
+    ensures faults { D.faults devices.old ≤ D.faults devices.new }
+    ensures write_faults { D.write_faults devices.old ≤ D.write_faults devices.new }
+    ensures moment { (D.history devices.old).moment ≤ (D.history devices.new).moment }
+{
+    extend_devices(devices, layout)?;
+    prepare_devices(devices, layout, blank, session)?;
+    seal_devices(devices, layout, firsts, seconds)
+}
+
+/// Formats the devices: whatever they held, they hold the fresh volume with this layout afterwards. A device that is shorter
+/// than its number of blocks is made as long.
+///
+/// It works in five steps, and every device is flushed behind each: the superblock copy of every device that doesn't count is
+/// made a zero block, then the other copy; devices are extended; each metadata device gets zeros in its first bucket, but for
+/// the superblocks, and in the journal area, and session 1; and both superblock copies of every device are written. It costs a
+/// write for each block of the journal area of each metadata device. Memory is taken before the first write, two blocks a
+/// device and two more: where it is wanting, the devices are as they were.
+pub fn format<D: Devices>(alloc: Global, devices: &mut D, layout: &Layout) -> Result<(), DiskFault>
+    requires layout { is_layout layout.now ≡ true }
+    requires count { length layout.now.blocks ≡ length (D.sizes devices.old) }
+    ensures survives { D.tells → FormatSurvives layout.now (D.history devices.old) (D.history devices.new) }
+    ensures done { D.tells → OnOk result (EachLeft (λ image. mounts image ≡ Ok (fresh_volume layout.now)) (D.history devices.new)) }
+    ensures cause { (dev : ℕ) → result ≡ Err (DiskFault.DeviceFault dev) → (dev < length (D.sizes devices.old)) × RoseBy 1 (D.faults devices.old) (D.faults devices.new) }
+    ensures faults { D.faults devices.old ≤ D.faults devices.new }
+    ensures write_faults { D.write_faults devices.old ≤ D.write_faults devices.new }
+    ensures past { D.tells → (m : ℕ) → m ≤ (D.history devices.old).moment → (D.history devices.new).disks m ≡ (D.history devices.old).disks m }
+    ensures moment { (D.history devices.old).moment ≤ (D.history devices.new).moment }
+{
+    let blank = zero_block(alloc)?;
+    let session = first_session(alloc, layout)?;
+    let firsts = super_blocks(alloc, layout, 0)?;
+    let seconds = super_blocks(alloc, layout, 8)?;
+    let spares = find_spares(alloc, devices)?;
+    let others = other_blocks(alloc, &spares)?;
+    clear_supers(devices, layout, &spares, &others, blank.as_slice())?;
+    lay_out(
+        devices,
+        layout,
+        blank.as_slice(),
+        session.as_slice(),
+        &firsts,
+        &seconds,
+    )
+}

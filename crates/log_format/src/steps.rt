@@ -1,0 +1,106 @@
+ghost use Rattle.std.specs.Prelude.{◌≡◌, ◌<◌, ◌≤◌, ℕ, true, Err, length, slice_index, OnOk};
+ghost use Rattle.vol_types.specs.Faults.{RoseBy};
+ghost use Rattle.dev_model.specs.Disk.{zeros};
+ghost use Rattle.dev_model.specs.Devices.{IsPlace};
+ghost use Rattle.geometry.specs.Layouts.{is_layout_of};
+ghost use Rattle.geometry.specs.Sessions.{session_block};
+ghost use Rattle.log_format.specs.Formatting.{prepared};
+ghost use Rattle.log_format.specs.Steps.{AreSupers, IsStep, extension, if_there, on_first, super_copies};
+
+use crate::writing::{extend_device, prepare_device, seal_device, write_if_there};
+use dev_model::Devices;
+use geometry::{DiskFault, flush_devices};
+use vol_types::{Bytes, Layout};
+
+/// Writes the bytes into one block of each device that is long enough to have it, and flushes all.
+pub(crate) fn write_copies<D: Devices>(
+    devices: &mut D,
+    places: &[u32],
+    bytes: &[u8],
+) -> Result<(), DiskFault>
+    requires places { length places.now ≡ length (D.sizes devices.old) }
+    requires size { length bytes.now ≡ 4096 }
+    ensures step { D.tells → IsStep result (on_first (length places.now) (λ dev. if_there (slice_index (D.sizes devices.old) dev) (slice_index places.now dev) bytes.now)) (D.history devices.old) (D.history devices.new) }
+    ensures cause { (dev : ℕ) → result ≡ Err (DiskFault.DeviceFault dev) → (dev < length (D.sizes devices.old)) × RoseBy 1 (D.faults devices.old) (D.faults devices.new) }
+    ensures faults { D.faults devices.old ≤ D.faults devices.new }
+    ensures write_faults { D.write_faults devices.old ≤ D.write_faults devices.new }
+    ensures sizes { D.sizes devices.new ≡ D.sizes devices.old }
+    ensures moment { (D.history devices.old).moment ≤ (D.history devices.new).moment }
+{
+    let all = devices.count();
+    for dev in 0..all {
+        write_if_there(devices, dev, places[dev as usize], bytes)?;
+    }
+    flush_devices(devices, all)
+}
+
+/// Makes each device as long as its number of blocks, and flushes all.
+pub(crate) fn extend_devices<D: Devices>(devices: &mut D, layout: &Layout) -> Result<(), DiskFault>
+    requires count { length layout.now.blocks ≡ length (D.sizes devices.old) }
+    ensures step { D.tells → IsStep result (on_first (length layout.now.blocks) (λ dev. extension (slice_index (D.sizes devices.old) dev) (slice_index layout.now.blocks dev))) (D.history devices.old) (D.history devices.new) }
+    ensures cause { (dev : ℕ) → result ≡ Err (DiskFault.DeviceFault dev) → (dev < length (D.sizes devices.old)) × RoseBy 1 (D.faults devices.old) (D.faults devices.new) }
+    ensures faults { D.faults devices.old ≤ D.faults devices.new }
+    ensures write_faults { D.write_faults devices.old ≤ D.write_faults devices.new }
+    ensures count { length (D.sizes devices.new) ≡ length (D.sizes devices.old) }
+    ensures room { OnOk result ((dev : ℕ) → dev < length (D.sizes devices.old) → slice_index layout.now.blocks dev ≤ slice_index (D.sizes devices.new) dev) }
+    ensures moment { (D.history devices.old).moment ≤ (D.history devices.new).moment }
+{
+    let count = devices.count();
+    let blocks = layout.blocks.as_slice();
+    for dev in 0..count {
+        extend_device(devices, dev, blocks[dev as usize])?;
+    }
+    flush_devices(devices, count)
+}
+
+/// Writes what the metadata devices get before their superblocks, and flushes all.
+pub(crate) fn prepare_devices<D: Devices>(
+    devices: &mut D,
+    layout: &Layout,
+    blank: &[u8],
+    session: &[u8],
+) -> Result<(), DiskFault>
+    requires fits { is_layout_of (D.sizes devices.old) layout.now ≡ true }
+    requires size { length blank.now ≡ 4096 }
+    requires blank { blank.now ≡ zeros }
+    requires session_size { length session.now ≡ 4096 }
+    requires session { session.now ≡ session_block layout.now.id 1 }
+    ensures step { D.tells → IsStep result (on_first layout.now.meta (λ dev. prepared layout.now)) (D.history devices.old) (D.history devices.new) }
+    ensures cause { (dev : ℕ) → result ≡ Err (DiskFault.DeviceFault dev) → (dev < length (D.sizes devices.old)) × RoseBy 1 (D.faults devices.old) (D.faults devices.new) }
+    ensures faults { D.faults devices.old ≤ D.faults devices.new }
+    ensures write_faults { D.write_faults devices.old ≤ D.write_faults devices.new }
+    ensures sizes { D.sizes devices.new ≡ D.sizes devices.old }
+    ensures moment { (D.history devices.old).moment ≤ (D.history devices.new).moment }
+{
+    for dev in 0..layout.meta {
+        prepare_device(devices, layout, dev, blank, session)?;
+    }
+    let count = devices.count();
+    flush_devices(devices, count)
+}
+
+/// Writes both superblock copies of every device, and flushes all.
+pub(crate) fn seal_devices<D: Devices>(
+    devices: &mut D,
+    layout: &Layout,
+    firsts: &[Bytes],
+    seconds: &[Bytes],
+) -> Result<(), DiskFault>
+    requires fits { is_layout_of (D.sizes devices.old) layout.now ≡ true }
+    requires firsts { AreSupers layout.now 0 firsts.now }
+    requires seconds { AreSupers layout.now 8 seconds.now }
+    ensures step { D.tells → IsStep result (on_first (length layout.now.blocks) (super_copies layout.now)) (D.history devices.old) (D.history devices.new) }
+    ensures cause { (dev : ℕ) → result ≡ Err (DiskFault.DeviceFault dev) → (dev < length (D.sizes devices.old)) × RoseBy 1 (D.faults devices.old) (D.faults devices.new) }
+    ensures faults { D.faults devices.old ≤ D.faults devices.new }
+    ensures write_faults { D.write_faults devices.old ≤ D.write_faults devices.new }
+    ensures sizes { D.sizes devices.new ≡ D.sizes devices.old }
+    ensures moment { (D.history devices.old).moment ≤ (D.history devices.new).moment }
+{
+    let count = devices.count();
+    for dev in 0..count {
+        let first = firsts[dev as usize].as_slice();
+        let second = seconds[dev as usize].as_slice();
+        seal_device(devices, layout, dev, first, second)?;
+    }
+    flush_devices(devices, count)
+}

@@ -1,0 +1,144 @@
+ghost use Rattle.std.specs.Prelude.{◌≡◌, ◌≢◌, ◌+◌, ◌<◌, ◌≤◌, ℕ, true, Some, Err, length, slice_index, OnOk};
+ghost use Rattle.vol_types.specs.Faults.{RoseBy};
+ghost use Rattle.dev_model.specs.Devices.{IsPlace};
+ghost use Rattle.geometry.specs.Layouts.{is_layout_of};
+ghost use Rattle.geometry.specs.Sessions.{session_block};
+ghost use Rattle.dev_model.specs.Disk.{zeros};
+ghost use Rattle.log_format.specs.Formatting.{prepared};
+ghost use Rattle.log_format.specs.Steps.{IsSuper, Writes, extension, if_there, in_block, on_device, super_copies};
+
+use dev_model::Devices;
+use geometry::{DiskFault, write_device};
+use vol_types::Layout;
+
+/// Writes one block of a device, if the device is long enough to have it.
+pub(crate) fn write_if_there<D: Devices>(
+    devices: &mut D,
+    dev: u8,
+    place: u32,
+    bytes: &[u8],
+) -> Result<(), DiskFault>
+    requires device { dev < length (D.sizes devices.old) }
+    requires size { length bytes.now ≡ 4096 }
+    ensures writes { D.tells → Writes result (on_device dev (if_there (slice_index (D.sizes devices.old) dev) place bytes.now)) (D.history devices.old) (D.history devices.new) }
+    ensures cause { (failed : ℕ) → result ≡ Err (DiskFault.DeviceFault failed) → (failed ≡ dev) × RoseBy 1 (D.faults devices.old) (D.faults devices.new) }
+    ensures faults { D.faults devices.old ≤ D.faults devices.new }
+    ensures write_faults { D.write_faults devices.old ≤ D.write_faults devices.new }
+    ensures sizes { D.sizes devices.new ≡ D.sizes devices.old }
+    ensures moment { (D.history devices.old).moment ≤ (D.history devices.new).moment }
+{
+    if devices.blocks(dev) <= place {
+        return Ok(());
+    }
+    write_device(devices, dev, place, bytes)
+}
+
+/// Makes a device as long as its number of blocks, if it is shorter.
+pub(crate) fn extend_device<D: Devices>(
+    devices: &mut D,
+    dev: u8,
+    blocks: u32,
+) -> Result<(), DiskFault>
+    requires device { dev < length (D.sizes devices.old) }
+    ensures writes { D.tells → Writes result (on_device dev (extension (slice_index (D.sizes devices.old) dev) blocks)) (D.history devices.old) (D.history devices.new) }
+    ensures cause { (failed : ℕ) → result ≡ Err (DiskFault.DeviceFault failed) → (failed ≡ dev) × RoseBy 1 (D.faults devices.old) (D.faults devices.new) }
+    ensures faults { D.faults devices.old ≤ D.faults devices.new }
+    ensures write_faults { D.write_faults devices.old ≤ D.write_faults devices.new }
+    ensures count { length (D.sizes devices.new) ≡ length (D.sizes devices.old) }
+    ensures room { OnOk result (blocks ≤ slice_index (D.sizes devices.new) dev) }
+    ensures others { (other : ℕ) → other ≢ dev → slice_index (D.sizes devices.new) other ≡ slice_index (D.sizes devices.old) other }
+    ensures moment { (D.history devices.old).moment ≤ (D.history devices.new).moment }
+{
+    if blocks <= devices.blocks(dev) {
+        return Ok(());
+    }
+    match devices.extend(dev, blocks) {
+        Ok(()) => Ok(()),
+        Err(_) => Err(DiskFault::DeviceFault(dev)),
+    }
+}
+
+// Writes what a metadata device gets into one block behind the first: the session into block 5, zeros into others, and nothing
+// into block 8.
+fn prepare_block<D: Devices>(
+    devices: &mut D,
+    layout: &Layout,
+    dev: u8,
+    block: u32,
+    blank: &[u8],
+    session: &[u8],
+) -> Result<(), DiskFault>
+    requires fits { is_layout_of (D.sizes devices.old) layout.now ≡ true }
+    requires device { dev < length (D.sizes devices.old) }
+    requires first { 1 ≤ block }
+    requires last { block < 16 + layout.now.journal }
+    requires size { length blank.now ≡ 4096 }
+    requires blank { blank.now ≡ zeros }
+    requires session_size { length session.now ≡ 4096 }
+    requires session { session.now ≡ session_block layout.now.id 1 }
+    ensures writes { D.tells → Writes result (on_device dev (in_block block (prepared layout.now block))) (D.history devices.old) (D.history devices.new) }
+    ensures cause { (failed : ℕ) → result ≡ Err (DiskFault.DeviceFault failed) → (failed ≡ dev) × RoseBy 1 (D.faults devices.old) (D.faults devices.new) }
+    ensures faults { D.faults devices.old ≤ D.faults devices.new }
+    ensures write_faults { D.write_faults devices.old ≤ D.write_faults devices.new }
+    ensures sizes { D.sizes devices.new ≡ D.sizes devices.old }
+    ensures moment { (D.history devices.old).moment ≤ (D.history devices.new).moment }
+{
+    if block == 8 {
+        return Ok(());
+    }
+    if block == 5 {
+        return write_device(devices, dev, block, session);
+    }
+    write_device(devices, dev, block, blank)
+}
+
+/// Writes what a metadata device gets before its superblocks. It costs a write for each block of the journal area, and 14 more.
+pub(crate) fn prepare_device<D: Devices>(
+    devices: &mut D,
+    layout: &Layout,
+    dev: u8,
+    blank: &[u8],
+    session: &[u8],
+) -> Result<(), DiskFault>
+    requires fits { is_layout_of (D.sizes devices.old) layout.now ≡ true }
+    requires device { dev < length (D.sizes devices.old) }
+    requires size { length blank.now ≡ 4096 }
+    requires blank { blank.now ≡ zeros }
+    requires session_size { length session.now ≡ 4096 }
+    requires session { session.now ≡ session_block layout.now.id 1 }
+    ensures writes { D.tells → Writes result (on_device dev (prepared layout.now)) (D.history devices.old) (D.history devices.new) }
+    ensures cause { (failed : ℕ) → result ≡ Err (DiskFault.DeviceFault failed) → (failed ≡ dev) × RoseBy 1 (D.faults devices.old) (D.faults devices.new) }
+    ensures faults { D.faults devices.old ≤ D.faults devices.new }
+    ensures write_faults { D.write_faults devices.old ≤ D.write_faults devices.new }
+    ensures sizes { D.sizes devices.new ≡ D.sizes devices.old }
+    ensures moment { (D.history devices.old).moment ≤ (D.history devices.new).moment }
+{
+    for block in 1..16 + layout.journal {
+        prepare_block(devices, layout, dev, block, blank, session)?;
+    }
+    Ok(())
+}
+
+/// Writes both superblock copies of a device.
+pub(crate) fn seal_device<D: Devices>(
+    devices: &mut D,
+    layout: &Layout,
+    dev: u8,
+    first: &[u8],
+    second: &[u8],
+) -> Result<(), DiskFault>
+    requires fits { is_layout_of (D.sizes devices.old) layout.now ≡ true }
+    requires device { dev < length (D.sizes devices.old) }
+    requires first { IsSuper layout.now dev 0 first.now }
+    requires second { IsSuper layout.now dev 8 second.now }
+    ensures writes { D.tells → Writes result (on_device dev (super_copies layout.now dev)) (D.history devices.old) (D.history devices.new) }
+    ensures cause { (failed : ℕ) → result ≡ Err (DiskFault.DeviceFault failed) → (failed ≡ dev) × RoseBy 1 (D.faults devices.old) (D.faults devices.new) }
+    ensures faults { D.faults devices.old ≤ D.faults devices.new }
+    ensures write_faults { D.write_faults devices.old ≤ D.write_faults devices.new }
+    ensures sizes { D.sizes devices.new ≡ D.sizes devices.old }
+    ensures moment { (D.history devices.old).moment ≤ (D.history devices.new).moment }
+{
+    let _ = layout.meta;
+    write_device(devices, dev, 0, first)?;
+    write_device(devices, dev, 8, second)
+}

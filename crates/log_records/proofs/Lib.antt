@@ -1,0 +1,4 @@
+pub mod MountAnswers
+pub mod Payloads
+pub mod Scanning
+pub mod Taken

@@ -1,0 +1,78 @@
+-- A scan of the log: the devices at one place, and the places one after the other.
+use Rattle.std.proofs.Common.{◌≡◌, ℕ, zero, suc, ◌+◌, ◌-◌, ◌<◌, ◌≤◌, List, Option, Some, None, refl, ap, ◌∙◌, sym, subst, arith, ⊎_elim}
+use Rattle.std.specs.Option.{option_map_or}
+use Rattle.std.proofs.lemmas.Bool.{cases_lt}
+use Rattle.std.proofs.lemmas.Option.{same_Some, none-some as none_some}
+use Rattle.vol_types.specs.Faults.{RoseBy}
+use Rattle.vol_types.specs.declared.layout.Layout.{Layout}
+use Rattle.dev_model.specs.Disk.{Disk, Image, as_read}
+use Rattle.plain_forest.specs.Forest.{Forest, fresh}
+use Rattle.log_records.specs.Records.{first_of_two, first_record, record_at, record_on}
+use Rattle.log_records.specs.Found.{AreMirrored, IsMirroredAt, forest_with_next, log_in, scanned_from}
+use Rattle.log_records.specs.declared.files.MadeFile.{MadeFile}
+
+-- No count rises in an earlier part and not in the whole.
+pub rose_behind : (first mid last : ℕ) → mid ≤ last → RoseBy 1 first mid → RoseBy 1 first last
+rose_behind first mid last le rose = omega (arith, le, rose)
+
+pub rose_before : (first mid last : ℕ) → first ≤ mid → RoseBy 1 mid last → RoseBy 1 first last
+rose_before first mid last le rose = omega (arith, le, rose)
+
+pub no_less : (first mid last : ℕ) → first ≤ mid → mid ≤ last → first ≤ last
+no_less first mid last one other = omega (arith, one, other)
+
+second_of_two : (first second found : Option MadeFile) → first ≡ None → second ≡ found → first_of_two first second ≡ found
+second_of_two None second found none is = is
+second_of_two (Some file) second found none is = absurd (none_some file (sym none))
+
+-- Where no device so far holds a record, the next one's is the first.
+pub first_next : (layout : Layout) (place : ℕ) (image : Image) (dev : ℕ) (found : Option MadeFile) → first_record layout place image dev ≡ None → found ≡ record_on layout place image dev → first_record layout place image (dev + 1) ≡ found
+first_next layout place image dev found none is =
+    ap (first_record layout place image) (let e : dev + 1 ≡ suc dev = omega arith in e) ∙ second_of_two (first_record layout place image dev) (record_on layout place image dev) found none (sym is)
+
+-- What the first so many devices hold, the first of more hold.
+first_stays : (layout : Layout) (place : ℕ) (image : Image) (dev more : ℕ) (file : MadeFile) → first_record layout place image dev ≡ Some file → first_record layout place image (more + dev) ≡ Some file
+first_stays layout place image dev zero file is = ap (first_record layout place image) (let e : 0 + dev ≡ dev = omega arith in e) ∙ is
+first_stays layout place image dev (suc more) file is =
+    ap (first_record layout place image) (let e : suc more + dev ≡ suc (more + dev) = omega arith in e)
+    ∙ ap (λ first. first_of_two first (record_on layout place image (more + dev))) (first_stays layout place image dev more file is)
+
+-- A device holds the record of its place: it is the image's, where no device before holds one, or where the mirrors agree.
+pub found_on : (layout : Layout) (image : Image) (place dev : ℕ) (file : MadeFile) (failed : Option ℕ) → dev < layout.meta → Some file ≡ record_on layout place image dev
+    → (failed ≡ None → first_record layout place image dev ≡ None) → ((d : ℕ) → failed ≡ Some d → IsMirroredAt layout image place) → Some file ≡ record_at layout image place
+found_on layout image place dev file None device is none mirrors =
+    let here : first_record layout place image (dev + 1) ≡ Some file = first_next layout place image dev (Some file) (none refl) is in
+    let all : layout.meta - (dev + 1) + (dev + 1) ≡ layout.meta = omega (arith, device) in
+    sym (subst (λ n. first_record layout place image n ≡ Some file) all (first_stays layout place image (dev + 1) (layout.meta - (dev + 1)) file here))
+found_on layout image place dev file (Some d) device is none mirrors = sym (mirrors d refl dev file device (sym is))
+
+module _ (layout : Layout) (image : Image) (place : ℕ) (forest : Forest) (next : Option MadeFile) (read : next ≡ record_at layout image place) (within : place < layout.journal)
+    (so_far : scanned_from (record_at layout image) (layout.journal - place) place forest ≡ log_in layout image) where
+  here : scanned_from (record_at layout image) (layout.journal - place) place forest ≡ option_map_or (scanned_from (record_at layout image) (layout.journal - (place + 1)) (suc place)) (forest_with_next next forest) (place, forest)
+  here =
+      let more : layout.journal - place ≡ suc (layout.journal - (place + 1)) = omega (arith, within) in
+      ap (λ n. scanned_from (record_at layout image) n place forest) more
+      ∙ ap (λ r. option_map_or (scanned_from (record_at layout image) (layout.journal - (place + 1)) (suc place)) (forest_with_next r forest) (place, forest)) (sym read)
+
+  -- The next record's file goes into the forest.
+  pub scan_more : (taken : Forest) → forest_with_next next forest ≡ Some taken → scanned_from (record_at layout image) (layout.journal - (place + 1)) (place + 1) taken ≡ log_in layout image
+  scan_more taken is =
+      let one : place + 1 ≡ suc place = omega arith in
+      ap (λ n. scanned_from (record_at layout image) (layout.journal - (place + 1)) n taken) one
+      ∙ ap (λ o. option_map_or (scanned_from (record_at layout image) (layout.journal - (place + 1)) (suc place)) o (place, forest)) (sym is) ∙ sym here ∙ so_far
+
+  -- Where it doesn't, the log ends.
+  pub scan_ends : forest_with_next next forest ≡ None → log_in layout image ≡ (place, forest)
+  scan_ends none = sym so_far ∙ here ∙ ap (λ o. option_map_or (scanned_from (record_at layout image) (layout.journal - (place + 1)) (suc place)) o (place, forest)) none
+
+-- So does the end of the journal area.
+pub scan_all : (layout : Layout) (image : Image) (place : ℕ) (forest : Forest) → layout.journal ≤ place → scanned_from (record_at layout image) (layout.journal - place) place forest ≡ log_in layout image → log_in layout image ≡ (place, forest)
+scan_all layout image place forest all so_far =
+    let none : layout.journal - place ≡ 0 = omega (arith, all) in
+    sym so_far ∙ ap (λ n. scanned_from (record_at layout image) n place forest) none
+
+-- What was read next from disks that stayed is what the image holds.
+pub read_before : (layout : Layout) (place : ℕ) (first mid : List Disk) (next : Option MadeFile) (rose : Type 0) → mid ≡ first → (rose → AreMirrored layout (as_read first)) → place < layout.journal
+    → ((rose → IsMirroredAt layout (as_read mid) place) → next ≡ record_at layout (as_read mid) place) → next ≡ record_at layout (as_read first) place
+read_before layout place first mid next rose same mirrors within read =
+    subst (λ ds. next ≡ record_at layout (as_read ds) place) same (read (λ r. subst (λ ds. IsMirroredAt layout (as_read ds) place) (sym same) (mirrors r place within)))

@@ -1,0 +1,21 @@
+use Rattle.std.proofs.Common.{◌≡◌, ◌<◌, ◌≤◌, ℕ, None, Some}
+use Rattle.vol_types.specs.Faults.{RoseBy}
+use Rattle.dev_model.specs.Disk.{as_read}
+use Rattle.dev_model.specs.Devices.{now}
+use Rattle.dev_model.specs.Reading.{StaysSo}
+use Rattle.log_records.specs.Records.{first_record}
+use Rattle.log_records.proofs.mounting.find_record.Given as goal
+
+abbrev pub invariant-loop-dev : goal.invariant-loop-dev
+invariant-loop-dev g l =
+    let D = g.D.Devices in
+    let first = l.fn.devices in
+    record {
+      none : D.tells → l.failed ≡ None → first_record l.fn.layout l.fn.place (as_read (now (D.history first))) l.dev ≡ None;
+      fault : (d : ℕ) → l.failed ≡ Some d → (d < l.fn.layout.meta) × RoseBy 1 (D.faults first) (D.faults l.devices);
+      stays : D.tells → StaysSo (D.history first) (D.history l.devices);
+      faults : D.faults first ≤ D.faults l.devices;
+      write_faults : D.write_faults l.devices ≡ D.write_faults first;
+      moment : (D.history first).moment ≤ (D.history l.devices).moment;
+      sizes : D.sizes l.devices ≡ D.sizes first;
+    }

@@ -1,0 +1,46 @@
+use Rattle.std.proofs.Common.{◌≡◌, ◌+◌, ◌<◌, ◌≤◌, ◌^◌, ◌∙◌, List, ℕ, Some, length, get_or, ap, subst, sym, arith}
+use Rattle.std.specs.Prelude.{option_and_then}
+use Rattle.std.proofs.lemmas.List.{take_all, take-append-le}
+use Rattle.geometry.specs.LayoutFacts.{has_places, journal_place}
+use Rattle.log_records.specs.Records.{record_in}
+use Rattle.geometry.specs.Mirrors.{EachLeft, HoldMirrors}
+use Rattle.record_log.specs.Durable.{HoldRecord, IsLogPlace}
+use Rattle.record_log.proofs.WrittenRecords.{behind_flushes, on_ok, only_flushed}
+use Rattle.record_log.proofs.writing.write_record.Goals as goal
+
+pub returns-in_err-flush_devices-clause-stops : goal.returns-in_err-flush_devices-clause-stops
+returns-in_err-flush_devices-clause-stops g c tells =
+    only_flushed (IsLogPlace c.args.layout.now c.args.place) (g.D.Devices.history c.args.devices.now) (g.D.Devices.history c.flush_devices.new.devices) (c.flush_devices.ensures.stops tells)
+
+pub overflow_add-place : goal.overflow_add-place
+overflow_add-place g c =
+    let has = has_places (g.D.Devices.sizes c.args.devices.now) c.args.layout.now c.requires.fits in
+    let fits : 16 + c.args.place < 2 ^ 32 = omega (arith, c.requires.place, has.journal) in record { fits = fits }
+
+pub write_mirrors-requires-clause-mirrors : goal.write_mirrors-requires-clause-mirrors
+write_mirrors-requires-clause-mirrors g c =
+    let has = has_places (g.D.Devices.sizes c.args.devices.now) c.args.layout.now c.requires.fits in
+    let few : c.args.layout.now.meta ≤ length (g.D.Devices.sizes c.flush_devices.new.devices) = omega (arith, has.mirrors, ap length c.flush_devices.ensures.sizes) in few
+
+pub write_mirrors-requires-clause-places : goal.write_mirrors-requires-clause-places
+write_mirrors-requires-clause-places g c dev within =
+    subst (λ (sizes : List ℕ). 16 + c.args.place < get_or sizes dev 0) (sym c.flush_devices.ensures.sizes) (journal_place (g.D.Devices.sizes c.args.devices.now) c.args.layout.now dev c.args.place c.requires.fits within c.requires.place)
+
+pub returns-clause-stops : goal.returns-clause-stops
+returns-clause-stops g c tells =
+    behind_flushes (IsLogPlace c.args.layout.now c.args.place) (g.D.Devices.history c.args.devices.now) (g.D.Devices.history c.flush_devices.new.devices) (g.D.Devices.history c.write_mirrors.new.devices)
+    (c.flush_devices.ensures.stops tells) (c.write_mirrors.ensures.stops tells)
+
+pub returns-clause-held : goal.returns-clause-held
+returns-clause-held g c tells =
+    let layout = c.args.layout.now in
+    let place = c.args.place in
+    let file = c.args.file.now in
+    let block = c.deref.result.now in
+    let history = g.D.Devices.history c.write_mirrors.new.devices in
+    let sealed = c.seal_record.new.into in
+    let whole : block ≡ sealed = c.deref.ensures.value ∙ take-append-le _ sealed _ (omega arith) ∙ take_all _ sealed (omega arith) in
+    let spelled : record_in layout.id place block ≡ Some file = subst (λ (b : List ℕ). record_in layout.id place b ≡ Some file) (sym whole) c.in_ok-seal_record.ensures in
+    on_ok c.write_mirrors.result (EachLeft (HoldMirrors layout.meta (16 + place) block) history) (EachLeft (HoldRecord layout place (Some file)) history)
+    (λ held image may dev within. ap (option_and_then (record_in layout.id place)) (held image may dev within) ∙ spelled)
+    (c.write_mirrors.ensures.held tells)

@@ -1,0 +1,43 @@
+ghost use Rattle.std.specs.Prelude.{◌≡◌, ◌+◌, ◌<◌, ◌≤◌, ◌↔◌, ℕ, true, Err, OnOk, length};
+ghost use Rattle.vol_types.specs.Faults.{RoseBy};
+ghost use Rattle.dev_model.specs.Devices.{now};
+ghost use Rattle.dev_model.specs.Stops.{LeavesOnly, MayLeaveBut};
+ghost use Rattle.geometry.specs.Layouts.{is_layout_of};
+ghost use Rattle.geometry.specs.Mirrors.{EachLeft};
+ghost use Rattle.geometry.specs.Sessions.{IsSessionPlace};
+ghost use Rattle.record_log.specs.Durable.{NamesSession};
+
+use dev_model::Devices;
+use geometry::write_session;
+use log_records::{Loaded, MountFault};
+use std::alloc::Global;
+
+/// The greatest number of a session. Behind it none is left.
+const LAST_SESSION: u64 = 4_294_967_295;
+
+/// Takes the next session's number for a volume that was loaded: seals it on every metadata device, before any other write.
+/// Where no number is left it answers `NoSession`, and nothing is written. It costs a write and a flush of every metadata
+/// device.
+pub fn begin_session<D: Devices>(
+    alloc: Global,
+    devices: &mut D,
+    loaded: &Loaded,
+) -> Result<(), MountFault>
+    requires { is_layout_of (D.sizes devices.old) loaded.now.layout ≡ true }
+    ensures spent { (result ≡ Err MountFault.NoSession) ↔ (4294967295 ≤ loaded.now.session) }
+    ensures nothing { result ≡ Err MountFault.NoSession → devices.new ≡ devices.old }
+    ensures numbered { D.tells → OnOk result (EachLeft (NamesSession loaded.now.layout (loaded.now.session + 1)) (D.history devices.new)) }
+    ensures stops { D.tells → LeavesOnly (λ _ image. MayLeaveBut (IsSessionPlace loaded.now.layout (loaded.now.session + 1)) (now (D.history devices.old)) image) (D.history devices.old) (D.history devices.new) }
+    ensures cause { (dev : ℕ) → result ≡ Err (MountFault.DeviceFault dev) → (dev < length (D.sizes devices.old)) × RoseBy 1 (D.faults devices.old) (D.faults devices.new) }
+    ensures faults { D.faults devices.old ≤ D.faults devices.new }
+    ensures write_faults { D.write_faults devices.old ≤ D.write_faults devices.new }
+    ensures sizes { D.sizes devices.new ≡ D.sizes devices.old }
+    ensures moment { (D.history devices.old).moment ≤ (D.history devices.new).moment }
+{
+    if loaded.session >= LAST_SESSION {
+        devices.count();
+        return Err(MountFault::NoSession);
+    }
+    write_session(alloc, devices, &loaded.layout, loaded.session + 1)?;
+    Ok(())
+}

@@ -1,0 +1,246 @@
+use crate::runs::{Ran, run};
+use crate::volumes::{copied, one_device, put_session, put_version, session_on, two_devices, wipe};
+use dev_model::{MemDevices, Pick};
+use std::alloc::{AllocError, Global};
+use std::test::Fail;
+
+// Whether a run over the devices is refused with this line, and nothing is written: a run over what is left of them, where
+// that is what was flushed, is refused as well, after as many calls.
+fn is_refused(alloc: Global, devices: MemDevices, line: &[u8]) -> Result<bool, AllocError> {
+    let first = run(alloc, b"mkfile main:/a\nsync\n", devices)?;
+    if !has_refused(&first, line) {
+        return Ok(false);
+    }
+    let calls = first.calls;
+    let second = run(alloc, b"", first.devices.restart(Pick::NoneWritten)?)?;
+    Ok(has_refused(&second, line) && second.calls == calls)
+}
+
+fn has_refused(ran: &Ran, line: &[u8]) -> bool {
+    ran.status == 3
+        && ran.sink.held() == line
+        && ran.trace.len() == 0
+        && ran.acks.is_empty()
+        && ran.devices.shortages() == 0
+}
+
+// The same, of devices that could be made.
+fn is_copy_refused(
+    alloc: Global,
+    devices: Option<MemDevices>,
+    line: &[u8],
+) -> Result<bool, AllocError> {
+    match devices {
+        Some(devices) => is_refused(alloc, devices.restart(Pick::AllWritten)?, line),
+        None => Ok(false),
+    }
+}
+
+const NO_SUPERBLOCK: &[u8] = b"mount refused 1\n";
+
+const VERSION: &[u8] = b"mount refused 2\n";
+
+const MIXED: &[u8] = b"mount refused 3\n";
+
+const BAD_LAYOUT: &[u8] = b"mount refused 4\n";
+
+const NO_SESSION: &[u8] = b"mount refused 5\n";
+
+#[test]
+fn blank_devices_are_not_mounted(rt: HostRuntime) -> Result<(), Fail> {
+    let alloc = rt.alloc();
+    for size in [0, 1, 8, 9, 1024] {
+        let one = MemDevices::blank(alloc, &[size])?;
+        assert!(rt; is_refused(alloc, one, NO_SUPERBLOCK)?, "at {size}");
+        let two = MemDevices::blank(alloc, &[size, 1024])?;
+        assert!(rt; is_refused(alloc, two, NO_SUPERBLOCK)?, "at {size}");
+    }
+    let eight = MemDevices::blank(alloc, &[16, 16, 16, 16, 16, 16, 16, 16])?;
+    assert!(rt; is_refused(alloc, eight, NO_SUPERBLOCK)?);
+    Ok(())
+}
+
+// One copy of a superblock is enough. A device without a copy is not, whichever it is.
+#[test]
+fn a_device_without_superblocks_is_not_mounted(rt: HostRuntime) -> Result<(), Fail> {
+    let alloc = rt.alloc();
+    for dev in [0, 1] {
+        for block in [0, 8] {
+            let mut devices = two_devices(alloc)?;
+            assert!(rt; wipe(alloc, &mut devices, dev, block, block)?);
+            let ran = run(alloc, b"", devices.restart(Pick::AllWritten)?)?;
+            assert_eq!(rt; ran.sink.held(), b"end commits 0 synced 0\n".as_slice());
+            assert_eq!(rt; ran.status, 0);
+        }
+        let mut devices = two_devices(alloc)?;
+        assert!(rt; wipe(alloc, &mut devices, dev, 0, 0)?);
+        assert!(rt; wipe(alloc, &mut devices, dev, 8, 8)?);
+        let left = devices.restart(Pick::AllWritten)?;
+        assert!(rt; is_refused(alloc, left, NO_SUPERBLOCK)?, "at {dev}");
+    }
+    Ok(())
+}
+
+// Of the two copies the first counts, where both have the same sequence. So version 9 in the second alone isn't seen.
+#[test]
+fn another_version_is_not_mounted(rt: HostRuntime) -> Result<(), Fail> {
+    let alloc = rt.alloc();
+    for dev in [0, 1] {
+        let mut devices = two_devices(alloc)?;
+        assert!(rt; put_version(alloc, &mut devices, dev, 0, 9)?);
+        assert!(rt; put_version(alloc, &mut devices, dev, 8, 9)?);
+        let left = devices.restart(Pick::AllWritten)?;
+        assert!(rt; is_refused(alloc, left, VERSION)?, "at {dev}");
+    }
+    let mut second = two_devices(alloc)?;
+    assert!(rt; put_version(alloc, &mut second, 1, 8, 9)?);
+    let ran = run(alloc, b"", second.restart(Pick::AllWritten)?)?;
+    assert_eq!(rt; ran.status, 0);
+    Ok(())
+}
+
+#[test]
+fn devices_in_another_order_are_not_mounted(rt: HostRuntime) -> Result<(), Fail> {
+    let alloc = rt.alloc();
+    let blank = MemDevices::blank(alloc, &[1024, 1024])?;
+    let same = copied(alloc, two_devices(alloc)?, &[0, 1], blank)?;
+    match same {
+        Some(devices) => {
+            let ran = run(alloc, b"", devices)?;
+            assert_eq!(rt; ran.status, 0);
+        }
+        None => assert!(rt; false),
+    }
+    for order in [[1, 0], [0, 0], [1, 1]] {
+        let blank = MemDevices::blank(alloc, &[1024, 1024])?;
+        let devices = copied(alloc, two_devices(alloc)?, &order, blank)?;
+        assert!(rt; is_copy_refused(alloc, devices, MIXED)?, "at {order:?}");
+    }
+    Ok(())
+}
+
+// One device of two, in its own place or the other's, and two where the second is the device of a volume of its own.
+#[test]
+fn some_of_the_devices_are_not_mounted(rt: HostRuntime) -> Result<(), Fail> {
+    let alloc = rt.alloc();
+    for dev in [0, 1] {
+        let blank = MemDevices::blank(alloc, &[1024])?;
+        let devices = copied(alloc, two_devices(alloc)?, &[dev], blank)?;
+        assert!(rt; is_copy_refused(alloc, devices, MIXED)?, "at {dev}");
+    }
+    let blank = MemDevices::blank(alloc, &[1024, 1024])?;
+    let devices = copied(alloc, one_device(alloc)?, &[0, 0], blank)?;
+    assert!(rt; is_copy_refused(alloc, devices, MIXED)?);
+    Ok(())
+}
+
+// A device may be longer than the volume takes of it, and not shorter.
+#[test]
+fn devices_that_were_cut_are_not_mounted(rt: HostRuntime) -> Result<(), Fail> {
+    let alloc = rt.alloc();
+    for size in [17, 1008, 1023] {
+        let blank = MemDevices::blank(alloc, &[size])?;
+        let devices = copied(alloc, one_device(alloc)?, &[0], blank)?;
+        assert!(rt; is_copy_refused(alloc, devices, BAD_LAYOUT)?, "at {size}");
+        let blank = MemDevices::blank(alloc, &[1024, size])?;
+        let devices = copied(alloc, two_devices(alloc)?, &[0, 1], blank)?;
+        assert!(rt; is_copy_refused(alloc, devices, BAD_LAYOUT)?, "at {size}");
+    }
+    for size in [1024, 1025] {
+        let blank = MemDevices::blank(alloc, &[size])?;
+        match copied(alloc, one_device(alloc)?, &[0], blank)? {
+            Some(devices) => {
+                let ran = run(alloc, b"", devices)?;
+                assert_eq!(rt; ran.status, 0, "at {size}");
+            }
+            None => assert!(rt; false, "at {size}"),
+        }
+    }
+    Ok(())
+}
+
+// A session is enough on one of the metadata devices.
+#[test]
+fn devices_without_a_session_are_not_mounted(rt: HostRuntime) -> Result<(), Fail> {
+    let alloc = rt.alloc();
+    let mut one = one_device(alloc)?;
+    assert!(rt; wipe(alloc, &mut one, 0, 4, 5)?);
+    assert!(rt; is_refused(alloc, one.restart(Pick::AllWritten)?, NO_SESSION)?);
+    let mut two = two_devices(alloc)?;
+    assert!(rt; wipe(alloc, &mut two, 0, 4, 5)?);
+    let ran = run(alloc, b"", two.restart(Pick::AllWritten)?)?;
+    assert_eq!(rt; ran.status, 0);
+    let mut two = two_devices(alloc)?;
+    assert!(rt; wipe(alloc, &mut two, 0, 4, 5)?);
+    assert!(rt; wipe(alloc, &mut two, 1, 4, 5)?);
+    assert!(rt; is_refused(alloc, two.restart(Pick::AllWritten)?, NO_SESSION)?);
+    Ok(())
+}
+
+// Whether the greatest session that the device names is this one: in block 4 or 5, by turns, with the one before in the
+// other.
+fn names(
+    alloc: Global,
+    devices: &mut MemDevices,
+    dev: u8,
+    session: u64,
+) -> Result<bool, AllocError> {
+    let even = session_on(alloc, devices, dev, 4)?;
+    let odd = session_on(alloc, devices, dev, 5)?;
+    let (newest, before) = if session % 2 == 0 {
+        (even, odd)
+    } else {
+        (odd, even)
+    };
+    Ok(newest == Some(session) && before == Some(session.saturating_sub(1)))
+}
+
+// Formatting leaves session 1, and each run seals the next one.
+#[test]
+fn each_run_raises_the_session(rt: HostRuntime) -> Result<(), Fail> {
+    let alloc = rt.alloc();
+    let mut devices = two_devices(alloc)?;
+    for session in 2..6u64 {
+        let ran = run(alloc, b"mkfile main:/a\n", devices)?;
+        assert_eq!(rt; ran.status, 0);
+        devices = ran.devices.restart(Pick::NoneWritten)?;
+        assert!(rt; names(alloc, &mut devices, 0, session)?, "at {session}");
+        assert!(rt; names(alloc, &mut devices, 1, session)?, "at {session}");
+    }
+    Ok(())
+}
+
+// A run that ends early raises no session where it is refused before it mounts.
+#[test]
+fn a_refused_run_raises_no_session(rt: HostRuntime) -> Result<(), Fail> {
+    let alloc = rt.alloc();
+    let ran = run(alloc, b"frob main:/a\n", one_device(alloc)?)?;
+    assert_eq!(rt; ran.status, 2);
+    let mut devices = ran.devices;
+    assert_eq!(rt; session_on(alloc, &mut devices, 0, 4)?, None);
+    assert_eq!(rt; session_on(alloc, &mut devices, 0, 5)?, Some(1));
+    Ok(())
+}
+
+// Behind session 4,294,967,295 there is none.
+#[test]
+fn the_last_session_is_spent(rt: HostRuntime) -> Result<(), Fail> {
+    let alloc = rt.alloc();
+    for dev in [0, 1] {
+        let mut devices = two_devices(alloc)?;
+        assert!(rt; put_session(alloc, &mut devices, dev, 4_294_967_295)?);
+        let left = devices.restart(Pick::AllWritten)?;
+        assert!(rt; is_refused(alloc, left, NO_SESSION)?, "at {dev}");
+    }
+    let mut devices = one_device(alloc)?;
+    assert!(rt; put_session(alloc, &mut devices, 0, 4_294_967_293)?);
+    let ran = run(alloc, b"", devices.restart(Pick::AllWritten)?)?;
+    assert_eq!(rt; ran.status, 0);
+    let mut devices = ran.devices;
+    assert_eq!(rt; session_on(alloc, &mut devices, 0, 4)?, Some(4_294_967_294));
+    let ran = run(alloc, b"", devices)?;
+    assert_eq!(rt; ran.status, 0);
+    let left = ran.devices.restart(Pick::NoneWritten)?;
+    assert!(rt; is_refused(alloc, left, NO_SESSION)?);
+    Ok(())
+}

@@ -1,0 +1,144 @@
+use crate::runs::{Ran, run_over};
+use crate::volumes::ID_TEXT;
+use dev_model::{Devices, MemDevices};
+use std::alloc::{AllocError, Global};
+use std::test::Fail;
+use text_io::{MemSink, MemSource};
+
+// Whether the words are refused: nothing is touched, neither the source, which would fail, nor a device, of which each call
+// would fail. So the moment is the one of the beginning.
+fn are_refused(alloc: Global, words: &[&str], mut devices: MemDevices) -> Result<bool, AllocError> {
+    devices.stop_after(0);
+    let moment = devices.moment();
+    let mut source = MemSource::new(alloc, b"mkfile main:/a\n", &[0])?;
+    let sink = MemSink::new(alloc, &[])?;
+    let ran = run_over(alloc, words, &mut source, sink, devices)?;
+    Ok(has_refused(&ran) && source.calls() == 0 && ran.devices.moment() == moment)
+}
+
+fn has_refused(ran: &Ran) -> bool {
+    ran.status == 1
+        && ran.sink.held() == b"error 1 usage\n".as_slice()
+        && ran.trace.len() == 0
+        && ran.acks.is_empty()
+        && ran.calls == 0
+}
+
+// The words of a line, one blank between two. A word that is `.` stands for the id.
+fn words_of<'a>(alloc: Global, line: &'a str) -> Result<Vec<&'a str>, AllocError> {
+    let mut words = Vec::new(alloc);
+    for word in line.split(' ') {
+        words.push(if word == "." { ID_TEXT } else { word })?;
+    }
+    Ok(words)
+}
+
+#[test]
+fn other_words_are_refused(rt: HostRuntime) -> Result<(), Fail> {
+    let alloc = rt.alloc();
+    let cases: [&[&str]; 12] = [
+        &[],
+        &[""],
+        &["Run"],
+        &["run "],
+        &["runs"],
+        &["run", "run"],
+        &["run", "x"],
+        &["x", "run"],
+        &["run", ""],
+        &["run", "--blocks", "1024"],
+        &["mount"],
+        &["format ", "--id", ID_TEXT, "--blocks", "1024"],
+    ];
+    for words in cases {
+        let blank = MemDevices::blank(alloc, &[16])?;
+        assert!(rt; are_refused(alloc, words, blank)?, "at {words:?}");
+    }
+    Ok(())
+}
+
+// Without what it needs, with an option twice, an unknown one, or one that is shortened, with a number or an id that is none.
+#[test]
+fn other_options_are_refused(rt: HostRuntime) -> Result<(), Fail> {
+    let alloc = rt.alloc();
+    for line in [
+        "format",
+        "format --id .",
+        "format --blocks 1024",
+        "format --id . --id . --blocks 1024",
+        "format --id . --blocks 1024 --blocks 1024",
+        "format --id . --blocks 1024 --fast",
+        "format --id . --block 1024",
+        "format --id . --blocks",
+        "format --id . --blocks 1024 disk.img",
+        "format --id . --blocks 01024",
+        "format --id . --blocks +1024",
+        "format --id . --blocks 1024.0",
+        "format --id . --blocks 1K",
+        "format --id . --blocks 18446744073709551616",
+        "format --id 00000000-0000-4000-8000-00000000001 --blocks 1024",
+        "format --id x --blocks 1024",
+    ] {
+        let words = words_of(alloc, line)?;
+        let blank = MemDevices::blank(alloc, &[16])?;
+        assert!(rt; are_refused(alloc, &words, blank)?, "{line}");
+    }
+    Ok(())
+}
+
+// A device has 1,024 to 1,048,576 blocks, in whole buckets of 16, and a journal area 256 to 4,096 in whole buckets. Twice a
+// journal area and a bucket fit on a device. There is at least one replica, and no more than three or than devices. Numbers
+// that are too large for their fields are no smaller ones.
+#[test]
+fn numbers_out_of_their_ranges_are_refused(rt: HostRuntime) -> Result<(), Fail> {
+    let alloc = rt.alloc();
+    for line in [
+        "format --id . --blocks 0",
+        "format --id . --blocks 1008",
+        "format --id . --blocks 1023",
+        "format --id . --blocks 1025",
+        "format --id . --blocks 1048592",
+        "format --id . --blocks 4294968320",
+        "format --id . --blocks 1024 --journal 0",
+        "format --id . --blocks 1024 --journal 240",
+        "format --id . --blocks 1024 --journal 250",
+        "format --id . --blocks 1024 --journal 257",
+        "format --id . --blocks 1024 --journal 512",
+        "format --id . --blocks 16384 --journal 4112",
+        "format --id . --blocks 1024 --journal 4294967552",
+        "format --id . --blocks 1024 --meta-replicas 0",
+        "format --id . --blocks 1024 --data-replicas 0",
+        "format --id . --blocks 1024 --meta-replicas 2",
+        "format --id . --blocks 1024 --data-replicas 2",
+        "format --id . --blocks 1024 --meta-replicas 257",
+        "format --id . --blocks 1024 --data-replicas 257",
+    ] {
+        let words = words_of(alloc, line)?;
+        let blank = MemDevices::blank(alloc, &[16])?;
+        assert!(rt; are_refused(alloc, &words, blank)?, "{line}");
+    }
+    Ok(())
+}
+
+// Four replicas are too many for any number of devices, and three for two devices.
+#[test]
+fn more_replicas_than_may_be_are_refused(rt: HostRuntime) -> Result<(), Fail> {
+    let alloc = rt.alloc();
+    for line in [
+        "format --id . --blocks 1024 --meta-replicas 4",
+        "format --id . --blocks 1024 --data-replicas 4",
+    ] {
+        let words = words_of(alloc, line)?;
+        let four = MemDevices::blank(alloc, &[16, 16, 16, 16])?;
+        assert!(rt; are_refused(alloc, &words, four)?, "{line}");
+    }
+    for line in [
+        "format --id . --blocks 1024 --meta-replicas 3",
+        "format --id . --blocks 1024 --data-replicas 3",
+    ] {
+        let words = words_of(alloc, line)?;
+        let two = MemDevices::blank(alloc, &[16, 16])?;
+        assert!(rt; are_refused(alloc, &words, two)?, "{line}");
+    }
+    Ok(())
+}
