@@ -1,9 +1,10 @@
 -- What is read at a place, and what a stop leaves there, after a write or a flush; laws for whoever calls devices.
-use Rattle.std.proofs.Common.{◌≡◌, ◌≢◌, ℕ, zero, suc, ◌<◌, ◌≤◌, List, [], ◌∷◌, length, get_or, set, slice_get, Some, refl, ap, ◌∙◌, sym, arith, ⊎_elim, All}
-use Rattle.std.proofs.lemmas.Option.{slice_get_past}
+use Rattle.std.proofs.Common.{◌≡◌, ◌≢◌, ℕ, zero, suc, ◌<◌, ◌≤◌, List, [], ◌∷◌, length, map, get_or, set, slice_get, Option, None, Some, refl, subst, ap, ◌∙◌, sym, arith, ⊎_elim, All}
+use Rattle.std.proofs.lemmas.Option.{slice_get_past, slice_get-get_or}
+use Rattle.std.proofs.lemmas.List.{ext_get_or}
 use Rattle.std.proofs.lemmas.Bool.{cases_lt}
 use Rattle.dev_model.specs.Disk.{Disk, IsDisk, Image, MayLeave, MayLeaveImage, as_read, block_at, changed, written, flushed, at_rest, sizes_of}
-use Rattle.dev_model.specs.Stops.{IsAt}
+use Rattle.dev_model.specs.Stops.{IsAt, IsQuiet}
 use Rattle.dev_model.specs.LeftDisks.{slice_get-set_other, left_by_write, left_by_flush}
 
 -- A stop leaves this device as it is read.
@@ -44,6 +45,28 @@ rest_leaves blocks left may block = ⊎_elim
     (λ (within : block < length left). may.settled block within (λ has. omega (arith, has.1)))
     (λ (past : length left ≤ block). slice_get_past left block past ∙ sym (slice_get_past blocks block (omega (arith, past, may.no_shorter))))
     (cases_lt block (length left))
+
+abbrev the_block : Option (List ℕ) → List ℕ
+the_block None = []
+the_block (Some block) = block
+
+blocks_left_at_rest : (blocks left : List (List ℕ)) → MayLeave (at_rest blocks) left → left ≡ blocks
+blocks_left_at_rest blocks left may =
+    let as_many : length left ≡ length blocks = omega (arith, may.no_shorter, may.no_longer) in
+    ext_get_or [] left blocks as_many (λ i within.
+    let there : i < length blocks = omega (arith, within, as_many) in
+    ap the_block (sym (slice_get-get_or left i [] within) ∙ rest_leaves blocks left may i ∙ slice_get-get_or blocks i [] there))
+
+image_left_at_rest : (blocks image : Image) → MayLeaveImage (map at_rest blocks) image → image ≡ blocks
+image_left_at_rest [] [] may = refl
+image_left_at_rest [] (left ∷ image) may = absurd may
+image_left_at_rest (blocks ∷ more) [] may = absurd may
+image_left_at_rest (blocks ∷ more) (left ∷ image) may =
+    ap (λ (l : List (List ℕ)). l ∷ image) (blocks_left_at_rest blocks left may.0) ∙ ap (λ (ls : Image). blocks ∷ ls) (image_left_at_rest more image may.1)
+
+-- Disks at rest are quiet.
+pub rest_is_quiet : (disks : List Disk) → disks ≡ map at_rest (as_read disks) → IsQuiet disks
+rest_is_quiet disks rest image may = image_left_at_rest (as_read disks) image (subst (λ (ds : List Disk). MayLeaveImage ds image) rest may)
 
 -- A flush settles its device.
 pub settled_by_flush : (disks : List Disk) (dev : ℕ) → dev < length disks → IsSettled (changed dev flushed disks) dev

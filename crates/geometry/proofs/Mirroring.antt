@@ -1,10 +1,10 @@
 -- What flushes and mirrored writes leave.
-use Rattle.std.proofs.Common.{◌≡◌, ◌≢◌, ℕ, ◌+◌, ◌<◌, ◌≤◌, List, length, get_or, Some, refl, ◌∙◌, sym, subst, arith, ⊎_elim, All, Result, Ok, Err, MatchResult}
+use Rattle.std.proofs.Common.{◌≡◌, ℕ, ◌+◌, ◌<◌, ◌≤◌, List, length, get_or, Some, refl, ◌∙◌, sym, subst, arith, ⊎_elim, All, Result, Ok, Err}
 use Rattle.std.proofs.lemmas.Bool.{cases_lt}
 use Rattle.std.proofs.lemmas.List.{length-map}
 use Rattle.dev_model.specs.Disk.{Disk, Image, IsDisk, MayLeaveImage, as_read, block_at, changed, flushed, written, sizes_of}
-use Rattle.dev_model.specs.Devices.{History, Goes, Is, MayBeWritten, now}
-use Rattle.dev_model.specs.Stops.{LeavesOnly, MayLeaveBut, IsAt}
+use Rattle.dev_model.specs.Devices.{History, Goes, Is, now}
+use Rattle.dev_model.specs.Stops.{LeavesOnly, MayLeaveBut}
 use Rattle.dev_model.specs.StopLaws.{started, goes_on}
 use Rattle.dev_model.specs.LeftDisks.{left_by_flush}
 use Rattle.dev_model.specs.PlaceLaws.{IsSettled, reads_flushed, reads_written, reads_written_elsewhere, settled_by_flush, settled_over_flush}

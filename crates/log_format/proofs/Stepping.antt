@@ -7,9 +7,9 @@ use Rattle.vol_types.specs.declared.layout.Layout.{Layout}
 use Rattle.dev_model.specs.Disk.{Disk, Image, IsDisk, MayLeaveImage, as_read, block_at}
 use Rattle.dev_model.specs.Devices.{History, now}
 use Rattle.dev_model.specs.StopLaws.{as_read_may_be_left}
-use Rattle.dev_model.specs.Stops.{LeavesOnly}
+use Rattle.dev_model.specs.Stops.{IsQuiet, LeavesOnly}
 use Rattle.dev_model.specs.Reading.{StaysSo, stays_now}
-use Rattle.log_format.specs.Formatting.{IsQuiet, Step, ZeroSpares, held_behind, or_held, step_writes, steps_before}
+use Rattle.log_format.specs.Formatting.{Step, ZeroSpares, held_behind, or_held, step_writes, steps_before}
 use Rattle.log_format.specs.Steps.{AllSettled, Formats, IsOfSome, IsStep, LeavesBut, LeavesSteps, Reached}
 
 -- There are as many devices as disks.

@@ -1,8 +1,8 @@
 -- How devices are formatted: in five steps, each settled before the next begins, and what a stop in one of them leaves.
 use Rattle.std.specs.Prelude.{◌≡◌, ◌⊎◌, ℕ, ◌+◌, ◌-◌, ◌≤◌, Bool, true, false, ◌&&◌, ◌||◌, ◌==◌, not, nat_lt, nat_le, if◌then◌else◌, List, [], ◌∷◌, length, slice_index, Option, Some, None, Ok, IsErr}
-use Rattle.dev_model.specs.Disk.{Image, MayLeaveImage, as_read, at_rest, block_at, blocks_of, zeros}
-use Rattle.dev_model.specs.Disk as disks
+use Rattle.dev_model.specs.Disk.{Image, MayLeaveImage, as_read, block_at, blocks_of, zeros}
 use Rattle.dev_model.specs.Devices.{History, now}
+use Rattle.dev_model.specs.Stops.{IsQuiet}
 use Rattle.vol_types.specs.declared.layout.Layout.{Layout}
 use Rattle.sealed_block.specs.declared.heads.Head.{Head}
 use Rattle.sealed_block.specs.Opening.{opened}
@@ -110,10 +110,6 @@ pub record IsFormatImage (layout : Layout) (before image : Image) : Type 0 where
   pub step : Step
   pub of_step : IsOfStep layout before step image
   pub means : HasNoTornMatch layout before step image → MeansOldOrFresh layout before image
-
--- Quiet: nothing is pending, so a stop leaves each disk as it is read.
-abbrev pub IsQuiet : List disks.Disk → Type 0
-IsQuiet disks = (image : Image) → MayLeaveImage disks image → image ≡ as_read disks
 
 -- A stop at each moment of formatting quiet devices leaves only such images.
 abbrev pub FormatSurvives : Layout → History → History → Type 0

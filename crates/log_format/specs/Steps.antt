@@ -5,9 +5,9 @@ use Rattle.std.specs.Option.{IsSome}
 use Rattle.vol_types.specs.declared.layout.Layout.{Layout}
 use Rattle.dev_model.specs.Disk.{Disk, Image, MayLeaveImage, as_read, block_at, blocks_of, zeros}
 use Rattle.dev_model.specs.Devices.{History, now}
-use Rattle.dev_model.specs.Stops.{LeavesOnly, MayLeaveBut}
+use Rattle.dev_model.specs.Stops.{IsQuiet, LeavesOnly, MayLeaveBut}
 use Rattle.geometry.specs.Superblocks.{copy_in, super_block, super_copy}
-use Rattle.log_format.specs.Formatting.{IsOfStep, IsQuiet, Step, held_before, if_so, or_held, other_block, spare_block}
+use Rattle.log_format.specs.Formatting.{IsOfStep, Step, held_before, if_so, or_held, other_block, spare_block}
 
 -- what is written on one device alone
 abbrev pub on_device : ℕ → (ℕ → Option (List ℕ)) → ℕ → ℕ → Option (List ℕ)

@@ -1,5 +1,5 @@
 -- What mounting answers is what the image means.
-use Rattle.std.proofs.Common.{◌≡◌, ℕ, Option, Some, None, Result, Ok, Err, refl, ap, ◌∙◌, sym, subst}
+use Rattle.std.proofs.Common.{◌≡◌, ℕ, Some, None, Result, Ok, Err, ap, ◌∙◌, sym, subst}
 use Rattle.std.specs.Result.{IsErrAnd}
 use Rattle.dev_model.specs.Disk.{Image}
 use Rattle.vol_types.specs.declared.layout.Layout.{Layout}

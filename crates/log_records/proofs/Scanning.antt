@@ -1,12 +1,11 @@
 -- A scan of the log: the devices at one place, and the places one after the other.
-use Rattle.std.proofs.Common.{◌≡◌, ℕ, zero, suc, ◌+◌, ◌-◌, ◌<◌, ◌≤◌, List, Option, Some, None, refl, ap, ◌∙◌, sym, subst, arith, ⊎_elim}
+use Rattle.std.proofs.Common.{◌≡◌, ℕ, zero, suc, ◌+◌, ◌-◌, ◌<◌, ◌≤◌, List, Option, Some, None, refl, ap, ◌∙◌, sym, subst, arith}
 use Rattle.std.specs.Option.{option_map_or}
-use Rattle.std.proofs.lemmas.Bool.{cases_lt}
-use Rattle.std.proofs.lemmas.Option.{same_Some, none-some as none_some}
+use Rattle.std.proofs.lemmas.Option.{none-some as none_some}
 use Rattle.vol_types.specs.Faults.{RoseBy}
 use Rattle.vol_types.specs.declared.layout.Layout.{Layout}
 use Rattle.dev_model.specs.Disk.{Disk, Image, as_read}
-use Rattle.plain_forest.specs.Forest.{Forest, fresh}
+use Rattle.plain_forest.specs.Forest.{Forest}
 use Rattle.log_records.specs.Records.{first_of_two, first_record, record_at, record_on}
 use Rattle.log_records.specs.Found.{AreMirrored, IsMirroredAt, forest_with_next, log_in, scanned_from}
 use Rattle.log_records.specs.declared.files.MadeFile.{MadeFile}

@@ -1,5 +1,5 @@
 -- The records of the log, and the blocks that hold them.
-use Rattle.std.specs.Prelude.{ℕ, ◌+◌, Bool, ◌&&◌, ◌==◌, nat_lt, if◌then◌else◌, List, ◌∷◌, ◌++◌, zero, suc, length, take, drop, Option, Some, None, option_and_then}
+use Rattle.std.specs.Prelude.{ℕ, ◌+◌, Bool, ◌&&◌, ◌==◌, if◌then◌else◌, List, ◌∷◌, ◌++◌, zero, suc, length, take, drop, Option, Some, None, option_and_then, option_map}
 use Rattle.std.specs.Int.{w64, to_le_bytes, from_le_bytes}
 use Rattle.std.specs.Str.{bytes_eq}
 use Rattle.sha2.specs.Sha256.{sha256}
@@ -34,6 +34,14 @@ log_block place = 16 + place
 -- the file whose record a device holds at a place of the log, if it holds one
 abbrev pub record_on : Layout → ℕ → Image → ℕ → Option MadeFile
 record_on layout place image dev = option_and_then (record_in layout.id place) (block_at image dev (log_block place))
+
+-- the session that sealed a block, if the block opens
+abbrev pub owner_of : List ℕ → Option ℕ
+owner_of block = option_map (λ head. head.owner) (opened block)
+
+-- the session that sealed the block of a device at a place of the log, if that opens
+abbrev pub owner_on : ℕ → Image → ℕ → Option ℕ
+owner_on place image dev = option_and_then owner_of (block_at image dev (log_block place))
 
 -- the first of two records, if it is there
 abbrev pub first_of_two : Option MadeFile → Option MadeFile → Option MadeFile

@@ -1,6 +1,6 @@
 ghost use Rattle.std.specs.Prelude.{◌≡◌, ◌<◌, ◌≤◌, true, Some, length, IfOk, OnOk};
 ghost use Rattle.sealed_block.specs.Blocks.{IsInRanges};
-ghost use Rattle.log_records.specs.Records.{is_log_head, record_in};
+ghost use Rattle.log_records.specs.Records.{is_log_head, owner_of, record_in};
 
 use crate::files::{MadeFile, read_payload};
 use sealed_block::{Head, JOURNAL_ENTRY, payload, seal, sealed_blocks_open, unseal};
@@ -55,7 +55,8 @@ pub fn seal_record(
 ) -> Result<(), AllocError>
     requires name { length file.now.name < 256 }
     requires room { length into.old ≡ 4096 }
-    ensures { OnOk result (record_in id.now place into.new ≡ Some file.now) }
+    ensures found { OnOk result (record_in id.now place into.new ≡ Some file.now) }
+    ensures owner { OnOk result (owner_of into.new ≡ Some session) }
 {
     let payload = file.payload(alloc)?;
     seal(

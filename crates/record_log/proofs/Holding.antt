@@ -7,7 +7,7 @@ use Rattle.std.proofs.lemmas.Bool.{cases_lt}
 use Rattle.std.proofs.lemmas.Bool.Decides.{nat_tests}
 use Rattle.std.proofs.lemmas.Option.{same_Some, none-some as none_some}
 use Rattle.vol_types.specs.declared.layout.Layout.{Layout}
-use Rattle.dev_model.specs.Disk.{Image}
+use Rattle.dev_model.specs.Disk.{Image, block_at}
 use Rattle.dev_model.specs.Stops.{SameBut}
 use Rattle.plain_forest.specs.Forest.{Forest}
 use Rattle.plain_forest.specs.Steps.{made_file, next_number, forest_after, or_before, reply_of, reply_or}
@@ -15,7 +15,7 @@ use Rattle.plain_forest.specs.History.{after_all}
 use Rattle.plain_forest.specs.declared.operation.Cause.{Cause}
 use Rattle.plain_forest.specs.declared.operation.Op.TheVariants.{Mkfile}
 use Rattle.plain_forest.specs.declared.operation.Reply.TheVariants.{Okay}
-use Rattle.log_records.specs.Records.{log_block, record_in, record_on}
+use Rattle.log_records.specs.Records.{log_block, owner_of, record_in}
 use Rattle.log_records.specs.Found.{commit_of, forest_with, forest_with_next, in_main, scanned_from}
 use Rattle.log_records.specs.declared.files.MadeFile.{MadeFile}
 use Rattle.record_log.specs.Durable.{HoldRecord, HoldsRecords, IsLogPlace, with_files}
@@ -84,17 +84,28 @@ slice_get-push (first ∷ files) file zero within = refl
 slice_get-push (first ∷ files) file (suc i) within = slice_get-push files file i (omega (arith, within))
 
 -- a file more, of which the image holds no record yet
-pub HoldsRecords-push : (layout : Layout) (place count : ℕ) (files : List MadeFile) (file : MadeFile) (image : Image) → count ≤ length files → HoldsRecords layout place count files image → HoldsRecords layout place count (files ++ file ∷ []) image
-HoldsRecords-push layout place count files file image most holds i lt dev within = holds i lt dev within ∙ sym (slice_get-push files file i (omega (arith, lt, most)))
+pub HoldsRecords-push : (layout : Layout) (session place count : ℕ) (files : List MadeFile) (file : MadeFile) (image : Image) → count ≤ length files → HoldsRecords layout session place count files image
+    → HoldsRecords layout session place count (files ++ file ∷ []) image
+HoldsRecords-push layout session place count files file image most holds i lt = record {
+  found = λ dev within. (holds i lt).found dev within ∙ sym (slice_get-push files file i (omega (arith, lt, most)));
+  owner = (holds i lt).owner;
+}
 
 -- anything in the next place behind them
-pub HoldsRecords-kept : (layout : Layout) (place count : ℕ) (files : List MadeFile) (before image : Image) → HoldsRecords layout place count files before → SameBut (IsLogPlace layout (place + count)) before image → HoldsRecords layout place count files image
-HoldsRecords-kept layout place count files before image holds same i lt dev within =
-    sym (ap (option_and_then (record_in layout.id (place + i))) (same dev (log_block (place + i)) (λ at. omega (arith, lt, at.1)))) ∙ holds i lt dev within
+pub HoldsRecords-kept : (layout : Layout) (session place count : ℕ) (files : List MadeFile) (before image : Image) → HoldsRecords layout session place count files before
+    → SameBut (IsLogPlace layout (place + count)) before image → HoldsRecords layout session place count files image
+HoldsRecords-kept layout session place count files before image holds same i lt = record {
+  found = λ dev within. sym (ap (option_and_then (record_in layout.id (place + i))) (here dev)) ∙ (holds i lt).found dev within;
+  owner = λ dev within. sym (ap (option_and_then owner_of) (here dev)) ∙ (holds i lt).owner dev within;
+}
+  where
+    here : (dev : ℕ) → block_at before dev (log_block (place + i)) ≡ block_at image dev (log_block (place + i))
+    here dev = same dev (log_block (place + i)) (λ at. omega (arith, lt, at.1))
 
 -- and that is the next record
-pub HoldsRecords-more : (layout : Layout) (place count : ℕ) (files : List MadeFile) (image : Image) → HoldsRecords layout place count files image → HoldRecord layout (place + count) (slice_get files count) image → HoldsRecords layout place (count + 1) files image
-HoldsRecords-more layout place count files image holds next i lt = ⊎_elim
+pub HoldsRecords-more : (layout : Layout) (session place count : ℕ) (files : List MadeFile) (image : Image) → HoldsRecords layout session place count files image
+    → HoldRecord layout session (place + count) (slice_get files count) image → HoldsRecords layout session place (count + 1) files image
+HoldsRecords-more layout session place count files image holds next i lt = ⊎_elim
     (λ (before : i < count). holds i before)
-    (λ (last : count ≤ i). subst (λ n. HoldRecord layout (place + n) (slice_get files n) image) (let e : count ≡ i = omega (arith, lt, last) in e) next)
+    (λ (last : count ≤ i). subst (λ n. HoldRecord layout session (place + n) (slice_get files n) image) (let e : count ≡ i = omega (arith, lt, last) in e) next)
     (cases_lt i count)

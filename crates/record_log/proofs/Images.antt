@@ -1,13 +1,13 @@
 -- What images mean: records on their mirrors, and what stays while the superblocks and the log's places do.
-use Rattle.std.proofs.Common.{◌≡◌, ◌≢◌, ℕ, zero, suc, ◌+◌, ◌*◌, ◌%◌, ◌<◌, ◌≤◌, List, [], ◌∷◌, length, map, get_or, drop, ◌-◌, slice_get, Option, Some, None, Result, Ok, Err, refl, ap, ◌∙◌, sym, subst, arith, ⊎_elim}
+use Rattle.std.proofs.Common.{◌≡◌, ℕ, zero, suc, ◌+◌, ◌<◌, ◌≤◌, List, [], ◌∷◌, length, map, get_or, ◌-◌, slice_get, Option, Some, None, Result, Ok, Err, refl, ap, ◌∙◌, sym, subst, arith, ⊎_elim}
 use Rattle.std.specs.Option.{IsSome}
 use Rattle.std.specs.Result.{is_ok}
 use Rattle.std.proofs.lemmas.Bool.{cases_lt, false≢true}
 use Rattle.std.proofs.lemmas.List.{length-map}
 use Rattle.std.proofs.lemmas.Option.{none-some as none_some, slice_get_past}
 use Rattle.vol_types.specs.declared.layout.Layout.{Layout}
-use Rattle.dev_model.specs.Disk.{Disk, Image, MayLeave, MayLeaveImage, as_read, at_rest, block_at, blocks_of}
-use Rattle.dev_model.specs.PlaceLaws.{rest_leaves}
+use Rattle.dev_model.specs.Disk.{Disk, Image, MayLeaveImage, as_read, block_at, blocks_of}
+use Rattle.dev_model.specs.Stops.{IsQuiet}
 use Rattle.geometry.specs.Superblocks.{layout_in}
 use Rattle.geometry.specs.Sessions.{session_in, session_place}
 use Rattle.geometry.specs.LayoutFacts.{has_places}
@@ -19,7 +19,6 @@ use Rattle.log_records.specs.Records.{first_of_two, first_record, record_on}
 use Rattle.log_records.specs.Found.{Mounted, log_in, mounted_as, mounted_by, mounted_if, mounts}
 use Rattle.log_records.specs.declared.fault.MountFault.{MountFault}
 use Rattle.log_records.specs.declared.files.MadeFile.{MadeFile}
-use Rattle.record_log.specs.Survives.{IsQuiet}
 
 -- The record at a place, from those on its mirrors.
 module _ (layout : Layout) (place : ℕ) where
@@ -106,19 +105,9 @@ is_mounted image volume is = by (layout_in image) refl is
     by (Err fault) same is = absurd (false≢true (ap is_ok is))
     by (Ok layout) same is = with_session layout (session_in layout image) same refl is
 
-abbrev first_disk : Disk → List Disk → Disk
-first_disk otherwise [] = otherwise
-first_disk otherwise (disk ∷ disks) = disk
-
 -- quiet disks are left as they are read
 pub quiet_place : (disks : List Disk) → IsQuiet disks → (image : Image) → MayLeaveImage disks image → (dev block : ℕ) → block_at image dev block ≡ block_at (as_read disks) dev block
-quiet_place [] quiet [] may dev block = refl
-quiet_place [] quiet (left ∷ image) may dev block = absurd may
-quiet_place (disk ∷ disks) quiet [] may dev block = absurd may
-quiet_place (disk ∷ disks) quiet (left ∷ image) may zero block =
-    let rests : disk ≡ at_rest disk.blocks = ap (first_disk disk) quiet in
-    rest_leaves disk.blocks left (subst (λ d. MayLeave d left) rests may.0) block
-quiet_place (disk ∷ disks) quiet (left ∷ image) may (suc dev) block = quiet_place disks (ap (λ (ds : List Disk). drop 1 ds) quiet) image may.1 dev block
+quiet_place disks quiet image may dev block = ap (λ i. block_at i dev block) (quiet image may)
 
 there_within : (blocks : List (List ℕ)) (place : ℕ) (block : List ℕ) → slice_get blocks place ≡ Some block → place < length blocks
 there_within blocks place block is = ⊎_elim (λ (within : place < length blocks). within) (λ (past : length blocks ≤ place). absurd (none_some block (sym (slice_get_past blocks place past) ∙ is))) (cases_lt place (length blocks))

@@ -1,5 +1,5 @@
 -- How a session stays sound.
-use Rattle.std.proofs.Common.{◌≡◌, ℕ, zero, suc, ◌+◌, ◌<◌, ◌≤◌, ◌^◌, Bool, true, false, cond, List, [], ◌∷◌, ◌++◌, length, take, refl, ap, ◌∙◌, sym, subst, arith, inl, inr, ⊎_elim, Option, Some, None, Result, Ok, Err}
+use Rattle.std.proofs.Common.{◌≡◌, ℕ, zero, suc, ◌+◌, ◌<◌, ◌≤◌, Bool, true, false, cond, List, [], ◌∷◌, ◌++◌, length, take, refl, ap, ◌∙◌, sym, subst, arith, inl, inr, ⊎_elim, Option, Some, None, Result, Ok, Err}
 use Rattle.std.specs.Prelude.{◌&&◌, ◌||◌, All, count_by, max, nat_le, slice_get}
 use Rattle.std.specs.List.{cons_option, filter_map}
 use Rattle.std.proofs.lemmas.Bool.{cases_lt, false≢true}
@@ -225,7 +225,7 @@ module _ (opening : Forest) (base places : ℕ) (files : List MadeFile) (trace :
 
 -- Images have the records of files, and one file more has no record yet.
 written_more : (layout : Layout) (session : ℕ) (start : List Disk) (base count : ℕ) (files : List MadeFile) (file : MadeFile) (image : Image) → count ≤ length files → HasWritten layout session start base count files image → HasWritten layout session start base count (files ++ file ∷ []) image
-written_more layout session start base count files file image most has = record { records = HoldsRecords-push layout base count files file image most has.records; others = has.others }
+written_more layout session start base count files file image most has = record { records = HoldsRecords-push layout session base count files file image most has.records; others = has.others }
 
 pub records_commit : (layout : Layout) (session : ℕ) (tells : Type 0) (start shown : Shown) (base durable : ℕ) (files : List MadeFile) (file : MadeFile) → KeepsRecords layout session tells start shown base durable files
     → KeepsRecords layout session tells start shown base durable (files ++ file ∷ [])

@@ -1,5 +1,5 @@
 -- What the images of a session mean: a prefix of its commits.
-use Rattle.std.proofs.Common.{◌≡◌, ◌≢◌, ℕ, zero, suc, ◌+◌, ◌-◌, ◌<◌, ◌≤◌, ◌%◌, List, [], ◌∷◌, length, take, map, slice_get, Option, Some, None, Ok, Bool, true, false, cond, refl, ap, ◌∙◌, sym, subst, arith, inl, inr, ◌⊎◌, ⊎_elim}
+use Rattle.std.proofs.Common.{◌≡◌, ◌≢◌, ℕ, zero, suc, ◌+◌, ◌-◌, ◌<◌, ◌≤◌, ◌%◌, List, [], ◌∷◌, length, take, map, slice_get, Option, Some, None, Ok, Bool, true, false, cond, refl, ap, ◌∙◌, sym, subst, arith, inl, ⊎_elim}
 use Rattle.std.specs.Prelude.{◌==◌, max, nat_le, option_and_then}
 use Rattle.std.specs.Result.{result_ok}
 use Rattle.std.proofs.lemmas.Bool.Decides.{nat_tests}
@@ -7,11 +7,10 @@ use Rattle.std.specs.Option.{option_map_or}
 use Rattle.std.proofs.lemmas.Bool.{cases_lt}
 use Rattle.std.proofs.lemmas.Option.{same_Some, none-some as none_some}
 use Rattle.std.proofs.lemmas.List.{length-map}
-use Rattle.vol_types.specs.declared.layout.Layout.{Layout}
 use Rattle.dev_model.specs.Disk.{Disk, Image, MayLeaveImage, as_read, block_at}
 use Rattle.dev_model.specs.Devices.{History as Moments, now}
 use Rattle.dev_model.specs.Reading.{StaysSo}
-use Rattle.dev_model.specs.Stops.{LeavesOnly, MayLeaveBut}
+use Rattle.dev_model.specs.Stops.{IsQuiet, LeavesOnly, MayLeaveBut}
 use Rattle.dev_model.specs.StopLaws.{left_itself}
 use Rattle.geometry.specs.Sessions.{IsSessionPlace, session_in, session_place}
 use Rattle.geometry.specs.SessionLaws.{place_is_low}
@@ -21,12 +20,12 @@ use Rattle.plain_forest.specs.History.{History, after_all, commits_of, commit_co
 use Rattle.plain_forest.specs.declared.operation.Op.{Op}
 use Rattle.plain_forest.specs.declared.operation.Op.TheVariants.{Mkfile, Ls, Sync}
 use Rattle.plain_forest.specs.declared.operation.Entry.{Entry}
-use Rattle.log_records.specs.Records.{first_of_two, first_record, log_block, record_at, record_in, record_on}
+use Rattle.log_records.specs.Records.{log_block, record_at, record_in, record_on}
 use Rattle.log_records.specs.Found.{AreMirrored, Mounted, commit_of, forest_with, forest_with_next, in_main, log_in, mounted_as, mounts, scanned_from}
 use Rattle.log_records.specs.declared.files.MadeFile.{MadeFile}
 use Rattle.record_log.specs.Durable.{HasWritten, IsOfSession, with_files}
 use Rattle.record_log.specs.Acknowledged.{acknowledged}
-use Rattle.record_log.specs.Survives.{HasNoChanceMatch, IsAlone, IsMadeBy, IsPrefix, IsQuiet, Survives}
+use Rattle.record_log.specs.Survives.{HasNoChanceMatch, IsAlone, IsMadeBy, IsPrefix, Survives}
 use Rattle.record_log.specs.Log.{IsSound, Log, Shown}
 use Rattle.record_log.specs.declared.acks.Ack.{Ack}
 use Rattle.record_log.proofs.Holding.{with_commit}
@@ -259,7 +258,7 @@ module _ (opening : Mounted) (session : ℕ) (disks : List Disk) (history : Hist
       subst (λ n. slice_get files n ≡ Some file) place (commit_at no_chance (base + i) on.0 file (omega arith) (omega (arith, lt)) on.1 on.2)
 
   mirrored : 1 ≤ opening.layout.meta → (i : ℕ) → i < written → record_at opening.layout image (base + i) ≡ slice_get files i
-  mirrored some i lt = first_all opening.layout (base + i) image opening.layout.meta (slice_get files i) some (λ dev within. has.records i lt dev within)
+  mirrored some i lt = first_all opening.layout (base + i) image opening.layout.meta (slice_get files i) some (λ dev within. (has.records i lt).found dev within)
 
   scan_image : HasNoChanceMatch opening (as_read disks) history image → 1 ≤ opening.layout.meta → Scanned (record_at opening.layout image) (opening.layout.journal - base) base written opening.forest files
   scan_image no_chance some = scanned (record_at opening.layout image) (opening.layout.journal - base) base written opening.forest after files made (only_commits no_chance) (mirrored some) most (let fits : written ≤ opening.layout.journal - base = omega (arith, room, most) in fits)

@@ -86,15 +86,15 @@ module _ (layout : Layout) (session : ℕ) (start : List Disk) (base : ℕ) (fil
   -- The next place of the log may hold anything.
   another_block : (count : ℕ) (before image : Image) → HasWritten layout session start base count files before → SameBut (IsLogPlace layout (base + count)) before image → HasWritten layout session start base count files image
   another_block count before image has same = record {
-    records = HoldsRecords-kept layout base count files before image has.records same;
+    records = HoldsRecords-kept layout session base count files before image has.records same;
     others = left_then (IsOfSession layout session base (base + count)) start before image has.others
         (same_but_more (IsLogPlace layout (base + count)) (IsOfSession layout session base (base + count)) before image (λ d b at. inr (at.0, omega (arith, at.1), omega (arith, at.1))) same);
   }
 
   -- and where it holds the next record, one more is written
-  next_record : (count : ℕ) (image : Image) → HasWritten layout session start base count files image → HoldRecord layout (base + count) (slice_get files count) image → HasWritten layout session start base (count + 1) files image
+  next_record : (count : ℕ) (image : Image) → HasWritten layout session start base count files image → HoldRecord layout session (base + count) (slice_get files count) image → HasWritten layout session start base (count + 1) files image
   next_record count image has is = record {
-    records = HoldsRecords-more layout base count files image has.records is;
+    records = HoldsRecords-more layout session base count files image has.records is;
     others = may_differ_more (IsOfSession layout session base (base + count)) (IsOfSession layout session base (base + (count + 1))) start image
         (λ d b at. ⊎_elim (λ own. inl own) (λ log. inr (log.0, log.1, omega (arith, log.2))) at) has.others;
   }
@@ -125,8 +125,8 @@ module _ (layout : Layout) (session : ℕ) (start : List Disk) (base : ℕ) (fil
     }
 
     -- where it is
-    pub writes_one : (file : MadeFile) → slice_get files count ≡ Some file → EachLeft (HoldRecord layout (base + count) (Some file)) new → Writes layout session start base first (count + 1) files old new
+    pub writes_one : (file : MadeFile) → slice_get files count ≡ Some file → EachLeft (HoldRecord layout session (base + count) (Some file)) new → Writes layout session start base first (count + 1) files old new
     writes_one file here is = record {
       between = between_to (count + 1) (omega arith);
-      held = λ image may. next_record count image (left_meanwhile image (left_in_the_end (IsLogPlace layout (base + count)) mid new image stops may)) (λ dev within. is image may dev within ∙ sym here);
+      held = λ image may. next_record count image (left_meanwhile image (left_in_the_end (IsLogPlace layout (base + count)) mid new image stops may)) (record { found = λ dev within. (is image may).found dev within ∙ sym here; owner = (is image may).owner });
     }

@@ -7,7 +7,7 @@ use Rattle.vol_types.specs.declared.layout.Layout.{Layout}
 use Rattle.geometry.specs.Mirrors.{EachLeft}
 use Rattle.geometry.specs.Sessions.{IsSessionPlace, session_at, session_place}
 use Rattle.plain_forest.specs.Forest.{Forest}
-use Rattle.log_records.specs.Records.{log_block, record_on}
+use Rattle.log_records.specs.Records.{log_block, owner_on, record_on}
 use Rattle.log_records.specs.Found.{forest_with}
 use Rattle.log_records.specs.declared.files.MadeFile.{MadeFile}
 
@@ -20,13 +20,15 @@ abbrev pub with_files : List MadeFile → Forest → Option Forest
 with_files [] forest = Some forest
 with_files (file ∷ files) forest = option_and_then (with_files files) (forest_with file forest)
 
--- Each metadata device of the image holds the record of a file at a place of the log.
-abbrev pub HoldRecord : Layout → ℕ → Option MadeFile → Image → Type 0
-HoldRecord layout place file image = (dev : ℕ) → dev < layout.meta → record_on layout place image dev ≡ file
+-- Each metadata device of the image holds the record of a file at a place of the log, sealed by this session.
+pub record HoldRecord (layout : Layout) (session place : ℕ) (file : Option MadeFile) (image : Image) : Type 0 where
+  pub found : (dev : ℕ) → dev < layout.meta → record_on layout place image dev ≡ file
+  pub owner : (dev : ℕ) → dev < layout.meta → owner_on place image dev ≡ Some session
 
--- From a place of the log on each metadata device of the image holds the records of the first so many files.
-abbrev pub HoldsRecords : Layout → ℕ → ℕ → List MadeFile → Image → Type 0
-HoldsRecords layout place count files image = (i : ℕ) → i < count → HoldRecord layout (place + i) (slice_get files i) image
+-- From a place of the log on each metadata device of the image holds the records of the first so many files, sealed by this
+-- session.
+abbrev pub HoldsRecords : Layout → ℕ → ℕ → ℕ → List MadeFile → Image → Type 0
+HoldsRecords layout session place count files image = (i : ℕ) → i < count → HoldRecord layout session (place + i) (slice_get files i) image
 
 -- this place of the log, on a metadata device
 abbrev pub IsLogPlace : Layout → ℕ → ℕ → ℕ → Type 0
@@ -44,11 +46,11 @@ IsFrom layout place dev block = (dev < layout.meta) × (log_block place ≤ bloc
 abbrev pub IsOfSession : Layout → ℕ → ℕ → ℕ → ℕ → ℕ → Type 0
 IsOfSession layout session first last dev block = IsSessionPlace layout session dev block ⊎ IsFromTo layout first last dev block
 
--- The image is one of a session that has written so many of its files' records, from its base on. Every mirror holds them, and
--- it differs only there, in the next place of the log and in the session's blocks from what a stop might have left when the
+-- The image is one of a session that has written so many of its files' records, from its base on. Every mirror holds them,
+-- sealed by the session, and it differs only there, in the next place of the log and in the session's blocks from what a stop might have left when the
 -- run began.
 pub record HasWritten (layout : Layout) (session : ℕ) (start : List Disk) (base count : ℕ) (files : List MadeFile) (image : Image) : Type 0 where
-  pub records : HoldsRecords layout base count files image
+  pub records : HoldsRecords layout session base count files image
   pub others : MayLeaveBut (IsOfSession layout session base (base + count)) start image
 
 -- Records are written one after the other, from the first on and up to the last: each image that a stop leaves meanwhile

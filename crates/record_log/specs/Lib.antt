@@ -1,3 +1,4 @@
+pub mod Beginning
 pub mod Durable
 pub mod Exact
 pub mod Acknowledged

@@ -1,5 +1,5 @@
 -- A session over the log, what its type keeps, and what its calls answer.
-use Rattle.std.specs.Prelude.{◌≡◌, ◌⊎◌, ℕ, suc, ◌+◌, ◌^◌, ◌<◌, ◌≤◌, Bool, true, false, List, [], ◌∷◌, ◌++◌, length, map, count_by, All, Option, Some, None}
+use Rattle.std.specs.Prelude.{◌≡◌, ◌⊎◌, ℕ, suc, ◌+◌, ◌<◌, ◌≤◌, Bool, true, false, List, [], ◌∷◌, ◌++◌, length, map, count_by, All, Option, Some, None}
 use Rattle.vol_types.specs.Faults.{RoseBy}
 use Rattle.vol_types.specs.declared.layout.Layout.{Layout}
 use Rattle.dev_model.specs.Disk.{Disk, Image, as_read}
@@ -15,7 +15,7 @@ use Rattle.plain_forest.specs.declared.operation.Op.{Op}
 use Rattle.plain_forest.specs.declared.operation.Op.TheVariants.{Mkfile, Ls, Sync}
 use Rattle.plain_forest.specs.declared.operation.Reply.{Reply}
 use Rattle.plain_forest.specs.declared.operation.Reply.TheVariants.{Synced, DeviceFault, Halted}
-use Rattle.log_records.specs.Records.{record_on}
+use Rattle.log_records.specs.Records.{owner_on, record_on}
 use Rattle.log_records.specs.Found.{commit_of, in_main, scanned_from}
 use Rattle.log_records.specs.declared.files.MadeFile.{MadeFile}
 use Rattle.record_log.specs.Durable.{HasWritten, IsFrom, with_files}
@@ -113,11 +113,12 @@ pub record IsSound {D : Type 0} (opening : Forest) (start : Shown) (tells : Type
   pub acks : KeepsAcks log.layout log.session tells start.moments shown.moments log.base log.durable log.files log.trace log.acks
 
 -- The image holds a session's durable commits, on every metadata device: behind the records that stood when it began, as many
--- as it has written make of the opening forest the one after these commits.
+-- as it has written make of the opening forest the one after these commits, and the session has sealed each of them.
 abbrev pub HoldsDurable : {D : Type 0} → Forest → Log D → Image → Type 0
 HoldsDurable opening log image =
     (dev : ℕ) → dev < log.layout.meta
-    → scanned_from (λ place. record_on log.layout place image dev) log.durable log.base opening ≡ (log.base + log.durable, after_commits opening log.trace log.durable)
+    → (scanned_from (λ place. record_on log.layout place image dev) log.durable log.base opening ≡ (log.base + log.durable, after_commits opening log.trace log.durable))
+    × ((i : ℕ) → i < log.durable → owner_on (log.base + i) image dev ≡ Some log.session)
 
 -- From one state of a session to the next a stop at each moment leaves what it might have left before, but maybe behind
 -- the records that were durable.

@@ -1,7 +1,8 @@
 -- What a stop leaves of a session, and what it means.
-use Rattle.std.specs.Prelude.{◌≡◌, ◌⊎◌, ℕ, ◌+◌, ◌<◌, ◌≤◌, List, map, slice_get, Some, None, Ok}
-use Rattle.dev_model.specs.Disk.{Disk, Image, MayLeaveImage, as_read, at_rest}
+use Rattle.std.specs.Prelude.{◌≡◌, ◌⊎◌, ℕ, ◌+◌, ◌<◌, ◌≤◌, List, slice_get, Some, None, Ok}
+use Rattle.dev_model.specs.Disk.{Image, MayLeaveImage, as_read}
 use Rattle.dev_model.specs.Devices.{History as Moments, now}
+use Rattle.dev_model.specs.Stops.{IsQuiet}
 use Rattle.vol_types.specs.declared.layout.Layout.{Layout}
 use Rattle.plain_forest.specs.Forest.{Forest}
 use Rattle.plain_forest.specs.Steps.{next_number}
@@ -11,10 +12,6 @@ use Rattle.log_records.specs.Found.{AreMirrored, Mounted, commit_of, mounted_as,
 use Rattle.log_records.specs.declared.files.MadeFile.{MadeFile}
 use Rattle.record_log.specs.Acknowledged.{acknowledged}
 use Rattle.record_log.specs.declared.acks.Ack.{Ack}
-
--- Quiet: nothing is pending, so a stop leaves each disk as it is read.
-abbrev pub IsQuiet : List Disk → Type 0
-IsQuiet disks = disks ≡ map at_rest (as_read disks)
 
 -- Alone: nobody else has written the devices. So no block of the journal area behind the log holds a record of its place, and
 -- where two mirrors hold a record they hold the same.

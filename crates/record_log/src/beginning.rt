@@ -8,27 +8,52 @@ ghost use Rattle.geometry.specs.Sessions.{IsSessionPlace};
 ghost use Rattle.record_log.specs.Durable.{NamesSession};
 
 use dev_model::Devices;
-use geometry::write_session;
-use log_records::{Loaded, MountFault};
+use geometry::{DiskFault, write_session};
+use log_records::Loaded;
 use std::alloc::Global;
 
 /// The greatest number of a session. Behind it none is left.
 const LAST_SESSION: u64 = 4_294_967_295;
 
+/// Why no session was begun.
+#[derive(Clone, Copy, Debug, PartialEq, Eq)]
+pub enum BeginFault {
+    /// The volume has had its last session: no number is left.
+    Spent,
+    /// A call to this device failed.
+    DeviceFault(u8),
+    /// Memory was wanting.
+    NoMemory,
+}
+
+impl From<DiskFault> for BeginFault {
+    ghost use Rattle.std.specs.Prelude.{◌≡◌};
+    ghost use Rattle.record_log.specs.Beginning.{begin_fault};
+
+    ghost from_gives = { λ fault e. e ≡ begin_fault fault };
+
+    fn from(fault: DiskFault) -> Self {
+        match fault {
+            DiskFault::DeviceFault(dev) => BeginFault::DeviceFault(dev),
+            DiskFault::NoMemory => BeginFault::NoMemory,
+        }
+    }
+}
+
 /// Takes the next session's number for a volume that was loaded: seals it on every metadata device, before any other write.
-/// Where no number is left it answers `NoSession`, and nothing is written. It costs a write and a flush of every metadata
+/// Where no number is left it answers `Spent`, and nothing is written. It costs a write and a flush of every metadata
 /// device.
 pub fn begin_session<D: Devices>(
     alloc: Global,
     devices: &mut D,
     loaded: &Loaded,
-) -> Result<(), MountFault>
+) -> Result<(), BeginFault>
     requires { is_layout_of (D.sizes devices.old) loaded.now.layout ≡ true }
-    ensures spent { (result ≡ Err MountFault.NoSession) ↔ (4294967295 ≤ loaded.now.session) }
-    ensures nothing { result ≡ Err MountFault.NoSession → devices.new ≡ devices.old }
+    ensures spent { (result ≡ Err BeginFault.Spent) ↔ (4294967295 ≤ loaded.now.session) }
+    ensures nothing { result ≡ Err BeginFault.Spent → devices.new ≡ devices.old }
     ensures numbered { D.tells → OnOk result (EachLeft (NamesSession loaded.now.layout (loaded.now.session + 1)) (D.history devices.new)) }
     ensures stops { D.tells → LeavesOnly (λ _ image. MayLeaveBut (IsSessionPlace loaded.now.layout (loaded.now.session + 1)) (now (D.history devices.old)) image) (D.history devices.old) (D.history devices.new) }
-    ensures cause { (dev : ℕ) → result ≡ Err (MountFault.DeviceFault dev) → (dev < length (D.sizes devices.old)) × RoseBy 1 (D.faults devices.old) (D.faults devices.new) }
+    ensures cause { (dev : ℕ) → result ≡ Err (BeginFault.DeviceFault dev) → (dev < length (D.sizes devices.old)) × RoseBy 1 (D.faults devices.old) (D.faults devices.new) }
     ensures faults { D.faults devices.old ≤ D.faults devices.new }
     ensures write_faults { D.write_faults devices.old ≤ D.write_faults devices.new }
     ensures sizes { D.sizes devices.new ≡ D.sizes devices.old }
@@ -36,7 +61,7 @@ pub fn begin_session<D: Devices>(
 {
     if loaded.session >= LAST_SESSION {
         devices.count();
-        return Err(MountFault::NoSession);
+        return Err(BeginFault::Spent);
     }
     write_session(alloc, devices, &loaded.layout, loaded.session + 1)?;
     Ok(())

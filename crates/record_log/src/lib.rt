@@ -15,7 +15,7 @@ mod shorts;
 mod writing;
 
 pub use acks::{Ack, Acks};
-pub use beginning::begin_session;
+pub use beginning::{BeginFault, begin_session};
 pub use halt::Halt;
 pub use laws::{beginning_is_survived, reading_is_survived};
 pub use log::{Finished, RecordLog};

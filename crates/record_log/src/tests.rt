@@ -5,10 +5,10 @@ ghost use Rattle.geometry.specs.Layouts.{is_layout_of};
 ghost use Rattle.geometry.specs.Sessions.{session_in};
 ghost use Rattle.record_log.specs.Log.{IsFlat};
 
-use crate::{Finished, Opening, RecordLog, begin_session};
+use crate::{BeginFault, Finished, Opening, RecordLog, begin_session};
 use dev_model::{Devices, MemDevices, Pick};
 use geometry::{is_layout, read_session, session_bytes, write_super};
-use log_records::{Loaded, MountFault, load, make_file_op};
+use log_records::{Loaded, load, make_file_op};
 use plain_forest::{Cause, Op, Path, Reply, Trace};
 use std::alloc::Global;
 use std::marker::Brand;
@@ -183,7 +183,7 @@ fn sessions_end(rt: HostRuntime) -> Result<(), Fail> {
     let loaded = load(alloc, &mut devices)?;
     assert!(rt; loaded.session == 4_294_967_295);
     let before = devices.moment();
-    assert!(rt; begin_session(alloc, &mut devices, &loaded) == Err(MountFault::NoSession));
+    assert!(rt; begin_session(alloc, &mut devices, &loaded) == Err(BeginFault::Spent));
     assert!(rt; devices.moment() == before);
     Ok(())
 }

@@ -31,7 +31,7 @@ pub fn write_record<D: Devices>(
     ensures write_faults { D.write_faults devices.old ≤ D.write_faults devices.new }
     ensures sizes { D.sizes devices.new ≡ D.sizes devices.old }
     ensures moment { (D.history devices.old).moment ≤ (D.history devices.new).moment }
-    ensures held { D.tells → OnOk result (EachLeft (HoldRecord layout.now place (Some file.now)) (D.history devices.new)) }
+    ensures held { D.tells → OnOk result (EachLeft (HoldRecord layout.now session place (Some file.now)) (D.history devices.new)) }
     ensures stops { D.tells → LeavesOnly (λ _ image. MayLeaveBut (IsLogPlace layout.now place) (now (D.history devices.old)) image) (D.history devices.old) (D.history devices.new) }
 {
     let mut block = vec![in alloc; 0; 4096]?;
@@ -67,7 +67,7 @@ pub fn write_files<D: Devices>(
 
     // What a stop leaves meanwhile: at first what the session had written by then, whatever it started with.
     ensures kept { D.tells → LeavesOnly (λ _ image. MayLeaveBut (IsFrom layout.now (base + durable.old)) (now (D.history devices.old)) image) (D.history devices.old) (D.history devices.new) }
-    ensures written { D.tells → (number : ℕ) (start : List Disk) → EachLeft (HasWritten layout.now number start base durable.old files.now) (D.history devices.old) → Writes layout.now number start base durable.old durable.new files.now (D.history devices.old) (D.history devices.new) }
+    ensures written { D.tells → (start : List Disk) → EachLeft (HasWritten layout.now session start base durable.old files.now) (D.history devices.old) → Writes layout.now session start base durable.old durable.new files.now (D.history devices.old) (D.history devices.new) }
 {
     while *durable < files.len() {
         write_record(

@@ -14,6 +14,8 @@ use Rattle.plain_forest.specs.History.{History}
 use Rattle.log_records.specs.Found.{AreMirrored, IsMountAnswer, Mounted, mounted_by, mounted_if, mounts}
 use Rattle.log_records.specs.declared.fault.MountFault.{MountFault}
 use Rattle.log_records.specs.declared.fault.MountFault.TheVariants as faults
+use Rattle.record_log.specs.declared.beginning.BeginFault.{BeginFault}
+use Rattle.record_log.specs.declared.beginning.BeginFault.TheVariants as of_begin
 use Rattle.record_log.specs.Exact.{has_failed}
 use Rattle.record_log.specs.Acknowledged.{AreAcks}
 use Rattle.record_log.specs.Log.{HasHalted, IsHaltWithin, Shown, halt_or_none}
@@ -114,15 +116,11 @@ load_stopped tells read_failed old new (faults.DeviceFault dev) found cause stay
 load_stopped tells read_failed old new faults.NoMemory found cause stays unwritten = tt
 
 -- why no session was begun
-pub begin_stopped : (tells : Type 0) (old new : Shown) (fault : MountFault) → (fault ≡ faults.NoSession → HasRefused tells old new refusals.NoSession)
-    → ((dev : ℕ) → fault ≡ faults.DeviceFault dev → (dev < length old.sizes) × RoseBy 1 old.faults new.faults) → MountStopped tells old new (stop_of_begin fault)
-begin_stopped tells old new faults.NoSession spent cause = spent refl
-begin_stopped tells old new (faults.DeviceFault dev) spent cause = cause dev refl
-begin_stopped tells old new faults.NoSuper spent cause = tt
-begin_stopped tells old new faults.Version spent cause = tt
-begin_stopped tells old new faults.Mixed spent cause = tt
-begin_stopped tells old new faults.BadLayout spent cause = tt
-begin_stopped tells old new faults.NoMemory spent cause = tt
+pub begin_stopped : (tells : Type 0) (old new : Shown) (fault : BeginFault) → (fault ≡ of_begin.Spent → HasRefused tells old new refusals.NoSession)
+    → ((dev : ℕ) → fault ≡ of_begin.DeviceFault dev → (dev < length old.sizes) × RoseBy 1 old.faults new.faults) → MountStopped tells old new (stop_of_begin fault)
+begin_stopped tells old new of_begin.Spent spent cause = spent refl
+begin_stopped tells old new (of_begin.DeviceFault dev) spent cause = cause dev refl
+begin_stopped tells old new of_begin.NoMemory spent cause = tt
 
 -- a volume survives the session that opened it
 pub session_survives : (old new : Moments) (layout : Layout) (session : ℕ) (opening : Mounted) (history : History) (acks : List Ack) → IsMountable (as_read (now old)) layout session → opening.layout ≡ layout

@@ -9,6 +9,8 @@ use Rattle.geometry.specs.declared.fault.DiskFault.{DiskFault}
 use Rattle.geometry.specs.declared.fault.DiskFault.TheVariants as of_disk
 use Rattle.log_records.specs.declared.fault.MountFault.{MountFault}
 use Rattle.log_records.specs.declared.fault.MountFault.TheVariants as of_mount
+use Rattle.record_log.specs.declared.beginning.BeginFault.{BeginFault}
+use Rattle.record_log.specs.declared.beginning.BeginFault.TheVariants as of_begin
 use Rattle.shell.specs.declared.stop.Refusal.TheVariants.{NoSuper, Version, Mixed, BadLayout, NoSession}
 use Rattle.shell.specs.declared.stop.Stop.{Stop}
 use Rattle.shell.specs.declared.stop.Stop.TheVariants.{Usage, BadLine, TooLong, Source, Refused, Device, Memory}
@@ -40,10 +42,10 @@ stop_of_mount (of_mount.DeviceFault dev) = Device dev
 stop_of_mount of_mount.NoMemory = Memory
 
 -- of a fault of beginning a session
-abbrev pub stop_of_begin : MountFault → Stop
-stop_of_begin of_mount.NoSession = Refused NoSession
-stop_of_begin (of_mount.DeviceFault dev) = Device dev
-stop_of_begin fault = Memory
+abbrev pub stop_of_begin : BeginFault → Stop
+stop_of_begin of_begin.Spent = Refused NoSession
+stop_of_begin (of_begin.DeviceFault dev) = Device dev
+stop_of_begin of_begin.NoMemory = Memory
 
 -- of a fault of devices that are being formatted
 abbrev pub stop_of_disk : DiskFault → Stop

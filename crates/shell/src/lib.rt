@@ -14,3 +14,4 @@ mod task;
 
 pub use ended::Ended;
 pub use run::run_words;
+pub use task::{Task, read_task};

@@ -14,8 +14,8 @@ ghost use Rattle.shell.specs.Stops.{stop_of_begin};
 
 use crate::stop::{Refusal, Stop};
 use dev_model::Devices;
-use log_records::{Loaded, MountFault, load};
-use record_log::{begin_session, beginning_is_survived, reading_is_survived};
+use log_records::{Loaded, load};
+use record_log::{BeginFault, begin_session, beginning_is_survived, reading_is_survived};
 use std::alloc::Global;
 
 /// Mounts the volume on the devices for a new session: loads it, and seals the session's number on every metadata device.
@@ -46,12 +46,12 @@ pub fn mount<D: Devices>(alloc: Global, devices: &mut D) -> Result<Loaded, Stop>
 }
 
 // Why no session was begun: the last one was, or a device failed, or memory was wanting.
-fn unbegun(fault: MountFault) -> Stop
+fn unbegun(fault: BeginFault) -> Stop
     ensures { result ≡ stop_of_begin fault }
 {
     match fault {
-        MountFault::NoSession => Stop::Refused(Refusal::NoSession),
-        MountFault::DeviceFault(dev) => Stop::Device(dev),
-        _ => Stop::Memory,
+        BeginFault::Spent => Stop::Refused(Refusal::NoSession),
+        BeginFault::DeviceFault(dev) => Stop::Device(dev),
+        BeginFault::NoMemory => Stop::Memory,
     }
 }

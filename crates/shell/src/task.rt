@@ -18,7 +18,8 @@ pub enum Task {
     Format(Layout),
 }
 
-/// Reads what the words ask for, on so many devices.
+/// Reads what the words ask for, on so many devices. It touches none of them. `Usage` says that the words are outside the
+/// grammar, or that no volume may lie on so many devices as they ask.
 pub fn read_task(alloc: Global, words: &[RcStr], devices: u8) -> Result<Task, WordsFault>
     ensures ok { IfOk result (λ task. task_of devices (map rc_str_bytes words.now) ≡ Some task) }
     ensures usage { IfErr result (λ fault. fault ≡ WordsFault.Usage → task_of devices (map rc_str_bytes words.now) ≡ None) }

@@ -1,4 +1,4 @@
-use Rattle.std.proofs.Common.{◌≡◌, ◌<◌, ◌∙◌, length, ap, arith, refl}
+use Rattle.std.proofs.Common.{◌<◌, ◌∙◌, length, ap, arith, refl}
 use Rattle.dev_model.specs.Devices.{now}
 use Rattle.geometry.proofs.Mirroring.{disk_count, flushes_none, flushes_more, reads_as_before, settles_more}
 use Rattle.geometry.proofs.mirrors.flush_devices.Goals as goal

@@ -1,4 +1,4 @@
-use Rattle.std.proofs.Common.{◌≡◌, ◌<◌, ◌≤◌, ◌∙◌, List, ℕ, get_or, ap, arith, refl, subst, sym}
+use Rattle.std.proofs.Common.{◌<◌, ◌∙◌, List, ℕ, get_or, arith, refl, subst, sym}
 use Rattle.dev_model.specs.Disk.{sizes_of}
 use Rattle.dev_model.specs.Devices.{now}
 use Rattle.dev_model.specs.StopLaws.{goes_on_write, started, left_itself}

@@ -1,4 +1,4 @@
-use Rattle.std.proofs.Common.{◌≡◌, ℕ, Some, arith, subst, ◌<◌, length}
+use Rattle.std.proofs.Common.{◌≡◌, Some, arith, subst, ◌<◌, length}
 use Rattle.dev_model.specs.Disk.{as_read}
 use Rattle.dev_model.specs.Devices.{now}
 use Rattle.dev_model.specs.Reading.{stays_now}

@@ -1,4 +1,4 @@
-use Rattle.std.proofs.Common.{◌≡◌, ℕ, None, Some, Ok, ap, ◌∙◌, sym, subst}
+use Rattle.std.proofs.Common.{◌≡◌, None, Some, ◌∙◌, sym, subst}
 use Rattle.vol_types.specs.Faults.{RoseBy}
 use Rattle.dev_model.specs.Disk.{as_read}
 use Rattle.dev_model.specs.Devices.{now}

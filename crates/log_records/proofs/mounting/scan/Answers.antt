@@ -1,10 +1,9 @@
-use Rattle.std.proofs.Common.{◌≡◌, ◌∙◌, ◌≤◌, Ok, ap, arith, sym, subst, List, ℕ}
+use Rattle.std.proofs.Common.{◌≡◌, ◌∙◌, ◌≤◌, Ok, ap, arith, sym}
 use Rattle.vol_types.specs.Faults.{RoseBy}
 use Rattle.dev_model.specs.Disk.{as_read}
 use Rattle.dev_model.specs.Devices.{now}
 use Rattle.dev_model.specs.Reading.{stays_now, stays_then}
-use Rattle.log_records.specs.Records.{record_at}
-use Rattle.log_records.specs.Found.{AreMirrored, IsMirroredAt}
+use Rattle.log_records.specs.Found.{AreMirrored}
 use Rattle.log_records.proofs.Scanning.{read_before, rose_behind, rose_before, scan_all, scan_ends, scan_more}
 use Rattle.log_records.proofs.mounting.scan.Goals as goal
 

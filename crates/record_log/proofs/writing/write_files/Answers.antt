@@ -18,7 +18,7 @@ loop-durable-init g c =
       sizes = refl;
       moment = omega arith;
       kept = λ tells. untouched (IsFrom c.args.layout.now (c.args.base + c.args.durable.now)) history;
-      written = λ tells number start held. writes_none c.args.layout.now number start c.args.base c.args.files.now c.args.durable.now history held;
+      written = λ tells start held. writes_none c.args.layout.now c.args.session start c.args.base c.args.files.now c.args.durable.now history held;
     }
 
 pub loop-durable-preserved : goal.loop-durable-preserved
@@ -42,8 +42,8 @@ loop-durable-preserved g c =
       sizes = c.write_record.ensures.sizes ∙ so_far.sizes;
       moment = omega (arith, so_far.moment, c.write_record.ensures.moment);
       kept = λ tells. goes_at layout (base + first) (base + count) old mid new (omega (arith, so_far.rises)) (so_far.kept tells) (c.write_record.ensures.stops tells);
-      written = λ tells number start held.
-          writes_one layout number start base files first count old mid new so_far.rises (so_far.written tells number start held) (c.write_record.ensures.stops tells)
+      written = λ tells start held.
+          writes_one layout c.args.session start base files first count old mid new so_far.rises (so_far.written tells start held) (c.write_record.ensures.stops tells)
           c.index-files-durable.result here (c.in_ok-write_record.ensures.held tells);
     }
 
@@ -58,11 +58,11 @@ returns-in_err-write_record-clause-kept g c tells =
     (c.loop-durable.invariant.kept tells) (c.write_record.ensures.stops tells)
 
 pub returns-in_err-write_record-clause-written : goal.returns-in_err-write_record-clause-written
-returns-in_err-write_record-clause-written g c tells number start held =
+returns-in_err-write_record-clause-written g c tells start held =
     let D = g.D.Devices in
     let so_far = c.loop-durable.invariant in
-    writes_not c.args.layout.now number start c.args.base c.args.files.now c.args.durable.now c.loop-durable.durable (D.history c.args.devices.now) (D.history c.loop-durable.devices) (D.history c.write_record.new.devices)
-    so_far.rises (so_far.written tells number start held) (c.write_record.ensures.stops tells)
+    writes_not c.args.layout.now c.args.session start c.args.base c.args.files.now c.args.durable.now c.loop-durable.durable (D.history c.args.devices.now) (D.history c.loop-durable.devices) (D.history c.write_record.new.devices)
+    so_far.rises (so_far.written tells start held) (c.write_record.ensures.stops tells)
 
 pub overflow_cast-durable : goal.overflow_cast-durable
 overflow_cast-durable g c =

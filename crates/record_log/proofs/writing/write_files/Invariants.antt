@@ -1,4 +1,4 @@
-use Rattle.std.proofs.Common.{◌≡◌, ◌+◌, ◌≤◌, ◌-◌, ℕ, List, length}
+use Rattle.std.proofs.Common.{◌≡◌, ◌+◌, ◌≤◌, ◌-◌, List, length}
 use Rattle.dev_model.specs.Disk.{Disk}
 use Rattle.dev_model.specs.Devices.{now}
 use Rattle.dev_model.specs.Stops.{LeavesOnly, MayLeaveBut}
@@ -18,7 +18,7 @@ invariant-loop-durable g l =
       sizes : D.sizes l.devices ≡ D.sizes first.devices;
       moment : (D.history first.devices).moment ≤ (D.history l.devices).moment;
       kept : D.tells → LeavesOnly (λ _ image. MayLeaveBut (IsFrom l.layout (l.base + first.durable)) (now (D.history first.devices)) image) (D.history first.devices) (D.history l.devices);
-      written : D.tells → (number : ℕ) (start : List Disk) → EachLeft (HasWritten l.layout number start l.base first.durable l.files) (D.history first.devices) → Writes l.layout number start l.base first.durable l.durable l.files (D.history first.devices) (D.history l.devices);
+      written : D.tells → (start : List Disk) → EachLeft (HasWritten l.layout l.session start l.base first.durable l.files) (D.history first.devices) → Writes l.layout l.session start l.base first.durable l.durable l.files (D.history first.devices) (D.history l.devices);
     }
 
 abbrev pub decreases-loop-durable : goal.decreases-loop-durable

@@ -2,7 +2,7 @@ use Rattle.std.proofs.Common.{◌≡◌, ◌+◌, ◌<◌, ◌≤◌, ◌^◌, �
 use Rattle.std.specs.Prelude.{option_and_then}
 use Rattle.std.proofs.lemmas.List.{take_all, take-append-le}
 use Rattle.geometry.specs.LayoutFacts.{has_places, journal_place}
-use Rattle.log_records.specs.Records.{record_in}
+use Rattle.log_records.specs.Records.{owner_of, record_in}
 use Rattle.geometry.specs.Mirrors.{EachLeft, HoldMirrors}
 use Rattle.record_log.specs.Durable.{HoldRecord, IsLogPlace}
 use Rattle.record_log.proofs.WrittenRecords.{behind_flushes, on_ok, only_flushed}
@@ -40,7 +40,11 @@ returns-clause-held g c tells =
     let history = g.D.Devices.history c.write_mirrors.new.devices in
     let sealed = c.seal_record.new.into in
     let whole : block ≡ sealed = c.deref.ensures.value ∙ take-append-le _ sealed _ (omega arith) ∙ take_all _ sealed (omega arith) in
-    let spelled : record_in layout.id place block ≡ Some file = subst (λ (b : List ℕ). record_in layout.id place b ≡ Some file) (sym whole) c.in_ok-seal_record.ensures in
-    on_ok c.write_mirrors.result (EachLeft (HoldMirrors layout.meta (16 + place) block) history) (EachLeft (HoldRecord layout place (Some file)) history)
-    (λ held image may dev within. ap (option_and_then (record_in layout.id place)) (held image may dev within) ∙ spelled)
+    let spelled : record_in layout.id place block ≡ Some file = subst (λ (b : List ℕ). record_in layout.id place b ≡ Some file) (sym whole) c.in_ok-seal_record.ensures.found in
+    let owned : owner_of block ≡ Some c.args.session = subst (λ (b : List ℕ). owner_of b ≡ Some c.args.session) (sym whole) c.in_ok-seal_record.ensures.owner in
+    on_ok c.write_mirrors.result (EachLeft (HoldMirrors layout.meta (16 + place) block) history) (EachLeft (HoldRecord layout c.args.session place (Some file)) history)
+    (λ held image may. record {
+      found = λ dev within. ap (option_and_then (record_in layout.id place)) (held image may dev within) ∙ spelled;
+      owner = λ dev within. ap (option_and_then owner_of) (held image may dev within) ∙ owned;
+    })
     (c.write_mirrors.ensures.held tells)

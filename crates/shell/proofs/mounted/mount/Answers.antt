@@ -3,7 +3,7 @@ use Rattle.dev_model.specs.Disk.{as_read}
 use Rattle.dev_model.specs.Devices.{now}
 use Rattle.geometry.specs.Sessions.{IsSessionPlace}
 use Rattle.record_log.specs.Log.{Shown}
-use Rattle.log_records.specs.declared.fault.MountFault.{MountFault}
+use Rattle.record_log.specs.declared.beginning.BeginFault.{BeginFault}
 use Rattle.shell.specs.Mounts.{MountStopped}
 use Rattle.shell.proofs.Mounting.{begin_stopped, beginning_survives, begun_since, is_mountable, rose_before, rose_since, stays_only}
 use Rattle.shell.proofs.mounted.mount.Goals as goal
@@ -57,7 +57,7 @@ returns-in-Err-clause-cause g c =
     subst (MountStopped D.tells (shown first) (shown last)) (sym c.unbegun.ensures)
     (begin_stopped D.tells (shown first) (shown last) c.in-Err.fault
     (λ none.
-    let spent = error ∙ ap (λ (f : MountFault). Err f) none in
+    let spent = error ∙ ap (λ (f : BeginFault). Err f) none in
     let same : last ≡ mid = c.begin_session.ensures.nothing spent in
     record {
       reason = λ tells. inr (loaded.layout, loaded.session, is_mountable (as_read (now (D.history first))) loaded.layout loaded.session (c.in_ok-loaded.ensures.layout tells) (c.in_ok-loaded.ensures.session tells), c.begin_session.ensures.spent.0 spent);
@@ -65,5 +65,5 @@ returns-in-Err-clause-cause g c =
       unwritten = ap D.write_faults same ∙ c.load.ensures.write_faults;
     })
     (λ dev is.
-    let cause = c.begin_session.ensures.cause dev (error ∙ ap (λ (f : MountFault). Err f) is) in
+    let cause = c.begin_session.ensures.cause dev (error ∙ ap (λ (f : BeginFault). Err f) is) in
     (subst (λ (sizes : List ℕ). dev < length sizes) c.load.ensures.sizes cause.0, rose_since 1 (D.faults first) (D.faults mid) (D.faults last) c.load.ensures.faults cause.1)))

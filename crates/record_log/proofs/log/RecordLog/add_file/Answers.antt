@@ -1,4 +1,4 @@
-use Rattle.std.proofs.Common.{◌≡◌, ◌+◌, ◌^◌, ◌<◌, ◌++◌, [], ◌∷◌, None, false, length, ap, ◌∙◌, sym, subst, rules}
+use Rattle.std.proofs.Common.{◌≡◌, ◌+◌, ◌<◌, ◌++◌, [], ◌∷◌, None, false, length, ap, ◌∙◌, sym, subst, rules}
 use Rattle.plain_forest.specs.Steps.{made_file, reply_of, forest_after}
 use Rattle.plain_forest.specs.History.{after_all}
 use Rattle.plain_forest.specs.declared.operation.Op.{Op}

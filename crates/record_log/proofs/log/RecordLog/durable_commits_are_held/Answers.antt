@@ -13,5 +13,8 @@ returns g c =
     let l = c.self.inside in
     let sound = c.self.invariant in
     subst (λ (log : Log g.row.D.Denot). D.tells → EachLeft (HoldsDurable opening log) (D.history log.devices)) c.self.view_is (λ tells image may dev within.
-    scanned_files (λ place. record_on l.layout place image dev) l.base l.durable l.files.items opening l.forest (λ i lt. (sound.records.held tells image may).records i lt dev within) sound.records.written sound.files.made
-    ∙ ap (λ commits. (l.base + l.durable, after_all opening (take l.durable commits))) (sym sound.files.commits))
+    let records = (sound.records.held tells image may).records in (
+      scanned_files (λ place. record_on l.layout place image dev) l.base l.durable l.files.items opening l.forest (λ i lt. (records i lt).found dev within) sound.records.written sound.files.made
+          ∙ ap (λ commits. (l.base + l.durable, after_all opening (take l.durable commits))) (sym sound.files.commits),
+      λ i lt. (records i lt).owner dev within,
+    ))

@@ -1,6 +1,4 @@
-use Rattle.std.proofs.Common.{◌≡◌, ◌+◌, ◌<◌, ◌≤◌, ℕ, suc, [], refl, inl, sym, arith, rules}
-use Rattle.dev_model.specs.Disk.{Image}
-use Rattle.dev_model.specs.Devices.{now}
+use Rattle.std.proofs.Common.{rules}
 use Rattle.record_log.proofs.Sound.{sound_begun, sound_start}
 use Rattle.record_log.proofs.log.RecordLog.start.Goals as goal
 

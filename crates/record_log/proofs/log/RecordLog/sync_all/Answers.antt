@@ -45,7 +45,7 @@ invariant_of-self-in-Ok g c =
       moment = wrote.moment;
       faults = wrote.faults;
       write_faults = wrote.write_faults;
-      writes = λ tells. subst (λ (files : List MadeFile). (start : List Disk) → EachLeft (HasWritten l.layout l.session start l.base l.durable files) (D.history l.devices) → Writes l.layout l.session start l.base l.durable durable files (D.history l.devices) (D.history devices)) c.as_slice.ensures.value (wrote.written tells l.session);
+      writes = λ tells. subst (λ (files : List MadeFile). (start : List Disk) → EachLeft (HasWritten l.layout l.session start l.base l.durable files) (D.history l.devices) → Writes l.layout l.session start l.base l.durable durable files (D.history l.devices) (D.history devices)) c.as_slice.ensures.value (wrote.written tells);
     } in
     let all : durable ≡ length l.files.items = c.in-Ok.ensures.ok ∙ ap length c.as_slice.ensures.value in
     let trace : c.put_entry.new.trace.items ≡ l.trace.items ++ entry_of Sync (Synced durable) ∷ [] = c.put_entry.ensures ∙ ap (λ (t : History). t ++ entry_of Sync (Synced durable) ∷ []) c.in_ok-reserve.ensures.items in
@@ -75,7 +75,7 @@ invariant_of-self-in-Err-DeviceFault g c =
       moment = wrote.moment;
       faults = wrote.faults;
       write_faults = wrote.write_faults;
-      writes = λ tells. subst (λ (files : List MadeFile). (start : List Disk) → EachLeft (HasWritten l.layout l.session start l.base l.durable files) (D.history l.devices) → Writes l.layout l.session start l.base l.durable durable files (D.history l.devices) (D.history devices)) c.as_slice.ensures.value (wrote.written tells l.session);
+      writes = λ tells. subst (λ (files : List MadeFile). (start : List Disk) → EachLeft (HasWritten l.layout l.session start l.base l.durable files) (D.history l.devices) → Writes l.layout l.session start l.base l.durable durable files (D.history l.devices) (D.history devices)) c.as_slice.ensures.value (wrote.written tells);
     } in
     let dev = c.in-Err-DeviceFault.dev in
     let failed : c.write_files-written.result ≡ Err (disks.DeviceFault dev) = search rules in
@@ -108,7 +108,7 @@ invariant_of-self-in-Err-NoMemory g c =
       moment = wrote.moment;
       faults = wrote.faults;
       write_faults = wrote.write_faults;
-      writes = λ tells. subst (λ (files : List MadeFile). (start : List Disk) → EachLeft (HasWritten l.layout l.session start l.base l.durable files) (D.history l.devices) → Writes l.layout l.session start l.base l.durable durable files (D.history l.devices) (D.history devices)) c.as_slice.ensures.value (wrote.written tells l.session);
+      writes = λ tells. subst (λ (files : List MadeFile). (start : List Disk) → EachLeft (HasWritten l.layout l.session start l.base l.durable files) (D.history l.devices) → Writes l.layout l.session start l.base l.durable durable files (D.history l.devices) (D.history devices)) c.as_slice.ensures.value (wrote.written tells);
     } in
     let at = λ (trace : History) (acks : List Ack). IsSound opening g.O.Opening.start D.tells later (record log { devices = devices; durable = durable; trace = trace; acks = acks }) l.forest in
     subst (λ t. at t c.reserve-2.new.self.items) (sym c.in_ok-reserve.ensures.items)
