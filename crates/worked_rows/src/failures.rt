@@ -1,8 +1,7 @@
-use crate::runs::{has_acks, run_over};
-use crate::volumes::{fail, one_device};
 use std::alloc::{AllocError, Global};
 use std::test::Fail;
 use text_io::{MemSink, MemSource};
+use volume_runs::{fail, has_acks, one_device, run_over};
 
 // Whether a run that makes a file ends so, over a volume without files: its status, how many entries its history has, how
 // many calls of the device there were, and what the sink holds. No commit is acknowledged but where all ten calls succeed.

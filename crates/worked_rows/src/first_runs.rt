@@ -1,8 +1,7 @@
-use crate::runs::run;
-use crate::volumes::{one_device, two_devices};
 use dev_model::MemDevices;
 use std::alloc::{AllocError, Global};
 use std::test::Fail;
+use volume_runs::{one_device, run, two_devices};
 
 // Whether a file that is made and listed on these devices is found there by the next run.
 fn is_found(alloc: Global, devices: MemDevices) -> Result<bool, AllocError> {

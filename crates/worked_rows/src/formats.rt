@@ -1,8 +1,9 @@
-use crate::runs::{Ran, has_acks, run};
-use crate::volumes::{ID_TEXT, ONE, ONE_LINE, TWO, TWO_LINE, do_words, session_on};
 use dev_model::{MemDevices, Pick};
 use std::alloc::{AllocError, Global};
 use std::test::Fail;
+use volume_runs::{
+    ID_TEXT, ONE, ONE_LINE, Ran, TWO, TWO_LINE, do_words, has_acks, run, session_on,
+};
 
 // Whether the words formatted the devices, and printed this line. The source wasn't asked, and there is no history.
 fn has_formatted(ran: &Ran, line: &[u8]) -> bool {

@@ -1,8 +1,7 @@
-use crate::runs::{Ran, has_acks, letters, run};
-use crate::volumes::{fail, one_device, two_devices};
 use dev_model::MemDevices;
 use std::alloc::{AllocError, Global};
 use std::test::Fail;
+use volume_runs::{Ran, fail, has_acks, letters, one_device, run, two_devices};
 
 // The second sync fails. Behind it come a name that was there before, one that was made since, a new one, a sync and a
 // listing.

@@ -1,4 +1,4 @@
-//! The worked rows: whole runs over sources, sinks and devices in memory, compared with what they must print and
+//! The worked rows: whole formats and runs over sources, sinks and devices in memory, compared with what they must print and
 //! leave. The crate holds tests alone.
 #![tactic(auto)]
 
@@ -9,16 +9,12 @@ mod first_runs;
 #[cfg(test)]
 mod formats;
 #[cfg(test)]
+mod full_journal;
+#[cfg(test)]
 mod halted;
 #[cfg(test)]
 mod mirrors;
 #[cfg(test)]
-mod mounts;
-#[cfg(test)]
-mod refused_words;
-#[cfg(test)]
-mod runs;
+mod pieces;
 #[cfg(test)]
 mod syncs;
-#[cfg(test)]
-mod volumes;

@@ -1,8 +1,7 @@
-use crate::runs::run;
-use crate::volumes::{fail, two_devices, wipe};
 use dev_model::{MemDevices, Pick};
 use std::alloc::{AllocError, Global};
 use std::test::Fail;
+use volume_runs::{fail, run, two_devices, wipe};
 
 // What a run of this script prints on two devices without files.
 const SCRIPT: &[u8] = b"mkfile main:/a\nmkfile main:/b\nsync\nmkfile main:/c\n";

@@ -1,7 +1,6 @@
-use crate::runs::{Ran, has_acks, letters, run};
-use crate::volumes::{fail, one_device};
 use std::alloc::{AllocError, Global};
 use std::test::Fail;
+use volume_runs::{Ran, fail, has_acks, letters, one_device, run};
 
 // Whether the run ended so: its status, what it printed, its history as two letters for each entry, the commits of its
 // acknowledgements, and how many calls of the device there were.

@@ -1,8 +1,9 @@
-use crate::runs::{Ran, run};
-use crate::volumes::{copied, one_device, put_session, put_version, session_on, two_devices, wipe};
 use dev_model::{MemDevices, Pick};
 use std::alloc::{AllocError, Global};
 use std::test::Fail;
+use volume_runs::{
+    Ran, copied, one_device, put_session, put_version, run, session_on, two_devices, wipe,
+};
 
 // Whether a run over the devices is refused with this line, and nothing is written: a run over what is left of them, where
 // that is what was flushed, is refused as well, after as many calls.

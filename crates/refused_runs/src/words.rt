@@ -1,9 +1,8 @@
-use crate::runs::{Ran, run_over};
-use crate::volumes::ID_TEXT;
 use dev_model::{Devices, MemDevices};
 use std::alloc::{AllocError, Global};
 use std::test::Fail;
 use text_io::{MemSink, MemSource};
+use volume_runs::{ID_TEXT, Ran, run_over};
 
 // Whether the words are refused: nothing is touched, neither the source, which would fail, nor a device, of which each call
 // would fail. So the moment is the one of the beginning.

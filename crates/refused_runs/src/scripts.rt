@@ -1,0 +1,103 @@
+use std::alloc::{AllocError, Global};
+use std::test::Fail;
+use text_io::{MemSink, MemSource};
+use volume_runs::{fail, has_acks, one_device, run, run_over};
+
+// Whether a run of the script is refused with status 2 and this line, with no entry in its history, no acknowledgement and no
+// call of a device.
+fn is_refused(alloc: Global, script: &[u8], line: &[u8]) -> Result<bool, AllocError> {
+    let ran = run(alloc, script, one_device(alloc)?)?;
+    Ok(
+        ran.status == 2
+            && ran.sink.held() == line
+            && ran.trace.len() == 0
+            && has_acks(&ran, &[])
+            && ran.calls == 0,
+    )
+}
+
+// The words are looked at before the source, the source before what it gives, and that before the device.
+#[test]
+fn the_first_cause_is_told(rt: HostRuntime) -> Result<(), Fail> {
+    let alloc = rt.alloc();
+    let cases: [(&[&str], &[u64], &[u8], u8, &[u8]); 4] = [
+        (&["x"], &[0], b"x\n", 1, b"error 1 usage\n"),
+        (&["run"], &[0], b"x\n", 4, b"error 4 source\n"),
+        (&["run"], &[], b"x\n", 2, b"error 2 line 1 not-built\n"),
+        (&["run"], &[], b"sync\n", 6, b"error 6 device 0\n"),
+    ];
+    for (words, failing, script, status, line) in cases {
+        let mut devices = one_device(alloc)?;
+        fail(&mut devices, 0, true)?;
+        let mut source = MemSource::new(alloc, script, failing)?;
+        let sink = MemSink::new(alloc, &[])?;
+        let ran = run_over(alloc, words, &mut source, sink, devices)?;
+        assert_eq!(rt; ran.status, status);
+        assert_eq!(rt; ran.sink.held(), line);
+        assert_eq!(rt; ran.trace.len(), 0);
+        assert_eq!(rt; ran.calls, if status == 6 { 1 } else { 0 });
+    }
+    Ok(())
+}
+
+// Two blanks, a CR, an empty line, a comment and a `%`, each behind a good line; no line runs.
+#[test]
+fn bad_lines_are_refused(rt: HostRuntime) -> Result<(), Fail> {
+    let alloc = rt.alloc();
+    for script in [
+        b"mkfile main:/a\nls  main:/\n".as_slice(),
+        b"mkfile main:/a\nls main:/\r\n".as_slice(),
+        b"mkfile main:/a\n\nls main:/\n".as_slice(),
+        b"mkfile main:/a\n# list\nls main:/\n".as_slice(),
+        b"mkfile main:/a\nmkfile main:/b%63\n".as_slice(),
+    ] {
+        assert!(rt;
+            is_refused(alloc, script, b"error 2 line 2 not-built\n")?,
+            "at {script:?}"
+        );
+    }
+    Ok(())
+}
+
+// The last line may lack its LF.
+#[test]
+fn a_last_line_without_its_end_is_read(rt: HostRuntime) -> Result<(), Fail> {
+    let alloc = rt.alloc();
+    let ran = run(alloc, b"ls main:/", one_device(alloc)?)?;
+    assert_eq!(rt;
+        ran.sink.held(),
+        b"@0 1 list\nend commits 0 synced 0\n".as_slice()
+    );
+    assert_eq!(rt; ran.status, 0);
+    assert_eq!(rt; ran.trace.len(), 2);
+    Ok(())
+}
+
+// A script has at most 16 MiB. One of as many bytes is read to its end, and its first line is bad.
+#[test]
+fn a_script_of_more_than_16_mib_is_refused(rt: HostRuntime) -> Result<(), Fail> {
+    let alloc = rt.alloc();
+    let text = vec![in alloc; b'a'; 16_777_217]?;
+    let (longest, _) = text.as_slice().split_at(16_777_216);
+    assert!(rt; is_refused(alloc, longest, b"error 2 line 1 not-built\n")?);
+    assert!(rt; is_refused(alloc, &text, b"error 2 too-long\n")?);
+    Ok(())
+}
+
+// An operation that isn't built is no line of a script yet, and neither is a line that goes on behind its verb.
+#[test]
+fn an_operation_that_is_not_built_is_refused(rt: HostRuntime) -> Result<(), Fail> {
+    let alloc = rt.alloc();
+    for script in [
+        b"fsync main:/a\n".as_slice(),
+        b"mkdir main:/a\n".as_slice(),
+        b"sync main:/a\n".as_slice(),
+        b"Sync\n".as_slice(),
+    ] {
+        assert!(rt;
+            is_refused(alloc, script, b"error 2 line 1 not-built\n")?,
+            "at {script:?}"
+        );
+    }
+    Ok(())
+}

@@ -1,0 +1,452 @@
+use dev_model::{MemDevices, Pick};
+use std::alloc::{AllocError, Global};
+use std::test::Fail;
+use volume_runs::{Ran, fail, has_acks, letters, one_device, run, two_devices};
+
+// The picks by which a stop may leave the devices.
+const PICKS: [Pick; 3] = [Pick::AllWritten, Pick::NoneWritten, Pick::Torn];
+
+// How a run ends that stops at one of some calls of its devices, and what the next run prints for `ls main:/` on what is left
+// of them.
+#[derive(Clone, Copy)]
+struct Stop {
+    calls: &'static [u64],
+    status: u8,
+    lines: &'static [u8],
+    // The history, as two letters for each entry.
+    entries: &'static [u8],
+    acks: &'static [u64],
+    // Where all that was written is left.
+    all: &'static [u8],
+    // Where nothing is left that wasn't flushed, or such blocks are torn.
+    flushed: &'static [u8],
+}
+
+const NONE: &[u8] = b"@0 1 list\nend commits 0 synced 0\n";
+
+const A: &[u8] = b"@0 1 list a\nend commits 0 synced 0\n";
+
+const AB: &[u8] = b"@0 1 list a b\nend commits 0 synced 0\n";
+
+const ABC: &[u8] = b"@0 1 list a b c\nend commits 0 synced 0\n";
+
+const ABCD: &[u8] = b"@0 1 list a b c d\nend commits 0 synced 0\n";
+
+fn has_ended(alloc: Global, ran: &Ran, stop: &Stop) -> Result<bool, AllocError> {
+    Ok(
+        ran.status == stop.status
+            && ran.sink.held() == stop.lines
+            && letters(alloc, &ran.trace)?.as_slice() == stop.entries
+            && has_acks(ran, stop.acks),
+    )
+}
+
+// Whether the next run finds these names.
+fn finds(alloc: Global, left: MemDevices, names: &[u8]) -> Result<bool, AllocError> {
+    let next = run(alloc, b"ls main:/\n", left)?;
+    Ok(
+        next.status == 0
+            && next.sink.held() == names
+            && next.trace.len() == 2
+            && has_acks(&next, &[0]),
+    )
+}
+
+// Whether the run of a script over these devices ends as it should, and the next one finds what it should on what is left of
+// them.
+fn is_stopped_so(
+    alloc: Global,
+    script: &[u8],
+    devices: MemDevices,
+    stop: &Stop,
+    pick: Pick,
+) -> Result<bool, AllocError> {
+    let ran = run(alloc, script, devices)?;
+    if !has_ended(alloc, &ran, stop)? {
+        return Ok(false);
+    }
+    let names = match pick {
+        Pick::AllWritten => stop.all,
+        Pick::NoneWritten | Pick::Torn => stop.flushed,
+    };
+    finds(alloc, ran.devices.restart(pick)?, names)
+}
+
+// A volume on one or two devices that fail at this call, alone or with all later ones.
+fn failing(alloc: Global, count: u8, call: u64, stays: bool) -> Result<MemDevices, AllocError> {
+    let mut devices = if count == 1 {
+        one_device(alloc)?
+    } else {
+        two_devices(alloc)?
+    };
+    fail(&mut devices, call, stays)?;
+    Ok(devices)
+}
+
+// The first call of a stop at which the run of the script doesn't end so.
+fn other_call(
+    alloc: Global,
+    script: &[u8],
+    count: u8,
+    stop: &Stop,
+    pick: Pick,
+) -> Result<Option<u64>, AllocError> {
+    for call in stop.calls {
+        for stays in [true, false] {
+            let devices = failing(alloc, count, *call, stays)?;
+            if !is_stopped_so(alloc, script, devices, stop, pick)? {
+                return Ok(Some(*call));
+            }
+        }
+    }
+    Ok(None)
+}
+
+// The first call of these stops at which the run of the script on so many devices doesn't end so.
+fn other_stop(
+    alloc: Global,
+    script: &[u8],
+    count: u8,
+    stops: &[Stop],
+    pick: Pick,
+) -> Result<Option<u64>, AllocError> {
+    for stop in stops {
+        let other = other_call(alloc, script, count, stop, pick)?;
+        if other.is_some() {
+            return Ok(other);
+        }
+    }
+    Ok(None)
+}
+
+// Three files, a sync and a fourth file.
+const FILES: &[u8] = b"mkfile main:/a\nmkfile main:/b\nmkfile main:/c\nsync\nmkfile main:/d\n";
+
+// The sync of the script failed on device 0.
+const AT_SYNC: Stop = Stop {
+    calls: &[],
+    status: 6,
+    lines: b"@0 1 ok\n@0 2 ok\n@0 3 ok\n@0 4 err device 0\n@0 5 err halted 0\nend commits 3 synced 0\n",
+    entries: b"mkmkmksdmhsh",
+    acks: &[],
+    all: NONE,
+    flushed: NONE,
+};
+
+// It failed on device 1.
+const AT_SYNC_OF_1: Stop = Stop {
+    lines: b"@0 1 ok\n@0 2 ok\n@0 3 ok\n@0 4 err device 1\n@0 5 err halted 1\nend commits 3 synced 0\n",
+    entries: b"mkmkmksDmHsH",
+    ..AT_SYNC
+};
+
+// The last sync failed on device 0.
+const AT_END: Stop = Stop {
+    lines: b"@0 1 ok\n@0 2 ok\n@0 3 ok\n@0 4 ok 3\n@0 5 ok\nend commits 4 synced 3\n",
+    entries: b"mkmkmks3mksd",
+    acks: &[3],
+    all: ABC,
+    flushed: ABC,
+    ..AT_SYNC
+};
+
+// It failed on device 1.
+const AT_END_OF_1: Stop = Stop {
+    entries: b"mkmkmks3mksD",
+    ..AT_END
+};
+
+// Nothing failed.
+const NO_STOP: Stop = Stop {
+    status: 0,
+    lines: b"@0 1 ok\n@0 2 ok\n@0 3 ok\n@0 4 ok 3\n@0 5 ok\nend commits 4 synced 4\n",
+    entries: b"mkmkmks3mks4",
+    acks: &[3, 4],
+    all: ABCD,
+    flushed: ABCD,
+    ..AT_SYNC
+};
+
+// On one device, calls 0 to 6 mount the volume and seal the session. Each record takes three: a flush, a write and a flush. A
+// write that fails leaves the block as it was. So call 19 isn't made.
+const FILES_ON_ONE: [Stop; 9] = [
+    Stop {
+        calls: &[7, 8],
+        ..AT_SYNC
+    },
+    Stop {
+        calls: &[9],
+        all: A,
+        ..AT_SYNC
+    },
+    Stop {
+        calls: &[10, 11],
+        all: A,
+        flushed: A,
+        ..AT_SYNC
+    },
+    Stop {
+        calls: &[12],
+        all: AB,
+        flushed: A,
+        ..AT_SYNC
+    },
+    Stop {
+        calls: &[13, 14],
+        all: AB,
+        flushed: AB,
+        ..AT_SYNC
+    },
+    Stop {
+        calls: &[15],
+        all: ABC,
+        flushed: AB,
+        ..AT_SYNC
+    },
+    Stop {
+        calls: &[16, 17],
+        ..AT_END
+    },
+    Stop {
+        calls: &[18],
+        all: ABCD,
+        ..AT_END
+    },
+    Stop {
+        calls: &[19],
+        ..NO_STOP
+    },
+];
+
+// On two devices, calls 0 to 13 mount the volume and seal the session. Each record takes six: both devices are flushed, both
+// are written, and both are flushed. A record is found where one of them has it. So call 38 isn't made.
+const FILES_ON_TWO: [Stop; 21] = [
+    Stop {
+        calls: &[14, 16],
+        ..AT_SYNC
+    },
+    Stop {
+        calls: &[15],
+        ..AT_SYNC_OF_1
+    },
+    Stop {
+        calls: &[17],
+        all: A,
+        ..AT_SYNC_OF_1
+    },
+    Stop {
+        calls: &[18],
+        all: A,
+        ..AT_SYNC
+    },
+    Stop {
+        calls: &[19],
+        all: A,
+        flushed: A,
+        ..AT_SYNC_OF_1
+    },
+    Stop {
+        calls: &[20, 22],
+        all: A,
+        flushed: A,
+        ..AT_SYNC
+    },
+    Stop {
+        calls: &[21],
+        all: A,
+        flushed: A,
+        ..AT_SYNC_OF_1
+    },
+    Stop {
+        calls: &[23],
+        all: AB,
+        flushed: A,
+        ..AT_SYNC_OF_1
+    },
+    Stop {
+        calls: &[24],
+        all: AB,
+        flushed: A,
+        ..AT_SYNC
+    },
+    Stop {
+        calls: &[25],
+        all: AB,
+        flushed: AB,
+        ..AT_SYNC_OF_1
+    },
+    Stop {
+        calls: &[26, 28],
+        all: AB,
+        flushed: AB,
+        ..AT_SYNC
+    },
+    Stop {
+        calls: &[27],
+        all: AB,
+        flushed: AB,
+        ..AT_SYNC_OF_1
+    },
+    Stop {
+        calls: &[29],
+        all: ABC,
+        flushed: AB,
+        ..AT_SYNC_OF_1
+    },
+    Stop {
+        calls: &[30],
+        all: ABC,
+        flushed: AB,
+        ..AT_SYNC
+    },
+    Stop {
+        calls: &[31],
+        all: ABC,
+        flushed: ABC,
+        ..AT_SYNC_OF_1
+    },
+    Stop {
+        calls: &[32, 34],
+        ..AT_END
+    },
+    Stop {
+        calls: &[33],
+        ..AT_END_OF_1
+    },
+    Stop {
+        calls: &[35],
+        all: ABCD,
+        ..AT_END_OF_1
+    },
+    Stop {
+        calls: &[36],
+        all: ABCD,
+        ..AT_END
+    },
+    Stop {
+        calls: &[37],
+        all: ABCD,
+        flushed: ABCD,
+        ..AT_END_OF_1
+    },
+    Stop {
+        calls: &[38],
+        ..NO_STOP
+    },
+];
+
+#[test]
+fn a_stop_leaves_what_was_acknowledged(rt: HostRuntime) -> Result<(), Fail> {
+    for pick in PICKS {
+        let other = other_stop(rt.alloc(), FILES, 1, &FILES_ON_ONE, pick)?;
+        assert_eq!(rt; other, None, "at {pick:?}");
+    }
+    Ok(())
+}
+
+#[test]
+fn a_stop_of_two_devices_leaves_what_was_acknowledged(rt: HostRuntime) -> Result<(), Fail> {
+    for pick in PICKS {
+        let other = other_stop(rt.alloc(), FILES, 2, &FILES_ON_TWO, pick)?;
+        assert_eq!(rt; other, None, "at {pick:?}");
+    }
+    Ok(())
+}
+
+// Whether a run that stops at this call while it mounts the volume or seals the session ends before its first line, and the
+// next one finds no file.
+fn stops_before_its_lines(
+    alloc: Global,
+    count: u8,
+    call: u64,
+    stays: bool,
+    pick: Pick,
+) -> Result<bool, AllocError> {
+    let ran = run(alloc, FILES, failing(alloc, count, call, stays)?)?;
+    if ran.status != 6 || ran.trace.len() != 0 || !has_acks(&ran, &[]) {
+        return Ok(false);
+    }
+    finds(alloc, ran.devices.restart(pick)?, NONE)
+}
+
+// Calls 0 to 6 of one device, and 0 to 13 of two.
+#[test]
+fn a_stop_before_the_first_line_leaves_no_file(rt: HostRuntime) -> Result<(), Fail> {
+    let alloc = rt.alloc();
+    for pick in PICKS {
+        for stays in [true, false] {
+            for call in 0..7u64 {
+                assert!(rt;
+                    stops_before_its_lines(alloc, 1, call, stays, pick)?,
+                    "one device, at {call}"
+                );
+            }
+            for call in 0..14u64 {
+                assert!(rt;
+                    stops_before_its_lines(alloc, 2, call, stays, pick)?,
+                    "two devices, at {call}"
+                );
+            }
+        }
+    }
+    Ok(())
+}
+
+// A file, a sync, another file and a listing.
+const TWO_FILES: &[u8] = b"mkfile main:/a\nsync\nmkfile main:/b\nls main:/\n";
+
+// The sync of the script failed.
+const AT_FIRST: Stop = Stop {
+    lines: b"@0 1 ok\n@0 2 err device 0\n@0 3 err halted 0\n@0 4 list a\nend commits 1 synced 0\n",
+    entries: b"mksdmhl1sh",
+    ..AT_SYNC
+};
+
+// The last sync failed.
+const AT_LAST: Stop = Stop {
+    lines: b"@0 1 ok\n@0 2 ok 1\n@0 3 ok\n@0 4 list a b\nend commits 2 synced 1\n",
+    entries: b"mks1mkl2sd",
+    acks: &[1],
+    all: A,
+    flushed: A,
+    ..AT_SYNC
+};
+
+const TWO_FILES_ON_ONE: [Stop; 5] = [
+    Stop {
+        calls: &[7, 8],
+        ..AT_FIRST
+    },
+    Stop {
+        calls: &[9],
+        all: A,
+        ..AT_FIRST
+    },
+    Stop {
+        calls: &[10, 11],
+        ..AT_LAST
+    },
+    Stop {
+        calls: &[12],
+        all: AB,
+        ..AT_LAST
+    },
+    Stop {
+        calls: &[13],
+        status: 0,
+        lines: b"@0 1 ok\n@0 2 ok 1\n@0 3 ok\n@0 4 list a b\nend commits 2 synced 2\n",
+        entries: b"mks1mkl2s2",
+        acks: &[1, 2],
+        all: AB,
+        flushed: AB,
+    },
+];
+
+#[test]
+fn a_sync_whose_flush_fails_halts_the_session(rt: HostRuntime) -> Result<(), Fail> {
+    for pick in PICKS {
+        let other = other_stop(rt.alloc(), TWO_FILES, 1, &TWO_FILES_ON_ONE, pick)?;
+        assert_eq!(rt; other, None, "at {pick:?}");
+    }
+    Ok(())
+}
