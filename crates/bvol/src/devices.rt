@@ -1,10 +1,12 @@
-ghost use Rattle.std.specs.Prelude.{◌≡◌, ◌≤◌, [], length, map, IfOk};
+ghost use Rattle.std.specs.Prelude.{◌≡◌, ◌<◌, ◌≤◌, ℕ, [], Err, length, map, IfOk};
+ghost use Rattle.bvol.specs.declared.devices.OpenFault.{OpenFault};
+ghost use Rattle.bvol.specs.declared.devices.OpenFault.TheVariants.{Device};
 
 use crate::counts::CallCounts;
 use crate::image::{Image, open_image};
 use dev_model::Devices;
 use std::alloc::{AllocFailed, Global};
-use std::fs::OpenFile;
+use std::fs::{File, OpenFile};
 use std::os::unix::fs::FileExt;
 use std::rc::RcStr;
 use std::rt::Files;
@@ -24,7 +26,7 @@ pub struct FileDevices<F: Drop> {
 /// Why files were not opened.
 #[derive(Clone, Copy, Debug, PartialEq, Eq)]
 pub enum OpenFault {
-    /// The file with this number, from 0, isn't there, or can't be read and written.
+    /// The file with this number, from 0, isn't there, or can't be read and written, or is in use.
     Device(u8),
     /// Memory was wanting.
     NoMemory,
@@ -61,6 +63,21 @@ pub fn open_devices<R: Files>(
         images,
         counts: CallCounts::default(),
     })
+}
+
+impl FileDevices<File> {
+    /// Takes the lock on each file, so that no other run that asks for it has it at the same time, and no file is two devices. It
+    /// names the first file that is in use, or can't be locked.
+    pub fn lock(&self) -> Result<(), OpenFault>
+        ensures { (fault : OpenFault) → result ≡ Err fault → (dev : ℕ) × (fault ≡ Device dev) × (dev < length self.now.images.items) }
+    {
+        for dev in 0..self.images.len() {
+            if !self.images[dev].lock() {
+                return Err(OpenFault::Device(dev as u8));
+            }
+        }
+        Ok(())
+    }
 }
 
 impl<F: FileExt + OpenFile + Drop> Devices for FileDevices<F> {

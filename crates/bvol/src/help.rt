@@ -34,7 +34,7 @@ made as long as it has to be; whatever the files held is lost. A format that is
 stopped leaves the volume that was there, or none that mounts, or the new one.
 
 options, each as `--NAME VALUE` or `--NAME=VALUE`, in any order:
-  --id U              the volume's id, a UUID; needed
+  --id U              the volume's id, a UUID in any of its forms; needed
   --blocks N          the blocks of each file, of 4,096 bytes each; needed.
                       1024 to 1048576, a multiple of 16, at least 2 x (J + 16)
   --journal J         the blocks of the journal; 256 to 4096, a multiple of 16;
@@ -52,7 +52,8 @@ exit status:
   1  error 1 usage: other words, or numbers that no volume may have; nothing
      was touched
   5  standard output couldn't be written
-  6  error 6 device D: file D, from 0, isn't there, or can't be read and written
+  6  error 6 device D: file D, from 0, isn't there, is in use, or can't be read
+     and written
   7  error 7 memory: memory was wanting
 
 example:
@@ -110,7 +111,8 @@ exit status:
      mount refused 5: no session is named, or no number is left for another
   4  error 4 source: standard input couldn't be read
   5  standard output couldn't be written
-  6  error 6 device D: file D, from 0, isn't there, or can't be read and written
+  6  error 6 device D: file D, from 0, isn't there, is in use, or can't be read
+     and written
      without that line: the last changes couldn't be written, as the replies
      or M in the last line say
   7  error 7 memory: memory was wanting; after the replies without that line

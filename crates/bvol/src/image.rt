@@ -1,6 +1,6 @@
 ghost use Rattle.std.specs.Prelude.{◌≡◌, ◌-◌, ◌*◌, ◌/◌, ◌^◌, max, min, OnOk, OnErr};
 
-use std::fs::{OpenFile, OpenOptions};
+use std::fs::{File, OpenFile, OpenOptions};
 use std::io::{self, Seek, SeekFrom};
 use std::os::unix::fs::FileExt;
 use std::path::AsPath;
@@ -28,6 +28,13 @@ pub fn open_image<R: Files>(files: &R, path: &str) -> io::Result<Image<R::File>>
         file,
         blocks: whole_blocks(bytes),
     })
+}
+
+impl Image<File> {
+    /// Takes the lock on the file, which goes with its last handle. Whether nobody else had it.
+    pub fn lock(&self) -> bool {
+        self.file.try_lock().is_ok()
+    }
 }
 
 // The blocks in so many bytes, up to what a device can have.

@@ -1,4 +1,4 @@
-//! The program: opens the image files, and runs the command that the words name.
+//! The program: judges the words, opens the image files, and runs the command that the words name.
 #![tactic(auto)]
 
 mod arguments;
@@ -6,6 +6,7 @@ mod counts;
 mod devices;
 mod help;
 mod image;
+mod judging;
 mod refusal;
 #[cfg(test)]
 mod tests;
@@ -13,6 +14,7 @@ mod tests;
 use arguments::{help_for, words_and_paths};
 use dev_model::NoGate;
 use devices::open_devices;
+use judging::judge_words;
 use refusal::Refusal;
 use shell::run_words;
 use std::alloc::Global;
@@ -52,7 +54,9 @@ fn run<R: Files<File = File> + Env + AllocGlobal + Print, I: Read + Drop, O: Wri
         return Ok(printed(rt.print(text), 0));
     }
     let (words, paths) = words_and_paths(&args).ok_or(Refusal::Usage)?;
+    judge_words(alloc, words, paths.len() as u8)?;
     let devices = open_devices(rt, alloc, paths)?;
+    devices.lock()?;
     let mut source = StdSource::new(input);
     let mut sink = StdSink::new(output);
     Ok(run_words(rt, alloc, words, &mut source, &mut sink, devices, &NoGate).status)

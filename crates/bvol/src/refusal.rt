@@ -10,7 +10,7 @@ use std::{fmt, io};
 pub enum Refusal {
     /// The arguments name no files, or too many.
     Usage,
-    /// This file isn't there, or can't be read and written.
+    /// This file isn't there, or can't be read and written, or is in use.
     Device(u8),
     /// Memory was wanting.
     Memory,

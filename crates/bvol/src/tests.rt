@@ -1,4 +1,4 @@
-use crate::devices::{FileDevices, open_devices};
+use crate::devices::{FileDevices, OpenFault, open_devices};
 use dev_model::Devices;
 use std::alloc::Global;
 use std::fs::{self, File};
@@ -58,5 +58,23 @@ fn written_blocks_are_read_back(rt: HostRuntime) -> Result<(), Fail> {
         );
     }
     assert_eq!(rt; devices.moment(), 8);
+    Ok(())
+}
+
+// A file that is open and locked is in use, for another open of it too, and for a second device. Once it is closed it isn't.
+#[test]
+fn a_file_is_no_two_devices(rt: HostRuntime) -> Result<(), Fail> {
+    let alloc = rt.alloc();
+    let path = file_name(&rt, alloc, "locked")?;
+    fs::write(&rt, path.as_str(), [0u8; 4096])?;
+    let twice = open_devices(&rt, alloc, &[path.clone()?, path.clone()?])?;
+    assert!(rt; twice.lock() == Err(OpenFault::Device(1)));
+    let first = open_devices(&rt, alloc, &[path.clone()?])?;
+    assert!(rt; first.lock() == Err(OpenFault::Device(0)));
+    drop(twice);
+    assert!(rt; first.lock() == Ok(()));
+    let second = open_devices(&rt, alloc, &[path.clone()?])?;
+    assert!(rt; second.lock() == Err(OpenFault::Device(0)));
+    fs::remove_file(&rt, path.as_str())?;
     Ok(())
 }
