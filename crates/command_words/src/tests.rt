@@ -11,15 +11,6 @@ const LETTERS: [u8; 16] = [
     0x67, 0xe5, 0x50, 0x44, 0x10, 0xb1, 0x42, 0x6f, 0x92, 0x47, 0xbb, 0x68, 0x0e, 0x5f, 0xe0, 0xc8,
 ];
 
-/// What the words of these tests ask for, but for what each of them gives otherwise.
-const BASE: FormatRequest = FormatRequest {
-    id: ID,
-    blocks: 4096,
-    journal: 256,
-    data_replicas: 1,
-    meta_replicas: 1,
-};
-
 // What the words of the line ask for. One blank stands between two words, and a word that is `.` stands for the id.
 fn answer(alloc: Global, line: &str) -> Result<Result<Request, WordsFault>, Fail> {
     let mut words = Vec::new(alloc);
@@ -34,90 +25,60 @@ fn answer(alloc: Global, line: &str) -> Result<Result<Request, WordsFault>, Fail
     Ok(read_words(alloc, &words))
 }
 
+// The request of the volume of these tests with these numbers: blocks, journal, copies of data and copies of nodes.
+fn request(numbers: [u64; 4]) -> Result<Request, WordsFault> {
+    let [blocks, journal, data_replicas, meta_replicas] = numbers;
+    Ok(Request::Format(FormatRequest {
+        id: ID,
+        blocks,
+        journal,
+        data_replicas,
+        meta_replicas,
+    }))
+}
+
 #[test]
 fn each_option_has_two_forms(rt: HostRuntime) -> Result<(), Fail> {
     let alloc = rt.alloc();
-    let cases = [
-        ("format --id . --blocks 4096", BASE),
-        (
-            "format --id=00000000-0000-4000-8000-000000000001 --blocks=4096",
-            BASE,
-        ),
-        ("format --blocks 4096 --id .", BASE),
-        ("format --blocks=4096 --id .", BASE),
+    let long_forms = "format --id=00000000-0000-4000-8000-000000000001 --blocks=4096";
+    let last = "format --meta-replicas 5 --data-replicas=4 --journal 3 --blocks=2 --id .";
+    for (line, numbers) in [
+        ("format --id . --blocks 4096", [4096, 256, 1, 1]),
+        (long_forms, [4096, 256, 1, 1]),
+        ("format --blocks 4096 --id .", [4096, 256, 1, 1]),
+        ("format --blocks=4096 --id .", [4096, 256, 1, 1]),
         (
             "format --id . --blocks 4096 --journal 496",
-            FormatRequest {
-                journal: 496,
-                ..BASE
-            },
+            [4096, 496, 1, 1],
         ),
         (
             "format --journal=496 --id . --blocks 4096",
-            FormatRequest {
-                journal: 496,
-                ..BASE
-            },
+            [4096, 496, 1, 1],
         ),
         (
             "format --id . --data-replicas 2 --blocks 4096",
-            FormatRequest {
-                data_replicas: 2,
-                ..BASE
-            },
+            [4096, 256, 2, 1],
         ),
         (
             "format --id . --data-replicas=2 --blocks 4096",
-            FormatRequest {
-                data_replicas: 2,
-                ..BASE
-            },
+            [4096, 256, 2, 1],
         ),
         (
             "format --id . --blocks 4096 --meta-replicas 3",
-            FormatRequest {
-                meta_replicas: 3,
-                ..BASE
-            },
+            [4096, 256, 1, 3],
         ),
         (
             "format --meta-replicas=3 --id . --blocks 4096",
-            FormatRequest {
-                meta_replicas: 3,
-                ..BASE
-            },
+            [4096, 256, 1, 3],
         ),
         (
             "format --id . --blocks 18446744073709551615",
-            FormatRequest {
-                blocks: 18_446_744_073_709_551_615,
-                ..BASE
-            },
+            [u64::MAX, 256, 1, 1],
         ),
-        (
-            "format --id . --blocks=0 --journal=0",
-            FormatRequest {
-                blocks: 0,
-                journal: 0,
-                ..BASE
-            },
-        ),
-        (
-            "format --meta-replicas 5 --data-replicas=4 --journal 3 --blocks=2 --id .",
-            FormatRequest {
-                id: ID,
-                blocks: 2,
-                journal: 3,
-                data_replicas: 4,
-                meta_replicas: 5,
-            },
-        ),
-    ];
-    for (line, format) in cases {
-        assert!(rt;
-            answer(alloc, line)? == Ok(Request::Format(format)),
-            "{line}"
-        );
+        ("format --id . --blocks=0 --journal=0", [0, 0, 1, 1]),
+        (last, [2, 3, 4, 5]),
+    ] {
+        assert!(rt; answer(alloc, line)? == request(numbers), "{line}");
     }
     assert!(rt; answer(alloc, "run")? == Ok(Request::Run));
     Ok(())
@@ -136,7 +97,10 @@ fn an_id_has_five_forms(rt: HostRuntime) -> Result<(), Fail> {
     for line in cases {
         let format = FormatRequest {
             id: LETTERS,
-            ..BASE
+            blocks: 4096,
+            journal: 256,
+            data_replicas: 1,
+            meta_replicas: 1,
         };
         assert!(rt;
             answer(alloc, line)? == Ok(Request::Format(format)),
@@ -146,10 +110,20 @@ fn an_id_has_five_forms(rt: HostRuntime) -> Result<(), Fail> {
     Ok(())
 }
 
+// Whether each of the lines asks for nothing.
+fn are_refused(alloc: Global, lines: &[&str]) -> Result<bool, Fail> {
+    for line in lines {
+        if answer(alloc, line)? != Err(WordsFault::Usage) {
+            return Ok(false);
+        }
+    }
+    Ok(true)
+}
+
 #[test]
-fn other_words_ask_for_nothing(rt: HostRuntime) -> Result<(), Fail> {
+fn other_commands_ask_for_nothing(rt: HostRuntime) -> Result<(), Fail> {
     let alloc = rt.alloc();
-    let cases = [
+    let lines = [
         "",
         "help",
         "mount",
@@ -158,6 +132,17 @@ fn other_words_ask_for_nothing(rt: HostRuntime) -> Result<(), Fail> {
         "run ",
         "run --schedule 1",
         "run --id .",
+        "--id . --blocks 4096 format",
+    ];
+    assert!(rt; are_refused(alloc, &lines)?);
+    let none: [RcStr; 0] = [];
+    assert!(rt; read_words(alloc, &none) == Err(WordsFault::Usage));
+    Ok(())
+}
+
+#[test]
+fn other_options_ask_for_nothing(rt: HostRuntime) -> Result<(), Fail> {
+    let lines = [
         "format",
         "format --id .",
         "format --blocks 4096",
@@ -173,6 +158,15 @@ fn other_words_ask_for_nothing(rt: HostRuntime) -> Result<(), Fail> {
         "format --help",
         "format -h",
         "format --version",
+        "format --ID . --blocks 4096",
+    ];
+    assert!(rt; are_refused(rt.alloc(), &lines)?);
+    Ok(())
+}
+
+#[test]
+fn other_values_ask_for_nothing(rt: HostRuntime) -> Result<(), Fail> {
+    let lines = [
         "format --id . --blocks -1",
         "format --id . --blocks --journal 1",
         "format --id . --blocks --",
@@ -200,14 +194,8 @@ fn other_words_ask_for_nothing(rt: HostRuntime) -> Result<(), Fail> {
         "format --id= --blocks 4096",
         "format --id 1 --blocks 4096",
         "format --id 00000000-0000-4000-8000-00000000000g --blocks 4096",
-        "format --ID . --blocks 4096",
-        "--id . --blocks 4096 format",
     ];
-    for line in cases {
-        assert!(rt; answer(alloc, line)? == Err(WordsFault::Usage), "{line}");
-    }
-    let none: [RcStr; 0] = [];
-    assert!(rt; read_words(alloc, &none) == Err(WordsFault::Usage));
+    assert!(rt; are_refused(rt.alloc(), &lines)?);
     Ok(())
 }
 
