@@ -81,7 +81,7 @@ impl FileDevices<File> {
 }
 
 impl<F: FileExt + OpenFile + Drop> Devices for FileDevices<F> {
-    ghost use Rattle.dev_model.specs.Devices.{History};
+    ghost use Rattle.dev_model.specs.Devices.{DevicesState};
 
     ghost tells = { ⊥ };
 

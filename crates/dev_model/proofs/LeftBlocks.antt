@@ -3,14 +3,15 @@ use Rattle.std.proofs.Common.{◌≡◌, ℕ, zero, suc, ◌+◌, ◌<◌, ◌^�
 use Rattle.std.specs.List.{zip}
 use Rattle.std.proofs.lemmas.List.{length-take-le, length-append, length-drop, take-append-drop, take_more}
 use Rattle.std.proofs.lemmas.List.Elements.{All-take, All-drop, All-append, All-cons, All-nil, All-head, All-tail}
-use Rattle.dev_model.specs.Disk.{IsBlock, IsDisk, MayLeave, at_rest}
+use Rattle.dev_model.specs.Disk.{IsBlock, IsDisk, IsCrashOf, at_rest}
+use Rattle.dev_model.specs.MemDisks.{IsKept, restored, disk_by}
 use Rattle.dev_model.specs.Restart.{blocks_left_by, torn}
-use Rattle.dev_model.specs.Stored.{IsStored, restored, stored_by}
-use Rattle.dev_model.specs.LeftDisks.{read_may_be_left}
+use Rattle.dev_model.specs.CrashDisks.{read_may_be_left}
 use Rattle.dev_model.specs.declared.disk.Overwritten.{Overwritten}
 use Rattle.dev_model.specs.declared.disk.Pick.{Pick}
 use Rattle.dev_model.specs.declared.disk.Pick.TheVariants.{AllWritten, NoneWritten, Torn}
 use Rattle.dev_model.proofs.Overwriting.{length-restored, All-restored, restored_other}
+use Rattle.dev_model.proofs.SoundDisks.{at_rest_is_disk}
 
 slice_get-take : (n : ℕ) (xs : List (List ℕ)) (i : ℕ) → i < n → slice_get (take n xs) i ≡ slice_get xs i
 slice_get-take zero xs i lt = absurd (omega (arith, lt))
@@ -22,7 +23,7 @@ slice_get-take (suc n) (x ∷ xs) (suc i) lt = slice_get-take n xs i (omega (ari
 abbrev pub all_torn : List (List ℕ) → List (List ℕ) → List (List ℕ)
 all_torn first second = map (λ (pair : List ℕ × List ℕ). torn pair.0 pair.1) (zip first second)
 
-torn_is_block : (first second : List ℕ) → IsBlock first → IsBlock second → IsBlock (torn first second)
+pub torn_is_block : (first second : List ℕ) → IsBlock first → IsBlock second → IsBlock (torn first second)
 torn_is_block first second one two = record {
   size = length-append (take 2048 first) (drop 2048 second) ∙ omega (arith, length-take-le 2048 first (omega (arith, one.size)), length-drop 2048 second, two.size);
   bytes = All-append (λ byte. byte < 256) (take 2048 first) (drop 2048 second) (All-take (λ byte. byte < 256) 2048 first one.bytes) (All-drop (λ byte. byte < 256) 2048 second two.bytes);
@@ -65,7 +66,7 @@ slice_get-torn (x ∷ first) (y ∷ second) zero same =
     ap (λ z. Some (torn x z)) e ∙ ap (λ z. Some z) (take-append-drop 2048 x)
 slice_get-torn (x ∷ first) (y ∷ second) (suc i) same = slice_get-torn first second i same
 
-module _ (blocks : List (List ℕ)) (overwritten : List Overwritten) (shortest : ℕ) (is : IsStored blocks overwritten shortest) where
+module _ (blocks : List (List ℕ)) (overwritten : List Overwritten) (shortest : ℕ) (is : IsKept blocks overwritten shortest) where
   settled_long : length (restored overwritten blocks) ≡ length blocks
   settled_long = length-restored overwritten blocks
 
@@ -78,25 +79,24 @@ module _ (blocks : List (List ℕ)) (overwritten : List Overwritten) (shortest :
   torn_long : length (all_torn blocks (restored overwritten blocks)) ≡ length blocks
   torn_long = length-torn blocks (restored overwritten blocks) settled_long
 
-  -- each pick leaves what a stop may leave
-  pub pick_may_be_left : (pick : Pick) → MayLeave (stored_by blocks overwritten shortest).disk (blocks_left_by pick (stored_by blocks overwritten shortest).disk (restored overwritten blocks))
-  pick_may_be_left AllWritten = read_may_be_left (stored_by blocks overwritten shortest).disk is.disk
+  -- each pick leaves what a crash may leave
+  pub pick_may_be_left : (pick : Pick) → IsCrashOf (disk_by blocks overwritten shortest) (blocks_left_by pick (disk_by blocks overwritten shortest))
+  pick_may_be_left AllWritten = read_may_be_left (disk_by blocks overwritten shortest) is.disk
   pick_may_be_left NoneWritten = record {
     no_shorter = omega (arith, shortest_long);
     no_longer = omega (arith, shortest_long, is.disk.shortest);
     blocks = All-take IsBlock shortest (restored overwritten blocks) settled_are;
-    settled = λ b within not_pending. slice_get-take shortest (restored overwritten blocks) b (omega (arith, within, shortest_long)) ∙ restored_other overwritten blocks b not_pending;
+    settled = λ b within not_pending. slice_get-take shortest (restored overwritten blocks) b (omega (arith, within, shortest_long)) ∙ restored_other overwritten blocks shortest b not_pending;
   }
   pick_may_be_left Torn = record {
     no_shorter = omega (arith, torn_long, is.disk.shortest);
     no_longer = omega (arith, torn_long);
     blocks = All-torn blocks (restored overwritten blocks) is.disk.blocks settled_are;
-    settled = λ b within not_pending. slice_get-torn blocks (restored overwritten blocks) b (restored_other overwritten blocks b not_pending);
+    settled = λ b within not_pending. slice_get-torn blocks (restored overwritten blocks) b (restored_other overwritten blocks shortest b not_pending);
   }
 
   -- and what is left, at rest, is a disk
-  pub pick_is_disk : (pick : Pick) (left : List (List ℕ)) → left ≡ blocks_left_by pick (stored_by blocks overwritten shortest).disk (restored overwritten blocks) → IsDisk (at_rest left)
+  pub pick_is_disk : (pick : Pick) (left : List (List ℕ)) → left ≡ blocks_left_by pick (disk_by blocks overwritten shortest) → IsDisk (at_rest left)
   pick_is_disk pick left exact =
       let may = pick_may_be_left pick in
-      let fits : length left < 2 ^ 32 = omega (arith, ap length exact, may.no_longer, is.disk.size) in
-      record { size = fits; shortest = omega arith; blocks = subst (λ bs. All IsBlock bs) (sym exact) may.blocks }
+      at_rest_is_disk left (omega (arith, ap length exact, may.no_longer, is.disk.size)) (subst (λ bs. All IsBlock bs) (sym exact) may.blocks)

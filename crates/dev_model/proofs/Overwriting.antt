@@ -3,9 +3,9 @@ use Rattle.std.proofs.Common.{◌≡◌, ℕ, zero, suc, ◌<◌, List, [], ◌�
 use Rattle.std.proofs.Math.Seq.{drop-cons}
 use Rattle.std.proofs.lemmas.List.{length-set, set-get_or, set-append_left}
 use Rattle.std.proofs.lemmas.List.Elements.{All-set, All-head, All-tail}
-use Rattle.dev_model.specs.Disk.{IsBlock}
-use Rattle.dev_model.specs.Stored.{restored}
-use Rattle.dev_model.specs.LeftDisks.{slice_get-set_other}
+use Rattle.dev_model.specs.Disk.{Asked, IsBlock, IsPending}
+use Rattle.dev_model.specs.MemDisks.{asked_of, disk_by, restored}
+use Rattle.dev_model.specs.CrashDisks.{slice_get-set_other}
 use Rattle.dev_model.specs.declared.disk.Overwritten.{Overwritten}
 
 -- the last write to a place is the one that shows
@@ -46,12 +46,12 @@ All-restored (first ∷ later) blocks bytes are =
     All-set IsBlock (restored later blocks) first.block first.bytes (All-head P first later bytes) (All-restored later blocks (All-tail P first later bytes) are)
 
 -- a block that wasn't overwritten is as it is read
-pub restored_other : (overwritten : List Overwritten) (blocks : List (List ℕ)) (block : ℕ) → ¬ Contains (map (λ (one : Overwritten). one.block) overwritten) block
+pub restored_other : (overwritten : List Overwritten) (blocks : List (List ℕ)) (shortest block : ℕ) → ¬ IsPending (disk_by blocks overwritten shortest) block
     → slice_get (restored overwritten blocks) block ≡ slice_get blocks block
-restored_other [] blocks block other = refl
-restored_other (first ∷ later) blocks block other =
-    slice_get-set_other (restored later blocks) first.block block first.bytes (λ same. other (zero, omega arith, sym same))
-    ∙ restored_other later blocks block (λ has. other (suc has.0, omega (arith, has.1), has.2))
+restored_other [] blocks shortest block other = refl
+restored_other (first ∷ later) blocks shortest block other =
+    slice_get-set_other (restored later blocks) first.block block first.bytes (λ same. other (first.asked, (zero, omega arith, ap (λ n. record { block = n; bytes = first.asked }) (sym same))))
+    ∙ restored_other later blocks shortest block (λ pending. other (pending.0, (suc pending.1.0, omega (arith, pending.1.1), pending.1.2)))
 
 -- one more is put back
 pub restored-drop : (overwritten : List Overwritten) (blocks : List (List ℕ)) (k : ℕ) (one : Overwritten) → k < length overwritten → one ≡ get_or overwritten k one
@@ -61,6 +61,6 @@ restored-drop overwritten blocks k one within is =
     ∙ ap (λ (o : Overwritten). set (restored (drop (suc k) overwritten) blocks) o.block o.bytes) (sym is)
 
 -- where nothing is pending nothing was overwritten
-pub none_overwritten : (overwritten : List Overwritten) → map (λ (one : Overwritten). one.block) overwritten ≡ [] → overwritten ≡ []
+pub none_overwritten : (overwritten : List Overwritten) → map asked_of overwritten ≡ [] → overwritten ≡ []
 none_overwritten [] none = refl
 none_overwritten (first ∷ later) none = cc

@@ -1,20 +1,19 @@
 -- How a recording goes on, by a step or by none.
 use Rattle.std.proofs.Common.{◌≡◌, ℕ, suc, ◌<◌, ◌≤◌, ◌^◌, List, [], ◌∷◌, ◌++◌, length, set, refl, ap, ◌∙◌, sym, subst, arith, Result, Err, Ok, MatchResult, OnOk, OnErr, All, inl, inr}
 use Rattle.std.proofs.lemmas.List.Elements.{All-same}
-use Rattle.dev_model.specs.Disk.{Disk, IsDisk, IsBlock, NothingPending, changed, written, sizes_of}
-use Rattle.dev_model.specs.Devices.{History, Goes, now, MayBeWritten}
+use Rattle.dev_model.specs.Disk.{Disk, IsDisk, IsBlock, NothingPending, changed, after_write, written, sizes_of}
+use Rattle.dev_model.specs.Devices.{DevicesState, ChangesDisks, now, MayBeWritten}
 use Rattle.dev_model.specs.Replay.{after_step, inside_step, after_steps, replayed, moments, disks_at, moments_push, after_push, at_end, at_past, at_inside}
-use Rattle.dev_model.specs.Recording.{AddsStep, AddsNone, AddsFailedWrite}
-use Rattle.dev_model.specs.Stored.{Stored, disks_in, settled_in}
+use Rattle.dev_model.specs.Recording.{AddsStep, AddsNone}
 use Rattle.dev_model.specs.declared.recording.Step.{Step}
 use Rattle.dev_model.specs.declared.recording.Step.TheVariants.{Nothing, Extended, Written, Flushed, Patched}
-use Rattle.dev_model.proofs.StoredSteps.{disks_in-after_step, length-after_step, settled_in-written, settled_in-patched, patched_is_quiet}
+use Rattle.dev_model.proofs.DiskSteps.{length-after_step, patched_is_quiet}
 use Rattle.dev_model.proofs.SoundDisks.{all_changed, written_is_disk, flushed_is_disk, extended_is_disk, patched_is_disk, sizes_of-written, sizes_of-patched}
 
 -- a call that failed before it did anything
-pub goes_nowhere : {T E : Type 0} (e : E) (partly wholly : List Disk → Type 0) (old new : History) → new ≡ old → partly (now old) → Goes {T = T} (Err e) partly wholly old new
-goes_nowhere {T} e partly wholly old new same here =
-    let P : History → Type 0 = λ h. Goes {T = T} (Err e) partly wholly old h in
+pub changes_nothing : {T E : Type 0} (e : E) (partly wholly : List Disk → Type 0) (old new : DevicesState) → new ≡ old → partly (now old) → ChangesDisks {T = T} (Err e) partly wholly old new
+changes_nothing {T} e partly wholly old new same here =
+    let P : DevicesState → Type 0 = λ h. ChangesDisks {T = T} (Err e) partly wholly old h in
     subst P (sym same) (record {
       later = omega arith;
       past = λ m le. refl;
@@ -27,15 +26,15 @@ now_replayed : (steps : List Step) (start : List Disk) → now (replayed steps s
 now_replayed steps start = at_end steps start
 
 -- a call that made a step
-pub goes_step : {T E : Type 0} (result : Result T E) (partly wholly : List Disk → Type 0) (start : List Disk) (steps : List Step) (step : Step) (new_steps : List Step)
+pub changes_step : {T E : Type 0} (result : Result T E) (partly wholly : List Disk → Type 0) (start : List Disk) (steps : List Step) (step : Step) (new_steps : List Step)
     → new_steps ≡ steps ++ step ∷ []
     → partly (inside_step step (now (replayed steps start)))
     → MatchResult result (λ _. wholly (after_step step (now (replayed steps start)))) (λ _. partly (after_step step (now (replayed steps start))))
-    → Goes result partly wholly (replayed steps start) (replayed new_steps start)
-goes_step result partly wholly start steps step new_steps is inside after =
+    → ChangesDisks result partly wholly (replayed steps start) (replayed new_steps start)
+changes_step result partly wholly start steps step new_steps is inside after =
     let more = moments_push steps step in
     let at = now_replayed steps start in
-    let P : List Step → Type 0 = λ s. Goes result partly wholly (replayed steps start) (replayed s start) in
+    let P : List Step → Type 0 = λ s. ChangesDisks result partly wholly (replayed steps start) (replayed s start) in
     let end : now (replayed (steps ++ step ∷ []) start) ≡ after_step step (now (replayed steps start)) =
     now_replayed (steps ++ step ∷ []) start ∙ after_push steps step start ∙ ap (after_step step) (sym at) in
     let mid : disks_at (steps ++ step ∷ []) start (suc (moments steps)) ≡ inside_step step (now (replayed steps start)) =
@@ -54,14 +53,10 @@ goes_step result partly wholly start steps step new_steps is inside after =
     time (Ok x) p = p
     time (Err e) p = tt
 
--- the disks after the step that was added
-pub disks_after : (devices new_devices : List Stored) (steps new_steps : List Step) (step : Step) → AddsStep step devices new_devices steps new_steps → disks_in new_devices ≡ after_step step (disks_in devices)
-disks_after devices new_devices steps new_steps step adds = ap disks_in adds.after ∙ disks_in-after_step step devices
-
 -- what holds of each recording
-pub record IsRecording (start : List Disk) (devices : List Stored) (steps : List Step) : Type 0 where
-  pub replays : disks_in devices ≡ after_steps steps start
-  pub are_disks : All IsDisk (disks_in devices)
+pub record IsRecording (start : List Disk) (devices : List Disk) (steps : List Step) : Type 0 where
+  pub replays : devices ≡ after_steps steps start
+  pub are_disks : All IsDisk devices
   pub count : (1 ≤ length devices) × (length devices ≤ 8)
 
 -- the step leaves disks as disks
@@ -71,8 +66,8 @@ KeepsDisks step = (disks : List Disk) → All IsDisk disks → All IsDisk (after
 pub flush_keeps : (dev : ℕ) → KeepsDisks (Flushed dev)
 flush_keeps dev disks are = all_changed disks dev _ flushed_is_disk are
 
-pub write_keeps : (dev block : ℕ) (bytes : List ℕ) → IsBlock bytes → KeepsDisks (Written dev block bytes)
-write_keeps dev block bytes is_block disks are = all_changed disks dev _ (λ d is. written_is_disk d block bytes is_block is) are
+pub write_keeps : (dev block : ℕ) (bytes left : List ℕ) → IsBlock left → KeepsDisks (Written dev block bytes left)
+write_keeps dev block bytes left is_block disks are = all_changed disks dev _ (λ d is. written_is_disk d block bytes left is_block is) are
 
 pub extend_keeps : (dev size : ℕ) → size < 2 ^ 32 → KeepsDisks (Extended dev size)
 extend_keeps dev size fits disks are = all_changed disks dev _ (λ d is. extended_is_disk d size fits is) are
@@ -80,21 +75,20 @@ extend_keeps dev size fits disks are = all_changed disks dev _ (λ d is. extende
 pub patch_keeps : (dev block : ℕ) (bytes : List ℕ) → IsBlock bytes → KeepsDisks (Patched dev block bytes)
 patch_keeps dev block bytes is_block disks are = all_changed disks dev _ (λ d is. patched_is_disk d block bytes is_block is) are
 
-module _ (start : List Disk) (devices new_devices : List Stored) (steps new_steps : List Step) (was : IsRecording start devices steps) where
+module _ (start : List Disk) (devices new_devices : List Disk) (steps new_steps : List Step) (was : IsRecording start devices steps) where
   pub recording_step : (step : Step) → KeepsDisks step → AddsStep step devices new_devices steps new_steps → IsRecording start new_devices new_steps
   recording_step step keeps adds =
-      let after = disks_after devices new_devices steps new_steps step adds in
       let many : length new_devices ≡ length devices = ap length adds.after ∙ length-after_step step devices in
       record {
-        replays = after ∙ ap (after_step step) was.replays ∙ sym (after_push steps step start) ∙ ap (λ s. after_steps s start) (sym adds.log);
-        are_disks = All-same IsDisk _ _ after (keeps (disks_in devices) was.are_disks);
+        replays = adds.after ∙ ap (after_step step) was.replays ∙ sym (after_push steps step start) ∙ ap (λ s. after_steps s start) (sym adds.log);
+        are_disks = All-same IsDisk _ _ adds.after (keeps devices was.are_disks);
         count = (omega (arith, many, was.count.0), omega (arith, many, was.count.1));
       }
 
   pub recording_none : AddsNone devices new_devices steps new_steps → IsRecording start new_devices new_steps
   recording_none none = record {
-    replays = ap disks_in none.after ∙ was.replays ∙ sym (ap (λ s. after_steps s start) none.log);
-    are_disks = All-same IsDisk _ _ (ap disks_in none.after) was.are_disks;
+    replays = none.after ∙ was.replays ∙ sym (ap (λ s. after_steps s start) none.log);
+    are_disks = All-same IsDisk _ _ none.after was.are_disks;
     count = (omega (arith, ap length none.after, was.count.0), omega (arith, ap length none.after, was.count.1));
   }
 
@@ -102,29 +96,19 @@ module _ (start : List Disk) (devices new_devices : List Stored) (steps new_step
   recording_after (Ok x) step keeps adds none = recording_step step keeps adds
   recording_after (Err e) step keeps adds none = recording_none none
 
-  pub recording_failed_write : (dev block : ℕ) → AddsFailedWrite dev block devices new_devices steps new_steps → IsRecording start new_devices new_steps
-  recording_failed_write dev block (inl none) = recording_none none
-  recording_failed_write dev block (inr written) = recording_step (Written dev block written.0) (write_keeps dev block written.0 written.1) written.2
+pub same_state : (start : List Disk) (steps new_steps : List Step) → new_steps ≡ steps → replayed new_steps start ≡ replayed steps start
+same_state start steps new_steps same = ap (λ s. replayed s start) same
 
-pub same_history : (start : List Disk) (steps new_steps : List Step) → new_steps ≡ steps → replayed new_steps start ≡ replayed steps start
-same_history start steps new_steps same = ap (λ s. replayed s start) same
+-- A write that failed as it was to.
+pub changes_failed_write : {T E : Type 0} (e : E) (wholly : List Disk → Type 0) (start : List Disk) (steps new_steps : List Step) (dev block : ℕ) (bytes left : List ℕ) → IsBlock left → new_steps ≡ steps ++ Written dev block bytes left ∷ []
+    → ChangesDisks {T = T} (Err e) (MayBeWritten dev block bytes (now (replayed steps start))) wholly (replayed steps start) (replayed new_steps start)
+changes_failed_write {T} e wholly start steps new_steps dev block bytes left is_block log =
+    let done : MayBeWritten dev block bytes (now (replayed steps start)) (changed dev (after_write block bytes left) (now (replayed steps start))) = inr (left, is_block, refl) in
+    changes_step {T = T} (Err e) _ wholly start steps (Written dev block bytes left) new_steps log done done
 
--- a write that failed, as far as it came
-module _ (devices new_devices : List Stored) (steps new_steps : List Step) (dev block : ℕ) where
-  pub goes_failed_write : {T E : Type 0} (e : E) (wholly : List Disk → Type 0) (start : List Disk) → AddsFailedWrite dev block devices new_devices steps new_steps
-      → Goes {T = T} (Err e) (MayBeWritten dev block (now (replayed steps start))) wholly (replayed steps start) (replayed new_steps start)
-  goes_failed_write {T} e wholly start (inl none) = goes_nowhere e _ wholly _ _ (same_history start steps new_steps none.log) (inl refl)
-  goes_failed_write {T} e wholly start (inr made) =
-      let done : MayBeWritten dev block (now (replayed steps start)) (changed dev (written block made.0) (now (replayed steps start))) = inr (made.0, made.1, refl) in
-      goes_step {T = T} (Err e) _ wholly start steps (Written dev block made.0) new_steps made.2.log done done
-
-  pub sizes_of-failed_write : AddsFailedWrite dev block devices new_devices steps new_steps → sizes_of (disks_in new_devices) ≡ sizes_of (disks_in devices)
-  sizes_of-failed_write (inl none) = ap (λ ds. sizes_of (disks_in ds)) none.after
-  sizes_of-failed_write (inr made) = ap sizes_of (disks_after devices new_devices steps new_steps (Written dev block made.0) made.2) ∙ sizes_of-written (disks_in devices) dev block made.0
-
-  pub settled_in-failed_write : AddsFailedWrite dev block devices new_devices steps new_steps → settled_in new_devices ≡ settled_in devices
-  settled_in-failed_write (inl none) = ap settled_in none.after
-  settled_in-failed_write (inr made) = ap settled_in made.2.after ∙ settled_in-written devices dev block made.0
+-- A call that failed has changed the disks so, whatever its fault is.
+pub changes_otherwise : {S T E F : Type 0} (e : E) (f : F) (partly wholly : List Disk → Type 0) (old new : DevicesState) → ChangesDisks {T = S} (Err e) partly wholly old new → ChangesDisks {T = T} (Err f) partly wholly old new
+changes_otherwise e f partly wholly old new changes = record { later = changes.later; past = changes.past; inside = changes.inside; after = changes.after; takes_time = tt }
 
 -- a step that does nothing, or none
 pub replays_nothing : {T E : Type 0} (result : Result T E) (start disks : List Disk) (steps new_steps : List Step) → OnOk result (new_steps ≡ steps ++ Nothing ∷ []) → OnErr result (new_steps ≡ steps) → disks ≡ after_steps steps start → disks ≡ after_steps new_steps start
@@ -132,26 +116,20 @@ replays_nothing (Ok x) start disks steps new_steps more none replays = replays �
 replays_nothing (Err e) start disks steps new_steps more none replays = replays ∙ sym (ap (λ s. after_steps s start) none)
 
 -- the disks of the present moment after a step that may have failed
-pub now_after : {T E : Type 0} (result : Result T E) (start : List Disk) (devices new_devices : List Stored) (steps new_steps : List Step) (step : Step) → OnOk result (AddsStep step devices new_devices steps new_steps) → OnOk result (now (replayed new_steps start) ≡ after_step step (now (replayed steps start)))
+pub now_after : {T E : Type 0} (result : Result T E) (start : List Disk) (devices new_devices : List Disk) (steps new_steps : List Step) (step : Step) → OnOk result (AddsStep step devices new_devices steps new_steps) → OnOk result (now (replayed new_steps start) ≡ after_step step (now (replayed steps start)))
 now_after (Err e) start devices new_devices steps new_steps step adds = tt
 now_after (Ok x) start devices new_devices steps new_steps step adds =
     now_replayed new_steps start ∙ ap (λ s. after_steps s start) adds.log ∙ after_push steps step start ∙ ap (after_step step) (sym (now_replayed steps start))
 
--- what a patch changes, and what it leaves
-module _ (devices new_devices : List Stored) (steps new_steps : List Step) (dev block : ℕ) (bytes : List ℕ) where
-  pub sizes_after_patch : {T E : Type 0} (result : Result T E) → OnOk result (AddsStep (Patched dev block bytes) devices new_devices steps new_steps) → OnErr result (AddsNone devices new_devices steps new_steps) → sizes_of (disks_in new_devices) ≡ sizes_of (disks_in devices)
-  sizes_after_patch (Ok x) adds none = ap sizes_of (disks_after devices new_devices steps new_steps (Patched dev block bytes) adds) ∙ sizes_of-patched (disks_in devices) dev block bytes
-  sizes_after_patch (Err e) adds none = ap (λ ds. sizes_of (disks_in ds)) none.after
+-- what a patch leaves
+module _ (devices new_devices : List Disk) (steps new_steps : List Step) (dev block : ℕ) (bytes : List ℕ) where
+  pub sizes_after_patch : {T E : Type 0} (result : Result T E) → OnOk result (AddsStep (Patched dev block bytes) devices new_devices steps new_steps) → OnErr result (AddsNone devices new_devices steps new_steps) → sizes_of new_devices ≡ sizes_of devices
+  sizes_after_patch (Ok x) adds none = ap sizes_of adds.after ∙ sizes_of-patched devices dev block bytes
+  sizes_after_patch (Err e) adds none = ap sizes_of none.after
 
-  pub settled_after_patch : {T E : Type 0} (result : Result T E) → OnOk result (AddsStep (Patched dev block bytes) devices new_devices steps new_steps) → OnOk result (settled_in new_devices ≡ changed dev (λ blocks. set blocks block bytes) (settled_in devices))
-  settled_after_patch (Ok x) adds = ap settled_in adds.after ∙ settled_in-patched devices dev block bytes
-  settled_after_patch (Err e) adds = tt
-
-  pub quiet_after_patch : {T E : Type 0} (result : Result T E) (start : List Disk) → OnOk result (AddsStep (Patched dev block bytes) devices new_devices steps new_steps) → OnErr result (AddsNone devices new_devices steps new_steps) → NothingPending (now (replayed steps start)) → NothingPending (now (replayed new_steps start))
-  quiet_after_patch {T} {E} (Ok x) start adds none quiet =
-      let after = now_after {E = E} (Ok x) start devices new_devices steps new_steps (Patched dev block bytes) adds in
-      subst NothingPending (sym after) (patched_is_quiet (now (replayed steps start)) dev block bytes quiet)
-  quiet_after_patch (Err e) start adds none quiet = subst (λ s. NothingPending (now (replayed s start))) (sym none.log) quiet
+  pub quiet_after_patch : {T E : Type 0} (result : Result T E) → OnOk result (AddsStep (Patched dev block bytes) devices new_devices steps new_steps) → OnErr result (AddsNone devices new_devices steps new_steps) → NothingPending devices → NothingPending new_devices
+  quiet_after_patch (Ok x) adds none quiet = subst NothingPending (sym adds.after) (patched_is_quiet devices dev block bytes quiet)
+  quiet_after_patch (Err e) adds none quiet = subst NothingPending (sym none.after) quiet
 
 -- before the first step
 pub told_none : (start disks : List Disk) (steps : List Step) → steps ≡ [] → start ≡ disks → now (replayed steps start) ≡ disks

@@ -1,15 +1,15 @@
--- What is read at a place, and what a stop leaves there, after a write or a flush; laws for whoever calls devices.
+-- What is read at a place, and what a crash leaves there, after a write or a flush; laws for whoever calls devices.
 use Rattle.std.proofs.Common.{◌≡◌, ◌≢◌, ℕ, zero, suc, ◌<◌, ◌≤◌, List, [], ◌∷◌, length, map, get_or, set, slice_get, Option, None, Some, refl, subst, ap, ◌∙◌, sym, arith, ⊎_elim, All}
 use Rattle.std.proofs.lemmas.Option.{slice_get_past, slice_get-get_or}
 use Rattle.std.proofs.lemmas.List.{ext_get_or}
 use Rattle.std.proofs.lemmas.Bool.{cases_lt}
-use Rattle.dev_model.specs.Disk.{Disk, IsDisk, Image, MayLeave, MayLeaveImage, as_read, block_at, changed, written, flushed, at_rest, sizes_of}
-use Rattle.dev_model.specs.Stops.{IsAt, IsQuiet}
-use Rattle.dev_model.specs.LeftDisks.{slice_get-set_other, left_by_write, left_by_flush}
+use Rattle.dev_model.specs.Disk.{Disk, IsDisk, Image, IsCrashOf, IsCrashImage, as_read, block_at, changed, written, flushed, at_rest, sizes_of}
+use Rattle.dev_model.specs.Crashes.{IsAt, IsQuiet}
+use Rattle.dev_model.specs.CrashDisks.{slice_get-set_other, left_by_write, left_by_flush}
 
--- A stop leaves this device as it is read.
+-- A crash leaves this device as it is read.
 abbrev pub IsSettled : List Disk → ℕ → Type 0
-IsSettled disks dev = (image : Image) → MayLeaveImage disks image → (block : ℕ) → block_at image dev block ≡ block_at (as_read disks) dev block
+IsSettled disks dev = (image : Image) → IsCrashImage disks image → (block : ℕ) → block_at image dev block ≡ block_at (as_read disks) dev block
 
 -- A flush changes nothing that is read.
 pub reads_flushed : (disks : List Disk) (dev d b : ℕ) → block_at (as_read (changed dev flushed disks)) d b ≡ block_at (as_read disks) d b
@@ -40,9 +40,9 @@ reads_written_elsewhere (disk ∷ disks) (suc dev) block bytes zero b elsewhere 
 reads_written_elsewhere (disk ∷ disks) (suc dev) block bytes (suc d) b elsewhere = reads_written_elsewhere disks dev block bytes d b (λ at. elsewhere (ap suc at.0, at.1))
 
 -- A disk at rest is left as it is read.
-pub rest_leaves : (blocks left : List (List ℕ)) → MayLeave (at_rest blocks) left → (block : ℕ) → slice_get left block ≡ slice_get blocks block
+pub rest_leaves : (blocks left : List (List ℕ)) → IsCrashOf (at_rest blocks) left → (block : ℕ) → slice_get left block ≡ slice_get blocks block
 rest_leaves blocks left may block = ⊎_elim
-    (λ (within : block < length left). may.settled block within (λ has. omega (arith, has.1)))
+    (λ (within : block < length left). may.settled block within (λ pending. omega (arith, pending.1.1)))
     (λ (past : length left ≤ block). slice_get_past left block past ∙ sym (slice_get_past blocks block (omega (arith, past, may.no_shorter))))
     (cases_lt block (length left))
 
@@ -50,14 +50,14 @@ abbrev the_block : Option (List ℕ) → List ℕ
 the_block None = []
 the_block (Some block) = block
 
-blocks_left_at_rest : (blocks left : List (List ℕ)) → MayLeave (at_rest blocks) left → left ≡ blocks
+blocks_left_at_rest : (blocks left : List (List ℕ)) → IsCrashOf (at_rest blocks) left → left ≡ blocks
 blocks_left_at_rest blocks left may =
     let as_many : length left ≡ length blocks = omega (arith, may.no_shorter, may.no_longer) in
     ext_get_or [] left blocks as_many (λ i within.
     let there : i < length blocks = omega (arith, within, as_many) in
     ap the_block (sym (slice_get-get_or left i [] within) ∙ rest_leaves blocks left may i ∙ slice_get-get_or blocks i [] there))
 
-image_left_at_rest : (blocks image : Image) → MayLeaveImage (map at_rest blocks) image → image ≡ blocks
+image_left_at_rest : (blocks image : Image) → IsCrashImage (map at_rest blocks) image → image ≡ blocks
 image_left_at_rest [] [] may = refl
 image_left_at_rest [] (left ∷ image) may = absurd may
 image_left_at_rest (blocks ∷ more) [] may = absurd may
@@ -66,7 +66,7 @@ image_left_at_rest (blocks ∷ more) (left ∷ image) may =
 
 -- Disks at rest are quiet.
 pub rest_is_quiet : (disks : List Disk) → disks ≡ map at_rest (as_read disks) → IsQuiet disks
-rest_is_quiet disks rest image may = image_left_at_rest (as_read disks) image (subst (λ (ds : List Disk). MayLeaveImage ds image) rest may)
+rest_is_quiet disks rest image may = image_left_at_rest (as_read disks) image (subst (λ (ds : List Disk). IsCrashImage ds image) rest may)
 
 -- A flush settles its device.
 pub settled_by_flush : (disks : List Disk) (dev : ℕ) → dev < length disks → IsSettled (changed dev flushed disks) dev
@@ -84,6 +84,6 @@ settled_over_flush disks dev other are settled image may block =
 -- So does a write to another device.
 pub settled_over_write : (disks : List Disk) (dev block : ℕ) (bytes : List ℕ) (other : ℕ) → other ≢ dev → All IsDisk disks → IsSettled disks other → IsSettled (changed dev (written block bytes) disks) other
 settled_over_write disks dev block bytes other differs are settled image may b =
-    let before = left_by_write disks dev block bytes are image may in
+    let before = left_by_write disks dev block bytes bytes are image may in
     let elsewhere : ¬ IsAt dev block other b = λ at. differs at.0 in
     sym (before.2 other b elsewhere) ∙ settled before.0 before.1 b ∙ sym (reads_written_elsewhere disks dev block bytes other b elsewhere)

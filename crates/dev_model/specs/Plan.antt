@@ -1,16 +1,20 @@
 -- Which calls of devices in memory fail.
 use Rattle.std.specs.Prelude.{◌≡◌, ◌⊎◌, ℕ, ◌+◌, ◌-◌, ◌^◌, ◌≤◌, min, List, [], Option, None, IsSomeAnd, Contains, Result, IsErr, OnOk}
 use Rattle.vol_types.specs.Faults.{RoseBy}
+use Rattle.dev_model.specs.declared.disk.Pick.{Pick}
+use Rattle.dev_model.specs.declared.disk.Pick.TheVariants.{NoneWritten}
 
--- The calls that are to fail, the first call of those that all fail, and how many calls there were.
+-- The calls that are to fail, the first call of those that all fail, what a write that is to fail leaves of its block, and how
+-- many calls there were.
 pub record Plan : Type 0 where
   pub failing : List ℕ
   pub stop : Option ℕ
+  pub leaves : Pick
   pub calls : ℕ
 
 -- before the first call, with none that is to fail
 abbrev pub no_faults : Plan
-no_faults = record { failing = []; stop = None; calls = 0 }
+no_faults = record { failing = []; stop = None; leaves = NoneWritten; calls = 0 }
 
 -- The call with this number is to fail.
 abbrev pub FailsAt : Plan → ℕ → Type 0

@@ -1,16 +1,16 @@
-ghost use Rattle.std.specs.Prelude.{◌≡◌, ◌⊎◌, ◌↔◌, ◌++◌, Some, IsTrue, IsErr, OnOk, OnErr};
+ghost use Rattle.std.specs.Prelude.{◌≡◌, ◌↔◌, ◌++◌, Some, IfSome, IsSome, IsTrue, OnOk, OnErr};
 ghost use Rattle.dev_model.specs.Plan.{no_faults, one_call_more, FailsAt};
-ghost use Rattle.vol_types.specs.Faults.{HasCause, RoseBy};
 
+use crate::disk::Pick;
 use std::alloc::{AllocError, Global};
 use std::marker::Model;
-use vol_types::Failed;
 
 /// Which calls are to fail, and how many there were.
 #[derive(Drop)]
 pub struct FaultPlan {
     failing: Vec<u64>,
     stop: Option<u64>,
+    leaves: Pick,
     calls: u64,
 }
 
@@ -19,7 +19,7 @@ impl Model for FaultPlan {
 
     ghost Value = { Plan };
 
-    ghost view = { λ p. record { failing = p.failing.items; stop = p.stop; calls = p.calls } };
+    ghost view = { λ p. record { failing = p.failing.items; stop = p.stop; leaves = p.leaves; calls = p.calls } };
 }
 
 impl FaultPlan {
@@ -29,6 +29,7 @@ impl FaultPlan {
         FaultPlan {
             failing: Vec::new(alloc),
             stop: None,
+            leaves: Pick::NoneWritten,
             calls: 0,
         }
     }
@@ -39,6 +40,7 @@ impl FaultPlan {
     {
         self.failing.clear();
         self.stop = None;
+        self.leaves = Pick::NoneWritten;
         self.calls = 0;
     }
 
@@ -57,6 +59,13 @@ impl FaultPlan {
         self.failing.extend_from_slice(calls)
     }
 
+    /// A write that is to fail leaves of its block what this says.
+    pub fn failed_writes_leave(&mut self, leaves: Pick)
+        ensures { self.new ≡ record self.old { leaves = leaves } }
+    {
+        self.leaves = leaves;
+    }
+
     /// All calls from this one on are to fail, in place of those from an earlier stop on.
     pub fn stop_after(&mut self, first: u64)
         ensures { self.new ≡ record self.old { stop = Some first } }
@@ -73,42 +82,17 @@ impl FaultPlan {
         self.calls = call.saturating_add(1);
         self.failing.contains(&call) || self.stop.is_some_and(|first| first <= call)
     }
-}
 
-/// How many calls have failed: all, the writes and flushes among them, and those that no plan let fail.
-#[derive(Drop)]
-pub struct FaultCounts {
-    pub all: u64,
-    pub writes: u64,
-    pub shortages: u64,
-}
-
-impl FaultCounts {
-    /// Counts a call by its outcome, and by whether it was to fail.
-    pub fn count(&mut self, planned: bool, outcome: &Result<(), Failed>)
-        ensures all { HasCause outcome.now self.old.all self.new.all }
-        ensures writes { self.new.writes ≡ self.old.writes }
-        ensures short { IsErr outcome.now → IsTrue planned ⊎ RoseBy 1 self.old.shortages self.new.shortages }
-        ensures ample { OnOk outcome.now (self.new.shortages ≡ self.old.shortages) }
+    /// What the next call leaves of its block, if it is a write, where it is to fail. It counts the call.
+    pub fn next_failing(&mut self) -> Option<Pick>
+        ensures fails { IsSome result ↔ FailsAt self.old self.old.calls }
+        ensures leaves { IfSome result (λ pick. pick ≡ self.old.leaves) }
+        ensures counted { self.new ≡ one_call_more self.old }
     {
-        if outcome.is_err() {
-            self.all = self.all.saturating_add(1);
-            if !planned {
-                self.shortages = self.shortages.saturating_add(1);
-            }
+        if self.next_fails() {
+            Some(self.leaves)
+        } else {
+            None
         }
-    }
-
-    /// Counts a write or a flush.
-    pub fn count_write(&mut self, planned: bool, outcome: &Result<(), Failed>)
-        ensures all { HasCause outcome.now self.old.all self.new.all }
-        ensures writes { HasCause outcome.now self.old.writes self.new.writes }
-        ensures short { IsErr outcome.now → IsTrue planned ⊎ RoseBy 1 self.old.shortages self.new.shortages }
-        ensures ample { OnOk outcome.now (self.new.shortages ≡ self.old.shortages) }
-    {
-        if outcome.is_err() {
-            self.writes = self.writes.saturating_add(1);
-        }
-        self.count(planned, outcome);
     }
 }

@@ -12,12 +12,12 @@ pub record HasPlaces (sizes : List ℕ) (layout : Layout) : Type 0 where
   pub devices : length layout.blocks ≡ length sizes
   pub some : 1 ≤ length sizes
   pub few : length sizes ≤ 8
-  pub mirrored : 1 ≤ layout.meta
-  pub mirrors_few : layout.meta ≤ 3
-  pub mirrors : layout.meta ≤ length sizes
-  pub replicated : 1 ≤ layout.replicas
-  pub replicas_few : layout.replicas ≤ 3
-  pub replicas : layout.replicas ≤ length sizes
+  pub mirrored : 1 ≤ layout.metadata_replicas
+  pub mirrors_few : layout.metadata_replicas ≤ 3
+  pub mirrors : layout.metadata_replicas ≤ length sizes
+  pub replicated : 1 ≤ layout.data_replicas
+  pub replicas_few : layout.data_replicas ≤ 3
+  pub replicas : layout.data_replicas ≤ length sizes
   pub journal : layout.journal ≤ 4096
   pub least : 256 ≤ layout.journal
   pub journal_whole : layout.journal % 16 ≡ 0
@@ -82,13 +82,13 @@ module _ (layout : Layout) (is : is_layout layout ≡ true) where
   unfolding is_layout
   journal_whole = eqb-true (layout.journal % 16) 0 (both _ _ (both _ _ (both _ _ (both _ _ is).0).0).0).1
 
-  meta_ok : (1 ≤ layout.meta) × (layout.meta ≤ min 3 (length layout.blocks))
+  meta_ok : (1 ≤ layout.metadata_replicas) × (layout.metadata_replicas ≤ min 3 (length layout.blocks))
   unfolding is_layout
-  meta_ok = in_range 1 (min 3 (length layout.blocks)) layout.meta (both _ _ (both _ _ (both _ _ is).0).0).1
+  meta_ok = in_range 1 (min 3 (length layout.blocks)) layout.metadata_replicas (both _ _ (both _ _ (both _ _ is).0).0).1
 
-  replicas_ok : (1 ≤ layout.replicas) × (layout.replicas ≤ min 3 (length layout.blocks))
+  replicas_ok : (1 ≤ layout.data_replicas) × (layout.data_replicas ≤ min 3 (length layout.blocks))
   unfolding is_layout
-  replicas_ok = in_range 1 (min 3 (length layout.blocks)) layout.replicas (both _ _ (both _ _ is).0).1
+  replicas_ok = in_range 1 (min 3 (length layout.blocks)) layout.data_replicas (both _ _ (both _ _ is).0).1
 
   devices_sizes : (dev : ℕ) → dev < length layout.blocks → IsDeviceSize layout.journal (get_or layout.blocks dev 0)
   unfolding is_layout
@@ -100,7 +100,7 @@ has_places sizes layout is =
     let parts = both (is_layout layout) (have_room layout.blocks sizes) is in
     let count : length layout.blocks ≡ length sizes = as_many layout.blocks sizes parts.1 in
     let each : (dev : ℕ) → dev < length sizes → IsDeviceSize layout.journal (get_or layout.blocks dev 0) = λ dev within. devices_sizes layout parts.0 dev (omega (arith, within, count)) in
-    let meta = meta_ok layout parts.0 in
+    let metadata_replicas = meta_ok layout parts.0 in
     let copies = replicas_ok layout parts.0 in
     record {
       devices = count;
@@ -111,7 +111,7 @@ has_places sizes layout is =
       mirrors = omega (arith, count, meta.1);
       replicated = copies.0;
       replicas_few = omega (arith, copies.1);
-      replicas = omega (arith, count, copies.1);
+      data_replicas = omega (arith, count, copies.1);
       journal = (journal_ok layout parts.0).1;
       least = (journal_ok layout parts.0).0;
       journal_whole = journal_whole layout parts.0;
@@ -133,7 +133,7 @@ area_is_place sizes layout is dev block within lower =
     omega (arith, lower, has.room dev within, has.longer dev within)
 
 -- So is each place of the journal area, on a metadata device.
-pub journal_place : (sizes : List ℕ) (layout : Layout) (dev place : ℕ) → is_layout_of sizes layout ≡ true → dev < layout.meta → place < layout.journal → 16 + place < get_or sizes dev 0
+pub journal_place : (sizes : List ℕ) (layout : Layout) (dev place : ℕ) → is_layout_of sizes layout ≡ true → dev < layout.metadata_replicas → place < layout.journal → 16 + place < get_or sizes dev 0
 journal_place sizes layout dev place is device within =
     let has = has_places sizes layout is in
     let mirror : dev < length sizes = omega (arith, device, has.mirrors) in

@@ -15,8 +15,8 @@ unfoldable pub is_layout : Layout → Bool
 is_layout layout =
     is_in_range 1 8 (length layout.blocks)
     && is_in_range 256 4096 layout.journal && layout.journal % 16 == 0
-    && is_in_range 1 (min 3 (length layout.blocks)) layout.meta
-    && is_in_range 1 (min 3 (length layout.blocks)) layout.replicas
+    && is_in_range 1 (min 3 (length layout.blocks)) layout.metadata_replicas
+    && is_in_range 1 (min 3 (length layout.blocks)) layout.data_replicas
     && list_all (is_device_size layout.journal) layout.blocks
 
 -- there are as many sizes as numbers of blocks, and none is smaller

@@ -99,13 +99,13 @@ some_greatest id image (suc devices) session is =
     (cases_eq is.dev devices)
 
 -- Where a metadata device names a session in its own block, the volume names one.
-pub session_is_there : (layout : Layout) (image : Image) (dev session : ℕ) → dev < layout.meta → session_at layout.id image dev (session_place session) ≡ Some session → IsSome (session_in layout image)
-session_is_there layout image dev session within named = some_greatest layout.id image layout.meta session (record { dev = dev; within = within; named = named })
+pub session_is_there : (layout : Layout) (image : Image) (dev session : ℕ) → dev < layout.metadata_replicas → session_at layout.id image dev (session_place session) ≡ Some session → IsSome (session_in layout image)
+session_is_there layout image dev session within named = some_greatest layout.id image layout.metadata_replicas session (record { dev = dev; within = within; named = named })
 
 -- While the blocks of its greatest session stay, a volume names a session.
 pub session_remains : (layout : Layout) (before image : Image) (session : ℕ) → session_in layout before ≡ Some session
-    → ((dev : ℕ) → dev < layout.meta → block_at image dev (session_place session) ≡ block_at before dev (session_place session))
+    → ((dev : ℕ) → dev < layout.metadata_replicas → block_at image dev (session_place session) ≡ block_at before dev (session_place session))
     → IsSome (session_in layout image)
 session_remains layout before image session is stays =
-    let named = greatest_is_named layout.id before layout.meta session is in
+    let named = greatest_is_named layout.id before layout.metadata_replicas session is in
     session_is_there layout image named.dev session named.within (ap (option_and_then (session_named layout.id (session_place session))) (stays named.dev named.within) ∙ named.named)

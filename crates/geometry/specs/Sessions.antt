@@ -61,8 +61,8 @@ greatest_session id image (suc dev) = greater (greatest_session id image dev) (g
 
 -- the greatest session of a volume, which its metadata devices name
 abbrev pub session_in : Layout → Image → Option ℕ
-session_in layout image = greatest_session layout.id image layout.meta
+session_in layout image = greatest_session layout.id image layout.metadata_replicas
 
 -- the places in which a session is sealed: its block on each metadata device
 abbrev pub IsSessionPlace : Layout → ℕ → ℕ → ℕ → Type 0
-IsSessionPlace layout session dev block = (dev < layout.meta) × (block ≡ session_place session)
+IsSessionPlace layout session dev block = (dev < layout.metadata_replicas) × (block ≡ session_place session)

@@ -125,7 +125,7 @@ same_bytes bytes = (bytes_eq-Decides bytes bytes).1 refl
 
 same_itself : (layout : Layout) → is_same_layout layout layout ≡ true
 same_itself layout =
-    both_true (both_true (both_true (both_true (same_bytes layout.id) (same_bytes layout.blocks)) (eq-eqb layout.journal layout.journal refl)) (eq-eqb layout.meta layout.meta refl)) (eq-eqb layout.replicas layout.replicas refl)
+    both_true (both_true (both_true (both_true (same_bytes layout.id) (same_bytes layout.blocks)) (eq-eqb layout.journal layout.journal refl)) (eq-eqb layout.metadata_replicas layout.metadata_replicas refl)) (eq-eqb layout.data_replicas layout.data_replicas refl)
 
 -- It is the copy of this layout for a device, in some block with some sequence.
 record IsCopyOf (layout : Layout) (dev : ℕ) (copy : SuperCopy) : Type 0 where
@@ -158,7 +158,7 @@ module _ (layout : Layout) (fits : (i : ℕ) → i < length layout.blocks → ge
   names_layout dev block sequence =
       let blocks : numbers_in (flat_map (to_le_bytes w32) layout.blocks) ≡ layout.blocks = numbers_of_blocks layout.blocks fits in
       let journal : from_le_bytes w32 (to_le_bytes w32 layout.journal) ≡ layout.journal = from_le_bytes-to_le_bytes_4 layout.journal journal_fits in
-      λ i. record { id = layout.id; blocks = blocks i; journal = journal i; meta = layout.meta; replicas = layout.replicas }
+      λ i. record { id = layout.id; blocks = blocks i; journal = journal i; metadata_replicas = layout.metadata_replicas; data_replicas = layout.data_replicas }
 
   copy_names_layout : (dev : ℕ) (copy : SuperCopy) → IsCopyOf layout dev copy → named_layout copy ≡ layout
   copy_names_layout dev copy is = ap named_layout is.is ∙ names_layout dev is.block is.sequence

@@ -19,7 +19,7 @@ use Rattle.geometry.specs.declared.fault.SuperFault.TheVariants.{NoSuper, Versio
 -- the payload of a device's superblock: how many devices there are, its own number, the replicas of metadata and of data, the
 -- length of the journal area, and the number of blocks of each device
 abbrev pub super_payload : Layout → ℕ → List ℕ
-super_payload layout dev = length layout.blocks ∷ dev ∷ layout.meta ∷ layout.replicas ∷ to_le_bytes w32 layout.journal ++ flat_map (to_le_bytes w32) layout.blocks
+super_payload layout dev = length layout.blocks ∷ dev ∷ layout.metadata_replicas ∷ layout.data_replicas ∷ to_le_bytes w32 layout.journal ++ flat_map (to_le_bytes w32) layout.blocks
 
 -- the head of the copy in this block, with this sequence
 abbrev pub super_head : Layout → ℕ → ℕ → ℕ → Head
@@ -91,14 +91,14 @@ named_layout copy = record {
   id = copy.head.id;
   blocks = numbers_in (drop 8 copy.payload);
   journal = from_le_bytes w32 (field copy.payload 4 4);
-  meta = slice_index copy.payload 2;
-  replicas = slice_index copy.payload 3;
+  metadata_replicas = slice_index copy.payload 2;
+  data_replicas = slice_index copy.payload 3;
 }
 
 -- both layouts are of one volume and lie alike
 abbrev pub is_same_layout : Layout → Layout → Bool
 is_same_layout one other =
-    bytes_eq one.id other.id && bytes_eq one.blocks other.blocks && one.journal == other.journal && one.meta == other.meta && one.replicas == other.replicas
+    bytes_eq one.id other.id && bytes_eq one.blocks other.blocks && one.journal == other.journal && one.metadata_replicas == other.metadata_replicas && one.data_replicas == other.data_replicas
 
 -- A copy belongs to this device of a volume of so many devices with this layout. Of a payload of another form its head
 -- alone is judged.

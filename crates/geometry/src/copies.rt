@@ -2,7 +2,7 @@ ghost use Rattle.std.specs.Prelude.{◌≡◌, ◌<◌, ◌≤◌, ℕ, Err, len
 ghost use Rattle.vol_types.specs.Faults.{RoseBy};
 ghost use Rattle.dev_model.specs.Devices.{now};
 ghost use Rattle.dev_model.specs.Disk.{as_read, blocks_of};
-ghost use Rattle.dev_model.specs.Reading.{StaysSo};
+ghost use Rattle.dev_model.specs.Frames.{DisksStay};
 ghost use Rattle.geometry.specs.Superblocks.{copy_at, copy_in, counting, has_form, is_copy_head, is_same_layout, later, named_layout, numbers_in};
 
 use crate::fault::DiskFault;
@@ -74,14 +74,14 @@ fn read_copy<D: Devices>(
     dev: u8,
     block: u32,
 ) -> Result<Option<SuperCopy>, DiskFault>
-    requires { dev < length (D.sizes devices.old) }
-    ensures found { D.tells → IfOk result (λ copy. copy ≡ copy_at block (blocks_of (as_read (now (D.history devices.old))) dev)) }
-    ensures stays { D.tells → StaysSo (D.history devices.old) (D.history devices.new) }
+    requires { dev < length (D.state devices.old).sizes }
+    ensures found { D.tells → IfOk result (λ copy. copy ≡ copy_at block (blocks_of (as_read (now (D.state devices.old))) dev)) }
+    ensures stays { D.tells → DisksStay (D.state devices.old) (D.state devices.new) }
     ensures cause { (failed : ℕ) → result ≡ Err (DiskFault.DeviceFault failed) → (failed ≡ dev) × RoseBy 1 (D.faults devices.old) (D.faults devices.new) }
     ensures faults { D.faults devices.old ≤ D.faults devices.new }
     ensures write_faults { D.write_faults devices.new ≡ D.write_faults devices.old }
-    ensures sizes { D.sizes devices.new ≡ D.sizes devices.old }
-    ensures moment { (D.history devices.old).moment ≤ (D.history devices.new).moment }
+    ensures sizes { (D.state devices.new).sizes ≡ (D.state devices.old).sizes }
+    ensures moment { (D.state devices.old).moment ≤ (D.state devices.new).moment }
 {
     if devices.blocks(dev) <= block {
         return Ok(None);
@@ -96,14 +96,14 @@ pub fn read_counting<D: Devices>(
     devices: &mut D,
     dev: u8,
 ) -> Result<Option<SuperCopy>, DiskFault>
-    requires { dev < length (D.sizes devices.old) }
-    ensures found { D.tells → IfOk result (λ copy. copy ≡ counting (blocks_of (as_read (now (D.history devices.old))) dev)) }
-    ensures stays { D.tells → StaysSo (D.history devices.old) (D.history devices.new) }
+    requires { dev < length (D.state devices.old).sizes }
+    ensures found { D.tells → IfOk result (λ copy. copy ≡ counting (blocks_of (as_read (now (D.state devices.old))) dev)) }
+    ensures stays { D.tells → DisksStay (D.state devices.old) (D.state devices.new) }
     ensures cause { (failed : ℕ) → result ≡ Err (DiskFault.DeviceFault failed) → (failed ≡ dev) × RoseBy 1 (D.faults devices.old) (D.faults devices.new) }
     ensures faults { D.faults devices.old ≤ D.faults devices.new }
     ensures write_faults { D.write_faults devices.new ≡ D.write_faults devices.old }
-    ensures sizes { D.sizes devices.new ≡ D.sizes devices.old }
-    ensures moment { (D.history devices.old).moment ≤ (D.history devices.new).moment }
+    ensures sizes { (D.state devices.new).sizes ≡ (D.state devices.old).sizes }
+    ensures moment { (D.state devices.old).moment ≤ (D.state devices.new).moment }
 {
     let first = read_copy(alloc, devices, dev, 0)?;
     let second = read_copy(alloc, devices, dev, 8)?;

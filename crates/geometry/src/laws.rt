@@ -13,7 +13,7 @@ pub fn layouts_have_places()
     ensures places { (sizes : List ℕ) (layout : ALayout) → is_layout_of sizes layout ≡ true → HasPlaces sizes layout }
     ensures block { (sizes : List ℕ) (layout : ALayout) → is_layout_of sizes layout ≡ true → (dev block : ℕ) → dev < length sizes → block < slice_index layout.blocks dev → IsPlace sizes dev block }
     ensures area { (sizes : List ℕ) (layout : ALayout) → is_layout_of sizes layout ≡ true → (dev block : ℕ) → dev < length sizes → block < 16 + layout.journal → IsPlace sizes dev block }
-    ensures journal { (sizes : List ℕ) (layout : ALayout) (dev place : ℕ) → is_layout_of sizes layout ≡ true → dev < layout.meta → place < layout.journal → IsPlace sizes dev (16 + place) }
+    ensures journal { (sizes : List ℕ) (layout : ALayout) (dev place : ℕ) → is_layout_of sizes layout ≡ true → dev < layout.metadata_replicas → place < layout.journal → IsPlace sizes dev (16 + place) }
 {}
 
 /// The layout that an image holds stays while its sizes and blocks 0 and 8 do, and fits its devices.
@@ -31,6 +31,6 @@ pub fn written_layouts_are_read()
 
 /// A volume names a session while the blocks of its greatest one stay, and where a metadata device names one.
 pub fn sessions_stay()
-    ensures remains { (layout : ALayout) (before image : Image) (session : ℕ) → session_in layout before ≡ Some session → ((dev : ℕ) → dev < layout.meta → block_at image dev (session_place session) ≡ block_at before dev (session_place session)) → IsSome (session_in layout image) }
-    ensures is_there { (layout : ALayout) (image : Image) (dev session : ℕ) → dev < layout.meta → session_at layout.id image dev (session_place session) ≡ Some session → IsSome (session_in layout image) }
+    ensures remains { (layout : ALayout) (before image : Image) (session : ℕ) → session_in layout before ≡ Some session → ((dev : ℕ) → dev < layout.metadata_replicas → block_at image dev (session_place session) ≡ block_at before dev (session_place session)) → IsSome (session_in layout image) }
+    ensures is_there { (layout : ALayout) (image : Image) (dev session : ℕ) → dev < layout.metadata_replicas → session_at layout.id image dev (session_place session) ≡ Some session → IsSome (session_in layout image) }
 {}

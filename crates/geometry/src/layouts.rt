@@ -22,7 +22,7 @@ fn are_device_sizes(journal: u32, blocks: &[u32]) -> bool
 }
 
 // Whether so many devices may hold that many copies.
-fn are_replicas(devices: usize, replicas: u8) -> bool
+fn are_replicas(devices: usize, data_replicas: u8) -> bool
     ensures { result ≡ is_in_range 1 (min 3 devices) replicas }
 {
     1 <= replicas && replicas <= 3 && replicas as usize <= devices
@@ -41,10 +41,10 @@ pub fn is_layout(layout: &Layout) -> bool
     if layout.journal < 256 || layout.journal > 4096 || layout.journal % 16 != 0 {
         return false;
     }
-    if !are_replicas(devices, layout.meta) {
+    if !are_replicas(devices, layout.metadata_replicas) {
         return false;
     }
-    if !are_replicas(devices, layout.replicas) {
+    if !are_replicas(devices, layout.data_replicas) {
         return false;
     }
     are_device_sizes(layout.journal, blocks)

@@ -67,8 +67,8 @@ pub(crate) fn named_layout(alloc: Global, copy: &SuperCopy) -> Result<Layout, Al
         id: copy.head.id,
         blocks: numbers_in(alloc, behind_head(payload))?,
         journal: journal_of(payload),
-        meta: byte_at(payload, 2),
-        replicas: byte_at(payload, 3),
+        metadata_replicas: byte_at(payload, 2),
+        data_replicas: byte_at(payload, 3),
     })
 }
 
@@ -85,6 +85,6 @@ pub(crate) fn is_same_layout(one: &Layout, other: &Layout) -> bool
     one.id == other.id
         && are_same_blocks(one.blocks.as_slice(), other.blocks.as_slice())
         && one.journal == other.journal
-        && one.meta == other.meta
-        && one.replicas == other.replicas
+        && one.metadata_replicas == other.metadata_replicas
+        && one.data_replicas == other.data_replicas
 }

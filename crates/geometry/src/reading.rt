@@ -2,7 +2,7 @@ ghost use Rattle.std.specs.Prelude.{◌≡◌, ◌≤◌, ℕ, Some, Err, length
 ghost use Rattle.vol_types.specs.Faults.{RoseBy};
 ghost use Rattle.dev_model.specs.Devices.{IsPlace, now};
 ghost use Rattle.dev_model.specs.Disk.{as_read, block_at};
-ghost use Rattle.dev_model.specs.Reading.{StaysSo};
+ghost use Rattle.dev_model.specs.Frames.{DisksStay};
 
 use crate::fault::DiskFault;
 use dev_model::Devices;
@@ -16,15 +16,15 @@ pub fn read_block<D: Devices>(
     dev: u8,
     block: u32,
 ) -> Result<Bytes, DiskFault>
-    requires { IsPlace (D.sizes devices.old) dev block }
-    ensures bytes { D.tells → IfOk result (λ bytes. block_at (as_read (now (D.history devices.old))) dev block ≡ Some bytes) }
+    requires { IsPlace (D.state devices.old).sizes dev block }
+    ensures bytes { D.tells → IfOk result (λ bytes. block_at (as_read (now (D.state devices.old))) dev block ≡ Some bytes) }
     ensures length { IfOk result (λ bytes. length bytes ≡ 4096) }
-    ensures stays { D.tells → StaysSo (D.history devices.old) (D.history devices.new) }
+    ensures stays { D.tells → DisksStay (D.state devices.old) (D.state devices.new) }
     ensures cause { (failed : ℕ) → result ≡ Err (DiskFault.DeviceFault failed) → (failed ≡ dev) × RoseBy 1 (D.faults devices.old) (D.faults devices.new) }
     ensures faults { D.faults devices.old ≤ D.faults devices.new }
     ensures write_faults { D.write_faults devices.new ≡ D.write_faults devices.old }
-    ensures sizes { D.sizes devices.new ≡ D.sizes devices.old }
-    ensures moment { (D.history devices.old).moment ≤ (D.history devices.new).moment }
+    ensures sizes { (D.state devices.new).sizes ≡ (D.state devices.old).sizes }
+    ensures moment { (D.state devices.old).moment ≤ (D.state devices.new).moment }
 {
     let mut bytes = vec![in alloc; 0; 4096]?;
     match devices.read(dev, block, &mut bytes) {
@@ -35,7 +35,7 @@ pub fn read_block<D: Devices>(
 
 /// The number of blocks of each device.
 pub(crate) fn sizes_of<D: Devices>(alloc: Global, devices: &D) -> Result<Vec<u32>, AllocError>
-    ensures { IfOk result (λ sizes. sizes.items ≡ D.sizes devices.now) }
+    ensures { IfOk result (λ sizes. sizes.items ≡ (D.state devices.now).sizes) }
 {
     let count = devices.count();
     let mut sizes = Vec::new(alloc);

@@ -3,11 +3,10 @@ ghost use Rattle.std.specs.Int.{w64, from_le_bytes};
 ghost use Rattle.vol_types.specs.Faults.{RoseBy};
 ghost use Rattle.dev_model.specs.Devices.{IsPlace, now};
 ghost use Rattle.dev_model.specs.Disk.{as_read};
-ghost use Rattle.dev_model.specs.Reading.{StaysSo};
-ghost use Rattle.dev_model.specs.Stops.{LeavesOnly, MayLeaveBut};
+ghost use Rattle.dev_model.specs.Frames.{DisksStay};
+ghost use Rattle.dev_model.specs.Crashes.{EachCrash, EachCrashNow, IsCrashImageBut};
 ghost use Rattle.sealed_block.specs.Blocks.{IsInRanges};
 ghost use Rattle.geometry.specs.Layouts.{is_layout_of};
-ghost use Rattle.geometry.specs.Mirrors.{EachLeft};
 ghost use Rattle.geometry.specs.Sessions.{IsSessionPlace, greater, is_session_head, session_at, session_block, session_head, session_in, session_named, session_place};
 
 use crate::fault::DiskFault;
@@ -131,14 +130,14 @@ fn read_named<D: Devices>(
     dev: u8,
     block: u32,
 ) -> Result<Option<u64>, DiskFault>
-    requires { IsPlace (D.sizes devices.old) dev block }
-    ensures found { D.tells → IfOk result (λ session. session ≡ session_at id.now (as_read (now (D.history devices.old))) dev block) }
-    ensures stays { D.tells → StaysSo (D.history devices.old) (D.history devices.new) }
+    requires { IsPlace (D.state devices.old).sizes dev block }
+    ensures found { D.tells → IfOk result (λ session. session ≡ session_at id.now (as_read (now (D.state devices.old))) dev block) }
+    ensures stays { D.tells → DisksStay (D.state devices.old) (D.state devices.new) }
     ensures cause { (failed : ℕ) → result ≡ Err (DiskFault.DeviceFault failed) → (failed ≡ dev) × RoseBy 1 (D.faults devices.old) (D.faults devices.new) }
     ensures faults { D.faults devices.old ≤ D.faults devices.new }
     ensures write_faults { D.write_faults devices.new ≡ D.write_faults devices.old }
-    ensures sizes { D.sizes devices.new ≡ D.sizes devices.old }
-    ensures moment { (D.history devices.old).moment ≤ (D.history devices.new).moment }
+    ensures sizes { (D.state devices.new).sizes ≡ (D.state devices.old).sizes }
+    ensures moment { (D.state devices.old).moment ≤ (D.state devices.new).moment }
 {
     let bytes = read_block(alloc, devices, dev, block)?;
     Ok(session_named(id, block, bytes.as_slice()))
@@ -151,15 +150,15 @@ fn read_device<D: Devices>(
     id: &[u8; 16],
     dev: u8,
 ) -> Result<Option<u64>, DiskFault>
-    requires { IsPlace (D.sizes devices.old) dev 5 }
-    ensures found { D.tells → let image = as_read (now (D.history devices.old)) in
+    requires { IsPlace (D.state devices.old).sizes dev 5 }
+    ensures found { D.tells → let image = as_read (now (D.state devices.old)) in
         IfOk result (λ session. session ≡ greater (session_at id.now image dev 4) (session_at id.now image dev 5)) }
-    ensures stays { D.tells → StaysSo (D.history devices.old) (D.history devices.new) }
+    ensures stays { D.tells → DisksStay (D.state devices.old) (D.state devices.new) }
     ensures cause { (failed : ℕ) → result ≡ Err (DiskFault.DeviceFault failed) → (failed ≡ dev) × RoseBy 1 (D.faults devices.old) (D.faults devices.new) }
     ensures faults { D.faults devices.old ≤ D.faults devices.new }
     ensures write_faults { D.write_faults devices.new ≡ D.write_faults devices.old }
-    ensures sizes { D.sizes devices.new ≡ D.sizes devices.old }
-    ensures moment { (D.history devices.old).moment ≤ (D.history devices.new).moment }
+    ensures sizes { (D.state devices.new).sizes ≡ (D.state devices.old).sizes }
+    ensures moment { (D.state devices.old).moment ≤ (D.state devices.new).moment }
 {
     let even = read_named(alloc, devices, id, dev, 4)?;
     let odd = read_named(alloc, devices, id, dev, 5)?;
@@ -172,17 +171,17 @@ pub fn read_session<D: Devices>(
     devices: &mut D,
     layout: &Layout,
 ) -> Result<Option<u64>, DiskFault>
-    requires { is_layout_of (D.sizes devices.old) layout.now ≡ true }
-    ensures found { D.tells → IfOk result (λ session. session ≡ session_in layout.now (as_read (now (D.history devices.old)))) }
-    ensures stays { D.tells → StaysSo (D.history devices.old) (D.history devices.new) }
-    ensures cause { (dev : ℕ) → result ≡ Err (DiskFault.DeviceFault dev) → (dev < length (D.sizes devices.old)) × RoseBy 1 (D.faults devices.old) (D.faults devices.new) }
+    requires { is_layout_of (D.state devices.old).sizes layout.now ≡ true }
+    ensures found { D.tells → IfOk result (λ session. session ≡ session_in layout.now (as_read (now (D.state devices.old)))) }
+    ensures stays { D.tells → DisksStay (D.state devices.old) (D.state devices.new) }
+    ensures cause { (dev : ℕ) → result ≡ Err (DiskFault.DeviceFault dev) → (dev < length (D.state devices.old).sizes) × RoseBy 1 (D.faults devices.old) (D.faults devices.new) }
     ensures faults { D.faults devices.old ≤ D.faults devices.new }
     ensures write_faults { D.write_faults devices.new ≡ D.write_faults devices.old }
-    ensures sizes { D.sizes devices.new ≡ D.sizes devices.old }
-    ensures moment { (D.history devices.old).moment ≤ (D.history devices.new).moment }
+    ensures sizes { (D.state devices.new).sizes ≡ (D.state devices.old).sizes }
+    ensures moment { (D.state devices.old).moment ≤ (D.state devices.new).moment }
 {
     let mut greatest = None;
-    for dev in 0..layout.meta {
+    for dev in 0..layout.metadata_replicas {
         let named = read_device(alloc, devices, &layout.id, dev)?;
         greatest = greater(greatest, named);
     }
@@ -196,19 +195,19 @@ pub fn write_session<D: Devices>(
     layout: &Layout,
     session: u64,
 ) -> Result<(), DiskFault>
-    requires { is_layout_of (D.sizes devices.old) layout.now ≡ true }
-    ensures stops { D.tells → LeavesOnly (λ _ image. MayLeaveBut (IsSessionPlace layout.now session) (now (D.history devices.old)) image) (D.history devices.old) (D.history devices.new) }
-    ensures held { D.tells → OnOk result (EachLeft (λ image. (dev : ℕ) → dev < layout.now.meta → session_at layout.now.id image dev (session_place session) ≡ Some session) (D.history devices.new)) }
-    ensures cause { (dev : ℕ) → result ≡ Err (DiskFault.DeviceFault dev) → (dev < length (D.sizes devices.old)) × RoseBy 1 (D.faults devices.old) (D.faults devices.new) × RoseBy 1 (D.write_faults devices.old) (D.write_faults devices.new) }
+    requires { is_layout_of (D.state devices.old).sizes layout.now ≡ true }
+    ensures stops { D.tells → EachCrash (λ _ _ image. IsCrashImageBut (IsSessionPlace layout.now session) (now (D.state devices.old)) image) (D.state devices.old) (D.state devices.new) }
+    ensures held { D.tells → OnOk result (EachCrashNow (λ image. (dev : ℕ) → dev < layout.now.metadata_replicas → session_at layout.now.id image dev (session_place session) ≡ Some session) (D.state devices.new)) }
+    ensures cause { (dev : ℕ) → result ≡ Err (DiskFault.DeviceFault dev) → (dev < length (D.state devices.old).sizes) × RoseBy 1 (D.faults devices.old) (D.faults devices.new) × RoseBy 1 (D.write_faults devices.old) (D.write_faults devices.new) }
     ensures faults { D.faults devices.old ≤ D.faults devices.new }
     ensures write_faults { D.write_faults devices.old ≤ D.write_faults devices.new }
-    ensures sizes { D.sizes devices.new ≡ D.sizes devices.old }
-    ensures moment { (D.history devices.old).moment ≤ (D.history devices.new).moment }
+    ensures sizes { (D.state devices.new).sizes ≡ (D.state devices.old).sizes }
+    ensures moment { (D.state devices.old).moment ≤ (D.state devices.new).moment }
 {
     let block = sealed_session(alloc, &layout.id, session)?;
     write_mirrors(
         devices,
-        layout.meta,
+        layout.metadata_replicas,
         session_place(session),
         block.as_slice(),
     )

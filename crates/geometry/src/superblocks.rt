@@ -5,7 +5,7 @@ ghost use Rattle.sha2.specs.Sha256.{sha256};
 ghost use Rattle.vol_types.specs.Faults.{RoseBy};
 ghost use Rattle.dev_model.specs.Devices.{now};
 ghost use Rattle.dev_model.specs.Disk.{as_read};
-ghost use Rattle.dev_model.specs.Reading.{StaysSo};
+ghost use Rattle.dev_model.specs.Frames.{DisksStay};
 ghost use Rattle.sealed_block.specs.Blocks.{IsInRanges};
 ghost use Rattle.geometry.specs.Layouts.{is_layout, is_layout_of};
 ghost use Rattle.geometry.specs.Superblocks.{IsSuperAnswer};
@@ -57,8 +57,8 @@ fn super_payload(layout: &Layout, dev: u8) -> [u8; 40]
         &[
             blocks.len() as u8,
             dev,
-            layout.meta,
-            layout.replicas,
+            layout.metadata_replicas,
+            layout.data_replicas,
             a,
             b,
             c,
@@ -112,15 +112,15 @@ fn read_copies<D: Devices>(
     alloc: Global,
     devices: &mut D,
 ) -> Result<Option<Vec<SuperCopy>>, DiskFault>
-    ensures found { D.tells → let there = all_there (map counting (as_read (now (D.history devices.old)))) in
+    ensures found { D.tells → let there = all_there (map counting (as_read (now (D.state devices.old)))) in
         IfOk result (λ copies. MatchOption copies (there ≡ None) (λ list. there ≡ Some list.items)) }
     ensures few { IfOk result (λ copies. IfSome copies (λ list. length list.items ≤ 8)) }
-    ensures stays { D.tells → StaysSo (D.history devices.old) (D.history devices.new) }
-    ensures cause { (dev : ℕ) → result ≡ Err (DiskFault.DeviceFault dev) → (dev < length (D.sizes devices.old)) × RoseBy 1 (D.faults devices.old) (D.faults devices.new) }
+    ensures stays { D.tells → DisksStay (D.state devices.old) (D.state devices.new) }
+    ensures cause { (dev : ℕ) → result ≡ Err (DiskFault.DeviceFault dev) → (dev < length (D.state devices.old).sizes) × RoseBy 1 (D.faults devices.old) (D.faults devices.new) }
     ensures faults { D.faults devices.old ≤ D.faults devices.new }
     ensures write_faults { D.write_faults devices.new ≡ D.write_faults devices.old }
-    ensures sizes { D.sizes devices.new ≡ D.sizes devices.old }
-    ensures moment { (D.history devices.old).moment ≤ (D.history devices.new).moment }
+    ensures sizes { (D.state devices.new).sizes ≡ (D.state devices.old).sizes }
+    ensures moment { (D.state devices.old).moment ≤ (D.state devices.new).moment }
 {
     let count = devices.count();
     let mut copies = Vec::new(alloc);
@@ -135,14 +135,14 @@ fn read_copies<D: Devices>(
 
 /// The layout of the volume on the devices. It costs two reads a device, and any that fails ends it.
 pub fn read_super<D: Devices>(alloc: Global, devices: &mut D) -> Result<Layout, SuperFault>
-    ensures found { D.tells → IsSuperAnswer result (layout_in (as_read (now (D.history devices.old)))) }
-    ensures fits { IfOk result (λ layout. is_layout_of (D.sizes devices.new) layout ≡ true) }
-    ensures stays { D.tells → StaysSo (D.history devices.old) (D.history devices.new) }
-    ensures cause { (dev : ℕ) → result ≡ Err (SuperFault.DeviceFault dev) → (dev < length (D.sizes devices.old)) × RoseBy 1 (D.faults devices.old) (D.faults devices.new) }
+    ensures found { D.tells → IsSuperAnswer result (layout_in (as_read (now (D.state devices.old)))) }
+    ensures fits { IfOk result (λ layout. is_layout_of (D.state devices.new).sizes layout ≡ true) }
+    ensures stays { D.tells → DisksStay (D.state devices.old) (D.state devices.new) }
+    ensures cause { (dev : ℕ) → result ≡ Err (SuperFault.DeviceFault dev) → (dev < length (D.state devices.old).sizes) × RoseBy 1 (D.faults devices.old) (D.faults devices.new) }
     ensures faults { D.faults devices.old ≤ D.faults devices.new }
     ensures write_faults { D.write_faults devices.new ≡ D.write_faults devices.old }
-    ensures sizes { D.sizes devices.new ≡ D.sizes devices.old }
-    ensures moment { (D.history devices.old).moment ≤ (D.history devices.new).moment }
+    ensures sizes { (D.state devices.new).sizes ≡ (D.state devices.old).sizes }
+    ensures moment { (D.state devices.old).moment ≤ (D.state devices.new).moment }
 {
     let sizes = sizes_of(alloc, devices)?;
     let Some(copies) = read_copies(alloc, devices)? else {

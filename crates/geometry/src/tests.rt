@@ -24,8 +24,8 @@ fn layout_on(alloc: Global, id: [u8; 16], blocks: &[u32; 2]) -> Result<Layout, A
         id,
         blocks: Blocks::from_slice(alloc, blocks)?,
         journal: 256,
-        meta: 2,
-        replicas: 1,
+        metadata_replicas: 2,
+        data_replicas: 1,
     })
 }
 
@@ -69,8 +69,8 @@ fn odd_copy(alloc: Global, version: u8, payload: &[u8]) -> Result<Bytes, Fail> {
 
 // Sets a block between two sessions.
 fn put(devices: &mut MemDevices, dev: u8, block: u32, bytes: &[u8]) -> Result<(), Fail>
-    requires { NothingPending (now (⟦<MemDevices as Devices>⟧.history devices.old)) }
-    ensures quiet { NothingPending (now (⟦<MemDevices as Devices>⟧.history devices.new)) }
+    requires { NothingPending (now (⟦<MemDevices as Devices>⟧.state devices.old)) }
+    ensures quiet { NothingPending (now (⟦<MemDevices as Devices>⟧.state devices.new)) }
     ensures sizes { ⟦<MemDevices as Devices>⟧.sizes devices.new ≡ ⟦<MemDevices as Devices>⟧.sizes devices.old }
 {
     if dev >= devices.count() || block >= devices.blocks(dev) || bytes.len() != 4096 {
@@ -172,8 +172,8 @@ fn layouts_and_sizes(rt: HostRuntime) -> Result<(), Fail> {
     ] {
         let mut layout = layout_on(alloc, ID, &[1024, 2048])?;
         layout.journal = journal;
-        layout.meta = meta;
-        layout.replicas = replicas;
+        layout.metadata_replicas = meta;
+        layout.data_replicas = replicas;
         assert_eq!(rt; is_layout(&layout), stands);
     }
     let layout = layout_on(alloc, ID, &[1024, 2048])?;
@@ -207,7 +207,7 @@ fn which_copy_counts(rt: HostRuntime) -> Result<(), Fail> {
     ] {
         let layout = layout_on(alloc, ID, &[1024, 1024])?;
         let mut other = layout_on(alloc, ID, &[1024, 1024])?;
-        other.replicas = 2;
+        other.data_replicas = 2;
         let first = [
             copy_of(alloc, &layout, 0, 0, sequences[0])?,
             copy_of(alloc, &other, 0, 8, sequences[1])?,
@@ -272,7 +272,7 @@ fn devices_of_several_volumes(rt: HostRuntime) -> Result<(), Fail> {
         Some(SuperFault::Mixed)
     );
     let mut other = layout_on(alloc, ID, &sizes)?;
-    other.meta = 1;
+    other.metadata_replicas = 1;
     let differing = copies_of(alloc, &other, 1, [1, 1])?;
     assert_eq!(rt;
         said(alloc, sizes, &first, &differing)?.err(),

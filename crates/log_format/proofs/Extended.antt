@@ -7,10 +7,10 @@ use Rattle.std.proofs.lemmas.List.{length-take, length-replicate}
 use Rattle.std.proofs.lemmas.List.Elements.{All-take, All-head, All-tail}
 use Rattle.std.proofs.lemmas.Option.{slice_get_past}
 use Rattle.std.proofs.Common.{length-append}
-use Rattle.dev_model.specs.Disk.{Disk, Image, IsDisk, IsBlock, MayLeave, MayLeaveImage, as_read, block_at, changed, extended, sizes_of, zeros}
-use Rattle.dev_model.specs.Devices.{History, Goes, Is, MayBeExtended, now}
-use Rattle.dev_model.specs.StopLaws.{goes_on}
-use Rattle.dev_model.specs.Stops.{SameBut}
+use Rattle.dev_model.specs.Disk.{Disk, Image, IsDisk, IsBlock, IsCrashOf, IsCrashImage, as_read, block_at, changed, extended, sizes_of, zeros}
+use Rattle.dev_model.specs.Devices.{DevicesState, ChangesDisks, Is, MayBeExtended, now}
+use Rattle.dev_model.specs.CrashLaws.{goes_on}
+use Rattle.dev_model.specs.Crashes.{SameBut}
 use Rattle.log_format.specs.Formatting.{if_so, or_held}
 use Rattle.log_format.specs.Steps.{LeavesBut, Touches, Writes, extension, on_device}
 use Rattle.log_format.proofs.Written.{changed_count, left_count, touches_none}
@@ -46,8 +46,8 @@ most_length : (disk : Disk) (some size : ℕ) → some ≤ size → length disk.
 most_length disk some size le longer = omega (arith, le, longer, length-append disk.blocks (replicate (some - length disk.blocks) zeros), length-replicate (some - length disk.blocks) zeros)
 
 -- During an extension a stop leaves what it might have left before, but for the new blocks.
-extend_leaves : (disk : Disk) (some size : ℕ) → IsDisk disk → some ≤ size → length disk.blocks ≤ size → (left : List (List ℕ)) → MayLeave (extended some disk) left
-    → (before : List (List ℕ)) × MayLeave disk before × ((b : ℕ) → ¬ IsSome (extension (length disk.blocks) size b) → slice_get before b ≡ slice_get left b)
+extend_leaves : (disk : Disk) (some size : ℕ) → IsDisk disk → some ≤ size → length disk.blocks ≤ size → (left : List (List ℕ)) → IsCrashOf (extended some disk) left
+    → (before : List (List ℕ)) × IsCrashOf disk before × ((b : ℕ) → ¬ IsSome (extension (length disk.blocks) size b) → slice_get before b ≡ slice_get left b)
 extend_leaves disk some size is le longer left may =
     let n : ℕ = length disk.blocks in
     let before : List (List ℕ) = take n left in
@@ -94,10 +94,10 @@ same_rest : (device : ℕ) (writes : ℕ → Option (List ℕ)) (x : List (List 
 same_rest device writes x one other same zero b elsewhere = refl
 same_rest device writes x one other same (suc d) b elsewhere = same d b (λ some. elsewhere (subst IsSome (sym (on_next device writes d b)) some))
 
-left_by_extend : (disks : List Disk) (dev some size : ℕ) → All IsDisk disks → some ≤ size → get_or (sizes_of disks) dev 0 ≤ size → (image : Image) → MayLeaveImage (changed dev (extended some) disks) image
-    → (before : Image) × MayLeaveImage disks before × SameBut (λ d b. IsSome (on_device dev (extension (get_or (sizes_of disks) dev 0) size) d b)) before image
+left_by_extend : (disks : List Disk) (dev some size : ℕ) → All IsDisk disks → some ≤ size → get_or (sizes_of disks) dev 0 ≤ size → (image : Image) → IsCrashImage (changed dev (extended some) disks) image
+    → (before : Image) × IsCrashImage disks before × SameBut (λ d b. IsSome (on_device dev (extension (get_or (sizes_of disks) dev 0) size) d b)) before image
 left_by_extend [] dev some size are le longer image may = (image, may, λ d b elsewhere. refl)
-left_by_extend (disk ∷ disks) dev some size are le longer [] may = absurd (elim dev as (λ n. MayLeaveImage (changed n (extended some) (disk ∷ disks)) [] → ⊥) [ zero ↦ λ h. h | suc n ↦ λ h. h ] may)
+left_by_extend (disk ∷ disks) dev some size are le longer [] may = absurd (elim dev as (λ n. IsCrashImage (changed n (extended some) (disk ∷ disks)) [] → ⊥) [ zero ↦ λ h. h | suc n ↦ λ h. h ] may)
 left_by_extend (disk ∷ disks) zero some size are le longer (left ∷ image) may =
     let first = extend_leaves disk some size (All-head IsDisk disk disks are) le longer left may.0 in
     (first.0 ∷ image, (first.1, may.1), same_first (extension (length disk.blocks) size) first.0 left image first.2)
@@ -106,8 +106,8 @@ left_by_extend (disk ∷ disks) (suc dev) some size are le longer (left ∷ imag
     (left ∷ rest.0, (may.0, rest.1), same_rest dev (extension (get_or (sizes_of disks) dev 0) size) left rest.0 image rest.2)
 
 -- An extension touches the new blocks.
-touches_by_extend : {T E : Type 0} (result : Result T E) (dev size : ℕ) (old new : History) → All IsDisk (now old) → get_or (sizes_of (now old)) dev 0 ≤ size
-    → Goes result (MayBeExtended dev size (now old)) (Is (changed dev (extended size) (now old))) old new → Touches (on_device dev (extension (get_or (sizes_of (now old)) dev 0) size)) old new
+touches_by_extend : {T E : Type 0} (result : Result T E) (dev size : ℕ) (old new : DevicesState) → All IsDisk (now old) → get_or (sizes_of (now old)) dev 0 ≤ size
+    → ChangesDisks result (MayBeExtended dev size (now old)) (Is (changed dev (extended size) (now old))) old new → Touches (on_device dev (extension (get_or (sizes_of (now old)) dev 0) size)) old new
 touches_by_extend result dev size old new are longer goes = goes_on result (λ _ image. LeavesBut writes (now old) image) _ _ old old new (touches_none writes old) goes
     (λ m disks image (some : (some : ℕ) × (some ≤ size) × (disks ≡ changed dev (extended some) (now old))) may. here some.0 disks image some.1 some.2 may)
     (λ m disks image is may. here size disks image (omega arith) is may)
@@ -115,9 +115,9 @@ touches_by_extend result dev size old new are longer goes = goes_on result (λ _
     writes : ℕ → ℕ → Option (List ℕ)
     writes = on_device dev (extension (get_or (sizes_of (now old)) dev 0) size)
 
-    here : (some : ℕ) (disks : List Disk) (image : Image) → some ≤ size → disks ≡ changed dev (extended some) (now old) → MayLeaveImage disks image → LeavesBut writes (now old) image
+    here : (some : ℕ) (disks : List Disk) (image : Image) → some ≤ size → disks ≡ changed dev (extended some) (now old) → IsCrashImage disks image → LeavesBut writes (now old) image
     here some disks image le is may =
-        let before = left_by_extend (now old) dev some size are le longer image (subst (λ ds. MayLeaveImage ds image) is may) in
+        let before = left_by_extend (now old) dev some size are le longer image (subst (λ ds. IsCrashImage ds image) is may) in
         record { count = left_count disks image may ∙ ap (λ (ds : List Disk). length ds) is ∙ changed_count dev (extended some) (now old); but = (before.0, before.1, before.2) }
 
 -- Of one disk, zeros are read in the new blocks and elsewhere what was there.
@@ -145,8 +145,8 @@ reads_extended (disk ∷ disks) (suc dev) size (suc d) b within longer =
     ∙ ap (λ held. or_held held (block_at (as_read disks) d b)) (sym (on_next dev (extension (get_or (sizes_of disks) dev 0) size) d b))
 
 -- An extension writes zeros into the new blocks.
-pub writes_by_extend : {T E : Type 0} (result : Result T E) (dev size : ℕ) (old new : History) → All IsDisk (now old) → dev < length (now old) → get_or (sizes_of (now old)) dev 0 ≤ size
-    → Goes result (MayBeExtended dev size (now old)) (Is (changed dev (extended size) (now old))) old new → Writes result (on_device dev (extension (get_or (sizes_of (now old)) dev 0) size)) old new
+pub writes_by_extend : {T E : Type 0} (result : Result T E) (dev size : ℕ) (old new : DevicesState) → All IsDisk (now old) → dev < length (now old) → get_or (sizes_of (now old)) dev 0 ≤ size
+    → ChangesDisks result (MayBeExtended dev size (now old)) (Is (changed dev (extended size) (now old))) old new → Writes result (on_device dev (extension (get_or (sizes_of (now old)) dev 0) size)) old new
 writes_by_extend (Err e) dev size old new are within longer goes = record { touches = touches_by_extend (Err e) dev size old new are longer goes; reads = tt }
 writes_by_extend (Ok x) dev size old new are within longer goes = record {
   touches = touches_by_extend (Ok x) dev size old new are longer goes;

@@ -73,8 +73,8 @@ module _ (layout : Layout) (before : Image) (is : is_layout layout ≡ true) (de
       never true = refl
       never false = refl
 
-  in_prepared : (dev block : ℕ) (bytes : List ℕ) → dev < layout.meta → prepared layout block ≡ Some bytes → held_before layout before Seal dev block ≡ Some bytes
-  in_prepared dev block bytes within is_there = rw (lt-ltb dev layout.meta within) (ap (λ written. or_held written (held_before layout before Prepare dev block)) is_there)
+  in_prepared : (dev block : ℕ) (bytes : List ℕ) → dev < layout.metadata_replicas → prepared layout block ≡ Some bytes → held_before layout before Seal dev block ≡ Some bytes
+  in_prepared dev block bytes within is_there = rw (lt-ltb dev layout.metadata_replicas within) (ap (λ written. or_held written (held_before layout before Prepare dev block)) is_there)
 
   -- Each device is as long as its number of blocks.
   laid_long : (image : Image) → length image ≡ length before → ((dev block : ℕ) → ¬ (block ≡ 0) → ¬ (block ≡ 8) → block_at image dev block ≡ held_before layout before Seal dev block)
@@ -108,7 +108,7 @@ module _ (layout : Layout) (before : Image) (is : is_layout layout ≡ true) (de
       let found : layout_in image ≡ Ok layout = layout_of_copies layout image fits sealed in
       let five : block_at image 0 5 ≡ Some (session_block layout.id 1) = laid 0 5 (λ e. omega (arith, e)) (λ e. omega (arith, e)) ∙ in_prepared 0 5 (session_block layout.id 1) has.mirrored (prepared_five layout 5 refl) in
       let session : IsSome (session_in layout image) = session_is_there layout image 0 1 has.mirrored (ap (option_and_then (session_named layout.id 5)) five ∙ laws.named) in
-      let none : record_at layout image 0 ≡ None = no_records layout 0 image layout.meta (λ dev within.
+      let none : record_at layout image 0 ≡ None = no_records layout 0 image layout.metadata_replicas (λ dev within.
       ap (option_and_then (record_in layout.id 0)) (laid dev 16 (λ e. omega (arith, e)) (λ e. omega (arith, e))
       ∙ in_prepared dev 16 zeros within (prepared_other layout 16 (omega arith) (omega (arith, has.least)) (λ e. omega (arith, e)) (λ e. omega (arith, e)))) ∙ ap (option_and_then _) zeros_closed) in
       ap (mounted_by image) found ∙ mounted_there layout image (session_in layout image) session

@@ -139,7 +139,7 @@ module _ (layout : Layout) (before : Image) where
   cleared_in_prepare dev block place = closed_or block (step_writes layout before Extend dev block) (held_before layout before Extend dev block) (no_copy_if block _) (all_cleared dev block place)
 
   pub nothing_prepared : (dev block : ℕ) → (block ≡ 0) ⊎ (block ≡ 8) → step_writes layout before Prepare dev block ≡ None
-  nothing_prepared dev block place = by_test (nat_lt dev layout.meta) (⊎_elim (λ a. prepared_none layout block (omega (arith, a))) (λ b. prepared_eight layout block b) place)
+  nothing_prepared dev block place = by_test (nat_lt dev layout.metadata_replicas) (⊎_elim (λ a. prepared_none layout block (omega (arith, a))) (λ b. prepared_eight layout block b) place)
     where
       by_test : (test : Bool) → prepared layout block ≡ None → cond test (prepared layout block) None ≡ None
       by_test true is = is

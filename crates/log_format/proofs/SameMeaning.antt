@@ -44,8 +44,8 @@ same_meaning one other layouts same = ap (mounted_by one) layouts ∙ by_layout 
     by_layout : (found : Result Layout SuperFault) → mounted_by one found ≡ mounted_by other found
     by_layout (Err fault) = refl
     by_layout (Ok layout) =
-        let records : record_at layout one ≡ record_at layout other = λ i place. same_record layout place one other layout.meta same i in
-        ap (mounted_if layout one) (same_sessions layout.id one other layout.meta same) ∙ by_session layout records (session_in layout other)
+        let records : record_at layout one ≡ record_at layout other = λ i place. same_record layout place one other layout.metadata_replicas same i in
+        ap (mounted_if layout one) (same_sessions layout.id one other layout.metadata_replicas same) ∙ by_session layout records (session_in layout other)
       where
         by_session : (layout : Layout) → record_at layout one ≡ record_at layout other → (session : Option ℕ) → mounted_if layout one session ≡ mounted_if layout other session
         by_session layout records None = refl

@@ -4,11 +4,11 @@ use Rattle.std.specs.Option.{IsSome, is_some}
 use Rattle.std.proofs.lemmas.Bool.{cases_lt, false≢true}
 use Rattle.std.proofs.lemmas.List.{length-map}
 use Rattle.vol_types.specs.declared.layout.Layout.{Layout}
-use Rattle.dev_model.specs.Disk.{Disk, Image, IsDisk, MayLeaveImage, as_read, block_at}
-use Rattle.dev_model.specs.Devices.{History, now}
-use Rattle.dev_model.specs.StopLaws.{as_read_may_be_left}
-use Rattle.dev_model.specs.Stops.{IsQuiet, LeavesOnly}
-use Rattle.dev_model.specs.Reading.{StaysSo, stays_now}
+use Rattle.dev_model.specs.Disk.{Disk, Image, IsDisk, IsCrashImage, as_read, block_at}
+use Rattle.dev_model.specs.Devices.{DevicesState, now}
+use Rattle.dev_model.specs.CrashLaws.{as_read_may_be_left}
+use Rattle.dev_model.specs.Crashes.{IsQuiet, EachCrash}
+use Rattle.dev_model.specs.FrameLaws.{DisksStay, stays_now}
 use Rattle.log_format.specs.Formatting.{Step, ZeroSpares, held_behind, or_held, step_writes, steps_before}
 use Rattle.log_format.specs.Steps.{AllSettled, Formats, IsOfSome, IsStep, LeavesBut, LeavesSteps, Reached}
 
@@ -17,14 +17,14 @@ pub read_count : (disks : List Disk) → length (as_read disks) ≡ length disks
 read_count disks = length-map {B = List (List ℕ)} disks (λ (disk : Disk). disk.blocks)
 
 -- Before the first call the first step begins.
-pub reached_first : (layout : Layout) (history : History) → Reached layout ZeroSpares history history
+pub reached_first : (layout : Layout) (history : DevicesState) → Reached layout ZeroSpares history history
 reached_first layout history = record {
   leaves = record {
     later = omega arith;
     past = λ m le. refl;
     each = λ m lo hi image may quiet.
         let same : m ≡ history.moment = omega (arith, lo, hi) in
-        let is : image ≡ as_read (now history) = quiet image (subst (λ n. MayLeaveImage (history.disks n) image) same may) in
+        let is : image ≡ as_read (now history) = quiet image (subst (λ n. IsCrashImage (history.disks n) image) same may) in
         record { step = ZeroSpares; of_step = record { count = ap (λ (i : Image). length i) is; others = λ d b none. ap (λ (i : Image). block_at i d b) is } };
   };
   held = λ d b. refl;
@@ -33,22 +33,22 @@ reached_first layout history = record {
 }
 
 -- What holds at each moment of two parts holds of both.
-both_parts : (P : Image → Type 0) (old mid new : History) → LeavesOnly (λ _ image. P image) old mid → (later : mid.moment ≤ new.moment) → ((m : ℕ) → m ≤ mid.moment → new.disks m ≡ mid.disks m)
-    → ((m : ℕ) → mid.moment ≤ m → m ≤ new.moment → (image : Image) → MayLeaveImage (new.disks m) image → P image) → LeavesOnly (λ _ image. P image) old new
+both_parts : (P : Image → Type 0) (old mid new : DevicesState) → EachCrash (λ _ _ image. P image) old mid → (later : mid.moment ≤ new.moment) → ((m : ℕ) → m ≤ mid.moment → new.disks m ≡ mid.disks m)
+    → ((m : ℕ) → mid.moment ≤ m → m ≤ new.moment → (image : Image) → IsCrashImage (new.disks m) image → P image) → EachCrash (λ _ _ image. P image) old new
 both_parts P old mid new so_far later past each = record {
   later = omega (arith, so_far.later, later);
   past = λ m le. past m (omega (arith, le, so_far.later)) ∙ so_far.past m le;
   each = λ m lo hi image may. ⊎_elim
       (λ (behind : mid.moment < m). each m (omega (arith, behind)) hi image may)
-      (λ (before : m ≤ mid.moment). so_far.each m lo before image (subst (λ ds. MayLeaveImage ds image) (past m before) may))
+      (λ (before : m ≤ mid.moment). so_far.each m lo before image (subst (λ ds. IsCrashImage ds image) (past m before) may))
       (cases_lt mid.moment m);
 }
 
 -- Reading leaves the step reached.
-pub reached_reading : (layout : Layout) (step : Step) (old mid new : History) → Reached layout step old mid → StaysSo mid new → Reached layout step old new
+pub reached_reading : (layout : Layout) (step : Step) (old mid new : DevicesState) → Reached layout step old mid → DisksStay mid new → Reached layout step old new
 reached_reading layout step old mid new reached stays = record {
   leaves = both_parts (λ image. IsQuiet (now old) → IsOfSome layout (as_read (now old)) image) old mid new reached.leaves stays.later stays.past
-      (λ m lo hi image may. reached.leaves.each mid.moment reached.leaves.later (omega arith) image (subst (λ ds. MayLeaveImage ds image) (stays.same m lo hi) may));
+      (λ m lo hi image may. reached.leaves.each mid.moment reached.leaves.later (omega arith) image (subst (λ ds. IsCrashImage ds image) (stays.same m lo hi) may));
   held = λ d b. ap (λ (ds : List Disk). block_at (as_read ds) d b) (stays_now mid new stays) ∙ reached.held d b;
   settled = λ quiet. subst AllSettled (sym (stays_now mid new stays)) (reached.settled quiet);
   count = ap (λ (ds : List Disk). length ds) (stays_now mid new stays) ∙ reached.count;
@@ -59,8 +59,8 @@ not_some None is some = false≢true some
 not_some (Some b) is some = absurd (false≢true (sym (ap (λ (o : Option (List ℕ)). is_some o) is)))
 
 -- Writes where the step writes leave only images of the step.
-step_leaves : (layout : Layout) (step : Step) (writes : ℕ → ℕ → Option (List ℕ)) (old mid new : History) → Reached layout step old mid
-    → ((dev block : ℕ) → writes dev block ≡ step_writes layout (as_read (now old)) step dev block) → LeavesOnly (λ _ image. LeavesBut writes (now mid) image) mid new → LeavesSteps layout old new
+step_leaves : (layout : Layout) (step : Step) (writes : ℕ → ℕ → Option (List ℕ)) (old mid new : DevicesState) → Reached layout step old mid
+    → ((dev block : ℕ) → writes dev block ≡ step_writes layout (as_read (now old)) step dev block) → EachCrash (λ _ _ image. LeavesBut writes (now mid) image) mid new → LeavesSteps layout old new
 step_leaves layout step writes old mid new reached same touches =
     both_parts (λ image. IsQuiet (now old) → IsOfSome layout (as_read (now old)) image) old mid new reached.leaves touches.later touches.past
     (λ m lo hi image may quiet.
@@ -74,11 +74,11 @@ step_leaves layout step writes old mid new reached same touches =
       };
     })
 
-left_is_read : (disks : List Disk) → All IsDisk disks → MayLeaveImage disks (as_read disks)
+left_is_read : (disks : List Disk) → All IsDisk disks → IsCrashImage disks (as_read disks)
 left_is_read disks are = as_read_may_be_left disks are
 
 -- Behind a step the next one begins.
-pub step_taken : {T E : Type 0} (result : Result T E) (layout : Layout) (step next : Step) (writes : ℕ → ℕ → Option (List ℕ)) (old mid new : History) → All IsDisk (now new) → steps_before next ≡ step ∷ steps_before step
+pub step_taken : {T E : Type 0} (result : Result T E) (layout : Layout) (step next : Step) (writes : ℕ → ℕ → Option (List ℕ)) (old mid new : DevicesState) → All IsDisk (now new) → steps_before next ≡ step ∷ steps_before step
     → Reached layout step old mid → ((dev block : ℕ) → writes dev block ≡ step_writes layout (as_read (now old)) step dev block) → IsStep result writes mid new → Formats result layout next old new
 step_taken (Err e) layout step next writes old mid new are follows reached same taken = record { leaves = step_leaves layout step writes old mid new reached same taken.writes_so.touches; reached = tt }
 step_taken (Ok x) layout step next writes old mid new are follows reached same taken = record {

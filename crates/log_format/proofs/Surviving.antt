@@ -1,13 +1,13 @@
+use Rattle.dev_model.specs.Crashes.{EachCrashNow}
 -- What the calls write is what the steps write, and so a stop leaves only what formatting may leave.
 use Rattle.std.proofs.Common.{◌≡◌, ℕ, zero, suc, ◌-◌, ◌<◌, ◌≤◌, Bool, true, false, ◌&&◌, List, [], ◌∷◌, length, get_or, Some, None, Result, Ok, Err, inl, ⊎_elim, refl, ap, ◌∙◌, sym, subst, arith}
 use Rattle.std.specs.Prelude.{IsErr, OnOk, nat_lt, nat_le, ◌==◌}
 use Rattle.std.proofs.lemmas.Bool.{cases_lt, lt-ltb, le-ltb, false≢true}
 use Rattle.vol_types.specs.declared.layout.Layout.{Layout}
-use Rattle.dev_model.specs.Disk.{Disk, Image, MayLeaveImage, as_read, block_at, blocks_of, sizes_of, zeros}
-use Rattle.dev_model.specs.Devices.{History, now}
-use Rattle.dev_model.specs.Reading.{StaysSo}
+use Rattle.dev_model.specs.Disk.{Disk, Image, IsCrashImage, as_read, block_at, blocks_of, sizes_of, zeros}
+use Rattle.dev_model.specs.Devices.{DevicesState, now}
+use Rattle.dev_model.specs.Frames.{DisksStay}
 use Rattle.geometry.specs.Layouts.{is_layout}
-use Rattle.geometry.specs.Mirrors.{EachLeft}
 use Rattle.geometry.specs.Sessions.{session_block, session_named}
 use Rattle.geometry.specs.Superblocks.{copy_in, super_block, super_copy}
 use Rattle.log_records.specs.Found.{mounts}
@@ -65,20 +65,20 @@ sealing_writes layout before count dev block = ⊎_elim
     (cases_lt dev (length before))
 
 -- A part that failed leaves only images of the steps, whatever was to be reached.
-pub formats_failed : {T F E G : Type 0} (out : Result T G) (result : Result F E) (layout : Layout) (step other : Step) (old new : History) → IsErr out → Formats result layout step old new → Formats out layout other old new
+pub formats_failed : {T F E G : Type 0} (out : Result T G) (result : Result F E) (layout : Layout) (step other : Step) (old new : DevicesState) → IsErr out → Formats result layout step old new → Formats out layout other old new
 formats_failed (Ok x) result layout step other old new is formats = absurd (false≢true is)
 formats_failed (Err e) result layout step other old new is formats = record { leaves = formats.leaves; reached = tt }
 
 -- Where a stop leaves only images of the steps, it leaves only what formatting may leave.
-pub survives_by_steps : (layout : Layout) (old new : History) → is_layout layout ≡ true → length layout.blocks ≡ length (as_read (now old)) → HasLaws layout → LeavesSteps layout old new → FormatSurvives layout old new
+pub survives_by_steps : (layout : Layout) (old new : DevicesState) → is_layout layout ≡ true → length layout.blocks ≡ length (as_read (now old)) → HasLaws layout → LeavesSteps layout old new → FormatSurvives layout old new
 survives_by_steps layout old new is count laws leaves quiet moment lo hi image may =
     let some = leaves.each moment lo hi image may quiet in
     record { step = some.step; of_step = some.of_step; means = step_means layout (as_read (now old)) is count laws some.step image some.of_step }
 
 -- Devices that were only read survive: each image is what it was.
-pub survives_untouched : (layout : Layout) (old new : History) → StaysSo old new → FormatSurvives layout old new
+pub survives_untouched : (layout : Layout) (old new : DevicesState) → DisksStay old new → FormatSurvives layout old new
 survives_untouched layout old new stays quiet moment lo hi image may =
-    let is : image ≡ as_read (now old) = quiet image (subst (λ ds. MayLeaveImage ds image) (stays.same moment lo hi) may) in
+    let is : image ≡ as_read (now old) = quiet image (subst (λ ds. IsCrashImage ds image) (stays.same moment lo hi) may) in
     record {
       step = ZeroSpares;
       of_step = record { count = ap (λ (i : Image). length i) is; others = λ d b none. ap (λ (i : Image). block_at i d b) is };
@@ -86,8 +86,8 @@ survives_untouched layout old new stays quiet moment lo hi image may =
     }
 
 -- Where all steps were taken, each image left is the fresh volume.
-pub done_by : {T E : Type 0} (result : Result T E) (layout : Layout) (old new : History) → is_layout layout ≡ true → length layout.blocks ≡ length (as_read (now old)) → HasLaws layout → Formats result layout Done old new
-    → OnOk result (EachLeft (λ image. mounts image ≡ Ok (fresh_volume layout)) new)
+pub done_by : {T E : Type 0} (result : Result T E) (layout : Layout) (old new : DevicesState) → is_layout layout ≡ true → length layout.blocks ≡ length (as_read (now old)) → HasLaws layout → Formats result layout Done old new
+    → OnOk result (EachCrashNow (λ image. mounts image ≡ Ok (fresh_volume layout)) new)
 done_by (Err e) layout old new is count laws formats = tt
 done_by (Ok x) layout old new is count laws formats =
     let reached = formats.reached.0 in

@@ -3,17 +3,17 @@ use Rattle.std.proofs.Common.{◌≡◌, ℕ, zero, suc, ◌+◌, ◌<◌, ◌�
 use Rattle.std.specs.Prelude.{OnOk, IsErr, nat_lt, ◌==◌}
 use Rattle.std.specs.Option.{IsSome, is_some}
 use Rattle.std.proofs.lemmas.Bool.{cases_Bool, cases_eq, cases_lt, eq-eqb, ne_eqb, lt-ltb, le-ltb, false≢true}
-use Rattle.dev_model.specs.Disk.{Disk, Image, IsDisk, IsBlock, MayLeaveImage, as_read, block_at, changed, sizes_of, written}
-use Rattle.dev_model.specs.Devices.{History, Goes, Is, MayBeWritten, now}
-use Rattle.dev_model.specs.Stops.{LeavesOnly, IsAt}
-use Rattle.dev_model.specs.StopLaws.{started, goes_on}
-use Rattle.dev_model.specs.LeftDisks.{left_by_write}
+use Rattle.dev_model.specs.Disk.{Disk, Image, IsDisk, IsBlock, IsCrashImage, as_read, block_at, changed, sizes_of, written}
+use Rattle.dev_model.specs.Devices.{DevicesState, ChangesDisks, Is, MayBeWritten, now}
+use Rattle.dev_model.specs.Crashes.{EachCrash, IsAt}
+use Rattle.dev_model.specs.CrashLaws.{started, goes_on}
+use Rattle.dev_model.specs.CrashDisks.{left_by_write}
 use Rattle.dev_model.specs.PlaceLaws.{IsSettled, reads_written, reads_written_elsewhere}
 use Rattle.log_format.specs.Formatting.{if_so, or_held}
 use Rattle.log_format.specs.Steps.{AllSettled, IsStep, LeavesBut, Reads, Touches, Writes, Wrote, if_there, in_block, in_first, on_device, on_first}
 
 -- A stop leaves something of each disk.
-pub left_count : (disks : List Disk) (image : Image) → MayLeaveImage disks image → length image ≡ length disks
+pub left_count : (disks : List Disk) (image : Image) → IsCrashImage disks image → length image ≡ length disks
 left_count [] [] may = refl
 left_count [] (x ∷ image) may = absurd may
 left_count (disk ∷ disks) [] may = absurd may
@@ -25,7 +25,7 @@ changed_count zero change (disk ∷ disks) = refl
 changed_count (suc dev) change (disk ∷ disks) = ap suc (changed_count dev change disks)
 
 -- What a stop may leave, it may leave wherever something is written.
-pub leaves_itself : (writes : ℕ → ℕ → Option (List ℕ)) (disks : List Disk) (image : Image) → MayLeaveImage disks image → LeavesBut writes disks image
+pub leaves_itself : (writes : ℕ → ℕ → Option (List ℕ)) (disks : List Disk) (image : Image) → IsCrashImage disks image → LeavesBut writes disks image
 leaves_itself writes disks image may = record { count = left_count disks image may; but = (image, may, λ d b elsewhere. refl) }
 
 -- One set of writes is part of another.
@@ -34,7 +34,7 @@ IsPart few many = (dev block : ℕ) → IsSome (few dev block) → IsSome (many 
 
 -- What a stop leaves after one part and then another.
 leaves_then : (first second all : ℕ → ℕ → Option (List ℕ)) (old mid : List Disk) (image : Image)
-    → IsPart first all → IsPart second all → ((before : Image) → MayLeaveImage mid before → LeavesBut first old before) → LeavesBut second mid image → LeavesBut all old image
+    → IsPart first all → IsPart second all → ((before : Image) → IsCrashImage mid before → LeavesBut first old before) → LeavesBut second mid image → LeavesBut all old image
 leaves_then first second all old mid image one two before leaves =
     let middle = leaves.but in
     let start = before middle.0 middle.1 in
@@ -47,22 +47,22 @@ leaves_more : (few many : ℕ → ℕ → Option (List ℕ)) (old : List Disk) (
 leaves_more few many old image part leaves = record { count = leaves.count; but = (leaves.but.0, leaves.but.1, λ d b elsewhere. leaves.but.2 d b (λ is. elsewhere (part d b is))) }
 
 -- Before the first call nothing is touched.
-pub touches_none : (writes : ℕ → ℕ → Option (List ℕ)) (history : History) → Touches writes history history
-touches_none writes history = started (λ _ image. LeavesBut writes (now history) image) history (leaves_itself writes (now history))
+pub touches_none : (writes : ℕ → ℕ → Option (List ℕ)) (history : DevicesState) → Touches writes history history
+touches_none writes history = started (λ _ _ image. LeavesBut writes (now history) image) history (leaves_itself writes (now history))
 
 -- One part after another touches what both write.
-pub touches_then : (first second all : ℕ → ℕ → Option (List ℕ)) (old mid new : History) → IsPart first all → IsPart second all → Touches first old mid → Touches second mid new → Touches all old new
+pub touches_then : (first second all : ℕ → ℕ → Option (List ℕ)) (old mid new : DevicesState) → IsPart first all → IsPart second all → Touches first old mid → Touches second mid new → Touches all old new
 touches_then first second all old mid new one two so_far then = record {
   later = omega (arith, so_far.later, then.later);
   past = λ m le. then.past m (omega (arith, le, so_far.later)) ∙ so_far.past m le;
   each = λ m lo hi image may. ⊎_elim
       (λ (later : mid.moment < m). leaves_then first second all (now old) (now mid) image one two (λ before. so_far.each mid.moment so_far.later (omega arith) before) (then.each m (omega (arith, later)) hi image may))
-      (λ (earlier : m ≤ mid.moment). leaves_more first all (now old) image one (so_far.each m lo earlier image (subst (λ ds. MayLeaveImage ds image) (then.past m earlier) may)))
+      (λ (earlier : m ≤ mid.moment). leaves_more first all (now old) image one (so_far.each m lo earlier image (subst (λ ds. IsCrashImage ds image) (then.past m earlier) may)))
       (cases_lt mid.moment m);
 }
 
 -- More may be touched.
-pub touches_more : (few many : ℕ → ℕ → Option (List ℕ)) (old new : History) → IsPart few many → Touches few old new → Touches many old new
+pub touches_more : (few many : ℕ → ℕ → Option (List ℕ)) (old new : DevicesState) → IsPart few many → Touches few old new → Touches many old new
 touches_more few many old new part touches = record {
   later = touches.later;
   past = touches.past;
@@ -70,7 +70,7 @@ touches_more few many old new part touches = record {
 }
 
 -- Flushes touch nothing.
-pub touches_by_flushes : (writes : ℕ → ℕ → Option (List ℕ)) (old new : History) → LeavesOnly (λ _ image. MayLeaveImage (now old) image) old new → Touches writes old new
+pub touches_by_flushes : (writes : ℕ → ℕ → Option (List ℕ)) (old new : DevicesState) → EachCrash (λ _ _ image. IsCrashImage (now old) image) old new → Touches writes old new
 touches_by_flushes writes old new only = record {
   later = only.later;
   past = only.past;
@@ -78,7 +78,7 @@ touches_by_flushes writes old new only = record {
 }
 
 -- Where nothing is written, nothing is left to be read that wasn't.
-pub reads_none : (writes : ℕ → ℕ → Option (List ℕ)) (history : History) → ((dev block : ℕ) → writes dev block ≡ None) → Reads writes history history
+pub reads_none : (writes : ℕ → ℕ → Option (List ℕ)) (history : DevicesState) → ((dev block : ℕ) → writes dev block ≡ None) → Reads writes history history
 reads_none writes history none dev block = sym (ap (λ bytes. or_held bytes (block_at (as_read (now history)) dev block)) (none dev block))
 
 pub or_held_twice : (second first there : Option (List ℕ)) → or_held second (or_held first there) ≡ or_held (or_held second first) there
@@ -89,7 +89,7 @@ or_held_twice (Some bytes) first there = refl
 abbrev pub IsThen : (ℕ → ℕ → Option (List ℕ)) → (ℕ → ℕ → Option (List ℕ)) → (ℕ → ℕ → Option (List ℕ)) → Type 0
 IsThen first second all = (dev block : ℕ) → all dev block ≡ or_held (second dev block) (first dev block)
 
-pub reads_then : (first second all : ℕ → ℕ → Option (List ℕ)) (old mid new : History) → IsThen first second all → Reads first old mid → Reads second mid new → Reads all old new
+pub reads_then : (first second all : ℕ → ℕ → Option (List ℕ)) (old mid new : DevicesState) → IsThen first second all → Reads first old mid → Reads second mid new → Reads all old new
 reads_then first second all old mid new is one two dev block =
     two dev block ∙ ap (or_held (second dev block)) (one dev block) ∙ or_held_twice (second dev block) (first dev block) (block_at (as_read (now old)) dev block) ∙ ap (λ bytes. or_held bytes (block_at (as_read (now old)) dev block)) (sym (is dev block))
 
@@ -108,11 +108,11 @@ pub second_is_part : (first second all : ℕ → ℕ → Option (List ℕ)) → 
 second_is_part first second all is dev block = second_part (first dev block) (second dev block) (all dev block) (is dev block)
 
 -- Where nothing is written, all of it was.
-pub wrote_none : (writes : ℕ → ℕ → Option (List ℕ)) (history : History) → ((dev block : ℕ) → writes dev block ≡ None) → Wrote writes history history
+pub wrote_none : (writes : ℕ → ℕ → Option (List ℕ)) (history : DevicesState) → ((dev block : ℕ) → writes dev block ≡ None) → Wrote writes history history
 wrote_none writes history none = record { touches = touches_none writes history; reads = reads_none writes history none }
 
 -- All parts that were written, wherever the last one ends.
-pub writes_then : {T E : Type 0} (result : Result T E) (first second all : ℕ → ℕ → Option (List ℕ)) (old mid new : History) → IsThen first second all → Wrote first old mid → Writes result second mid new → Writes result all old new
+pub writes_then : {T E : Type 0} (result : Result T E) (first second all : ℕ → ℕ → Option (List ℕ)) (old mid new : DevicesState) → IsThen first second all → Wrote first old mid → Writes result second mid new → Writes result all old new
 writes_then (Err e) first second all old mid new is so_far then = record {
   touches = touches_then first second all old mid new (first_is_part first second all is) (second_is_part first second all is) so_far.touches then.touches;
   reads = tt;
@@ -123,7 +123,7 @@ writes_then (Ok x) first second all old mid new is so_far then = record {
 }
 
 -- A part of the writes, which failed, is part of all.
-pub failed_part : {T F E G : Type 0} (out : Result T G) (result : Result F E) (first second all : ℕ → ℕ → Option (List ℕ)) (old mid new : History) → IsErr out → IsPart first all → IsPart second all → Wrote first old mid → Writes result second mid new → Writes out all old new
+pub failed_part : {T F E G : Type 0} (out : Result T G) (result : Result F E) (first second all : ℕ → ℕ → Option (List ℕ)) (old mid new : DevicesState) → IsErr out → IsPart first all → IsPart second all → Wrote first old mid → Writes result second mid new → Writes out all old new
 failed_part (Ok x) result first second all old mid new is one two so_far then = absurd (false≢true is)
 failed_part (Err e) result first second all old mid new is one two so_far then = record {
   touches = touches_then first second all old mid new one two so_far.touches then.touches;
@@ -131,24 +131,24 @@ failed_part (Err e) result first second all old mid new is one two so_far then =
 }
 
 -- One part more was written.
-pub wrote_next : (first second all : ℕ → ℕ → Option (List ℕ)) (old mid new : History) → IsThen first second all → Wrote first old mid → Touches second mid new → Reads second mid new → Wrote all old new
+pub wrote_next : (first second all : ℕ → ℕ → Option (List ℕ)) (old mid new : DevicesState) → IsThen first second all → Wrote first old mid → Touches second mid new → Reads second mid new → Wrote all old new
 wrote_next first second all old mid new is so_far touches reads = record {
   touches = touches_then first second all old mid new (first_is_part first second all is) (second_is_part first second all is) so_far.touches touches;
   reads = reads_then first second all old mid new is so_far.reads reads;
 }
 
 -- Two parts that were written one after the other.
-pub wrote_also : (first second all : ℕ → ℕ → Option (List ℕ)) (old mid new : History) → IsThen first second all → Wrote first old mid → Wrote second mid new → Wrote all old new
+pub wrote_also : (first second all : ℕ → ℕ → Option (List ℕ)) (old mid new : DevicesState) → IsThen first second all → Wrote first old mid → Wrote second mid new → Wrote all old new
 wrote_also first second all old mid new is so_far then = wrote_next first second all old mid new is so_far then.touches then.reads
 
 -- The same writes under another name.
-pub wrote_alike : (one other : ℕ → ℕ → Option (List ℕ)) (old new : History) → ((dev block : ℕ) → one dev block ≡ other dev block) → Wrote one old new → Wrote other old new
+pub wrote_alike : (one other : ℕ → ℕ → Option (List ℕ)) (old new : DevicesState) → ((dev block : ℕ) → one dev block ≡ other dev block) → Wrote one old new → Wrote other old new
 wrote_alike one other old new same wrote = record {
   touches = touches_more one other old new (λ d b some. subst IsSome (same d b) some) wrote.touches;
   reads = λ d b. wrote.reads d b ∙ ap (λ bytes. or_held bytes (block_at (as_read (now old)) d b)) (same d b);
 }
 
-pub writes_alike : {T E : Type 0} (result : Result T E) (one other : ℕ → ℕ → Option (List ℕ)) (old new : History) → ((dev block : ℕ) → one dev block ≡ other dev block) → Writes result one old new → Writes result other old new
+pub writes_alike : {T E : Type 0} (result : Result T E) (one other : ℕ → ℕ → Option (List ℕ)) (old new : DevicesState) → ((dev block : ℕ) → one dev block ≡ other dev block) → Writes result one old new → Writes result other old new
 writes_alike (Err e) one other old new same writes = record { touches = touches_more one other old new (λ d b some. subst IsSome (same d b) some) writes.touches; reads = tt }
 writes_alike (Ok x) one other old new same writes = record {
   touches = touches_more one other old new (λ d b some. subst IsSome (same d b) some) writes.touches;
@@ -156,7 +156,7 @@ writes_alike (Ok x) one other old new same writes = record {
 }
 
 -- What was written where all succeeds.
-pub writes_all : {T E : Type 0} (x : T) (writes : ℕ → ℕ → Option (List ℕ)) (old new : History) → Wrote writes old new → Writes {E = E} (Ok x) writes old new
+pub writes_all : {T E : Type 0} (x : T) (writes : ℕ → ℕ → Option (List ℕ)) (old new : DevicesState) → Wrote writes old new → Writes {E = E} (Ok x) writes old new
 writes_all x writes old new wrote = record { touches = wrote.touches; reads = wrote.reads }
 
 -- One device more.
@@ -203,20 +203,20 @@ at_or_none device place bytes dev block = ⊎_elim
 is_written_at : (device place : ℕ) (bytes : List ℕ) (dev block : ℕ) → IsAt device place dev block → IsSome (on_device device (in_block place (Some bytes)) dev block)
 is_written_at device place bytes dev block at = rw (eq-eqb dev device at.0, eq-eqb block place at.1) refl
 
-leaves_written : (disks : List Disk) (device place : ℕ) (bytes any : List ℕ) → All IsDisk disks → (new : List Disk) (image : Image) → new ≡ changed device (written place any) disks → MayLeaveImage new image → LeavesBut (on_device device (in_block place (Some bytes))) disks image
+leaves_written : (disks : List Disk) (device place : ℕ) (bytes any : List ℕ) → All IsDisk disks → (new : List Disk) (image : Image) → new ≡ changed device (written place any) disks → IsCrashImage new image → LeavesBut (on_device device (in_block place (Some bytes))) disks image
 leaves_written disks device place bytes any are new image is may =
-    let before = left_by_write disks device place any are image (subst (λ ds. MayLeaveImage ds image) is may) in
+    let before = left_by_write disks device place any are image (subst (λ ds. IsCrashImage ds image) is may) in
     record {
       count = left_count new image may ∙ ap (λ (ds : List Disk). length ds) is ∙ changed_count device (written place any) disks;
       but = (before.0, before.1, λ d b elsewhere. before.2 d b (λ at. elsewhere (is_written_at device place bytes d b at)));
     }
 
-leaves_as_before : (writes : ℕ → ℕ → Option (List ℕ)) (disks new : List Disk) (image : Image) → new ≡ disks → MayLeaveImage new image → LeavesBut writes disks image
-leaves_as_before writes disks new image is may = leaves_itself writes disks image (subst (λ ds. MayLeaveImage ds image) is may)
+leaves_as_before : (writes : ℕ → ℕ → Option (List ℕ)) (disks new : List Disk) (image : Image) → new ≡ disks → IsCrashImage new image → LeavesBut writes disks image
+leaves_as_before writes disks new image is may = leaves_itself writes disks image (subst (λ ds. IsCrashImage ds image) is may)
 
 -- A write touches its place.
-pub touches_by_write : {T E : Type 0} (result : Result T E) (device place : ℕ) (bytes : List ℕ) (old new : History) → All IsDisk (now old)
-    → Goes result (MayBeWritten device place (now old)) (Is (changed device (written place bytes) (now old))) old new → Touches (on_device device (in_block place (Some bytes))) old new
+pub touches_by_write : {T E : Type 0} (result : Result T E) (device place : ℕ) (bytes : List ℕ) (old new : DevicesState) → All IsDisk (now old)
+    → ChangesDisks result (MayBeWritten device place (now old)) (Is (changed device (written place bytes) (now old))) old new → Touches (on_device device (in_block place (Some bytes))) old new
 touches_by_write result device place bytes old new are goes = goes_on result (λ _ image. LeavesBut writes (now old) image) _ _ old old new (touches_none writes old) goes
     (λ m disks image maybe may. ⊎_elim (λ same. leaves_as_before writes (now old) disks image same may) (λ (spoilt : (any : List ℕ) × IsBlock any × (disks ≡ changed device (written place any) (now old))). leaves_written (now old) device place bytes spoilt.0 are disks image spoilt.2 may) maybe)
     (λ m disks image is may. leaves_written (now old) device place bytes bytes are disks image is may)
@@ -224,7 +224,7 @@ touches_by_write result device place bytes old new are goes = goes_on result (λ
     writes : ℕ → ℕ → Option (List ℕ)
     writes = on_device device (in_block place (Some bytes))
 
-reads_by_write : (device place : ℕ) (bytes : List ℕ) (old new : History) → place < get_or (sizes_of (now old)) device 0 → now new ≡ changed device (written place bytes) (now old) → Reads (on_device device (in_block place (Some bytes))) old new
+reads_by_write : (device place : ℕ) (bytes : List ℕ) (old new : DevicesState) → place < get_or (sizes_of (now old)) device 0 → now new ≡ changed device (written place bytes) (now old) → Reads (on_device device (in_block place (Some bytes))) old new
 reads_by_write device place bytes old new within is dev block = ap (λ (ds : List Disk). block_at (as_read ds) dev block) is ∙ ⊎_elim
     (λ (here : (dev ≡ device) × (block ≡ place) × (on_device device (in_block place (Some bytes)) dev block ≡ Some bytes)).
     ap (λ (d : ℕ). block_at (as_read after) d block) here.0 ∙ ap (block_at (as_read after) device) here.1 ∙ reads_written (now old) device place bytes within
@@ -237,8 +237,8 @@ reads_by_write device place bytes old new within is dev block = ap (λ (ds : Lis
     after = changed device (written place bytes) (now old)
 
 -- A write writes its bytes at its place.
-pub writes_by_write : {T E : Type 0} (result : Result T E) (device place : ℕ) (bytes : List ℕ) (old new : History) → All IsDisk (now old) → place < get_or (sizes_of (now old)) device 0
-    → Goes result (MayBeWritten device place (now old)) (Is (changed device (written place bytes) (now old))) old new → Writes result (on_device device (in_block place (Some bytes))) old new
+pub writes_by_write : {T E : Type 0} (result : Result T E) (device place : ℕ) (bytes : List ℕ) (old new : DevicesState) → All IsDisk (now old) → place < get_or (sizes_of (now old)) device 0
+    → ChangesDisks result (MayBeWritten device place (now old)) (Is (changed device (written place bytes) (now old))) old new → Writes result (on_device device (in_block place (Some bytes))) old new
 writes_by_write (Err e) device place bytes old new are within goes = record { touches = touches_by_write (Err e) device place bytes old new are goes; reads = tt }
 writes_by_write (Ok x) device place bytes old new are within goes = record { touches = touches_by_write (Ok x) device place bytes old new are goes; reads = reads_by_write device place bytes old new within goes.after }
 
@@ -259,8 +259,8 @@ all_settled disks count most settled image may dev block = ⊎_elim
     read_count (disk ∷ disks) = ap suc (read_count disks)
 
 -- The flushes behind writes that succeeded make a step of them.
-pub step_by_flushes : {T E : Type 0} (result : Result T E) (writes : ℕ → ℕ → Option (List ℕ)) (old mid new : History) (count : ℕ) → Wrote writes old mid → length (now new) ≤ count
-    → LeavesOnly (λ _ image. MayLeaveImage (now mid) image) mid new → ((dev block : ℕ) → block_at (as_read (now new)) dev block ≡ block_at (as_read (now mid)) dev block)
+pub step_by_flushes : {T E : Type 0} (result : Result T E) (writes : ℕ → ℕ → Option (List ℕ)) (old mid new : DevicesState) (count : ℕ) → Wrote writes old mid → length (now new) ≤ count
+    → EachCrash (λ _ _ image. IsCrashImage (now mid) image) mid new → ((dev block : ℕ) → block_at (as_read (now new)) dev block ≡ block_at (as_read (now mid)) dev block)
     → OnOk result ((dev : ℕ) → dev < count → IsSettled (now new) dev) → IsStep result writes old new
 step_by_flushes (Err e) writes old mid new count wrote most only reads settled = record {
   writes_so = record { touches = touches_then writes writes writes old mid new (λ d b some. some) (λ d b some. some) wrote.touches (touches_by_flushes writes mid new only); reads = tt };
@@ -275,7 +275,7 @@ step_by_flushes (Ok x) writes old mid new count wrote most only reads settled = 
 }
 
 -- A step that failed while it wrote.
-pub step_failed : {T F E G : Type 0} (out : Result T G) (result : Result F E) (first second all : ℕ → ℕ → Option (List ℕ)) (old mid new : History) → IsErr out → IsPart first all → IsPart second all → Wrote first old mid → Writes result second mid new → IsStep out all old new
+pub step_failed : {T F E G : Type 0} (out : Result T G) (result : Result F E) (first second all : ℕ → ℕ → Option (List ℕ)) (old mid new : DevicesState) → IsErr out → IsPart first all → IsPart second all → Wrote first old mid → Writes result second mid new → IsStep out all old new
 step_failed (Ok x) result first second all old mid new is one two so_far then = absurd (false≢true is)
 step_failed (Err e) result first second all old mid new is one two so_far then = record { writes_so = failed_part (Err e) result first second all old mid new is one two so_far then; settled = tt }
 
@@ -332,12 +332,12 @@ disk_count [] = refl
 disk_count (disk ∷ disks) = ap suc (disk_count disks)
 
 -- Where a call handed its outcome on, it wrote the same.
-pub as_ok : {T E F G : Type 0} (result : Result T E) (x : T) (y : F) (writes : ℕ → ℕ → Option (List ℕ)) (old new : History) → result ≡ Ok x → Writes result writes old new → Writes {E = G} (Ok y) writes old new
+pub as_ok : {T E F G : Type 0} (result : Result T E) (x : T) (y : F) (writes : ℕ → ℕ → Option (List ℕ)) (old new : DevicesState) → result ≡ Ok x → Writes result writes old new → Writes {E = G} (Ok y) writes old new
 as_ok {T} {E} result x y writes old new is wrote =
     let ok : Writes {T = T} {E = E} (Ok x) writes old new = subst (λ (r : Result T E). Writes r writes old new) is wrote in
     record { touches = ok.touches; reads = ok.reads }
 
-pub as_err : {T E F G : Type 0} (result : Result T E) (y : G) (writes : ℕ → ℕ → Option (List ℕ)) (old new : History) → Writes result writes old new → Writes {T = F} (Err y) writes old new
+pub as_err : {T E F G : Type 0} (result : Result T E) (y : G) (writes : ℕ → ℕ → Option (List ℕ)) (old new : DevicesState) → Writes result writes old new → Writes {T = F} (Err y) writes old new
 as_err result y writes old new wrote = record { touches = wrote.touches; reads = tt }
 
 -- Where the bytes are the same, so is what is written.
@@ -406,16 +406,16 @@ one_of_blocks device count writes dev block some = ⊎_elim
     nowhere false is some = some
 
 -- What a call wrote that succeeded.
-pub wrote_by_ok : {T E : Type 0} (result : Result T E) (x : T) (writes : ℕ → ℕ → Option (List ℕ)) (old new : History) → result ≡ Ok x → Writes result writes old new → Wrote writes old new
+pub wrote_by_ok : {T E : Type 0} (result : Result T E) (x : T) (writes : ℕ → ℕ → Option (List ℕ)) (old new : DevicesState) → result ≡ Ok x → Writes result writes old new → Wrote writes old new
 wrote_by_ok {T} {E} result x writes old new is wrote =
     let ok : Writes {T = T} {E = E} (Ok x) writes old new = subst (λ (r : Result T E). Writes r writes old new) is wrote in
     record { touches = ok.touches; reads = ok.reads }
 
 -- A call that failed may be said to write more.
-pub failed_by : {T F E G : Type 0} (out : Result T G) (result : Result F E) (few many : ℕ → ℕ → Option (List ℕ)) (old new : History) → IsErr out → IsPart few many → Writes result few old new → Writes out many old new
+pub failed_by : {T F E G : Type 0} (out : Result T G) (result : Result F E) (few many : ℕ → ℕ → Option (List ℕ)) (old new : DevicesState) → IsErr out → IsPart few many → Writes result few old new → Writes out many old new
 failed_by (Ok x) result few many old new is part writes = absurd (false≢true is)
 failed_by (Err e) result few many old new is part writes = record { touches = touches_more few many old new part writes.touches; reads = tt }
 
 -- Behind a call that succeeded all of it was written.
-pub ok_wrote : {T E : Type 0} (x : T) (writes : ℕ → ℕ → Option (List ℕ)) (old new : History) → Writes {E = E} (Ok x) writes old new → Wrote writes old new
+pub ok_wrote : {T E : Type 0} (x : T) (writes : ℕ → ℕ → Option (List ℕ)) (old new : DevicesState) → Writes {E = E} (Ok x) writes old new → Wrote writes old new
 ok_wrote x writes old new wrote = record { touches = wrote.touches; reads = wrote.reads }

@@ -1,8 +1,8 @@
 -- How devices are formatted: in five steps, each settled before the next begins, and what a stop in one of them leaves.
 use Rattle.std.specs.Prelude.{◌≡◌, ◌⊎◌, ℕ, ◌+◌, ◌-◌, ◌≤◌, Bool, true, false, ◌&&◌, ◌||◌, ◌==◌, not, nat_lt, nat_le, if◌then◌else◌, List, [], ◌∷◌, length, slice_index, Option, Some, None, Ok, IsErr}
-use Rattle.dev_model.specs.Disk.{Image, MayLeaveImage, as_read, block_at, blocks_of, zeros}
-use Rattle.dev_model.specs.Devices.{History, now}
-use Rattle.dev_model.specs.Stops.{IsQuiet}
+use Rattle.dev_model.specs.Disk.{Image, IsCrashImage, as_read, block_at, blocks_of, zeros}
+use Rattle.dev_model.specs.Devices.{DevicesState, now}
+use Rattle.dev_model.specs.Crashes.{IsQuiet}
 use Rattle.vol_types.specs.declared.layout.Layout.{Layout}
 use Rattle.sealed_block.specs.declared.heads.Head.{Head}
 use Rattle.sealed_block.specs.Opening.{opened}
@@ -58,7 +58,7 @@ abbrev pub step_writes : Layout → Image → Step → ℕ → ℕ → Option (L
 step_writes layout before ZeroSpares dev block = zeroed (blocks_of before dev) (spare_block (blocks_of before dev)) block
 step_writes layout before ZeroOthers dev block = zeroed (blocks_of before dev) (other_block (blocks_of before dev)) block
 step_writes layout before Extend dev block = if_so (nat_lt dev (length before) && nat_le (length (blocks_of before dev)) block && nat_lt block (slice_index layout.blocks dev)) zeros
-step_writes layout before Prepare dev block = if nat_lt dev layout.meta then prepared layout block else None
+step_writes layout before Prepare dev block = if nat_lt dev layout.metadata_replicas then prepared layout block else None
 step_writes layout before Seal dev block = if_so (nat_lt dev (length before) && (block == 0 || block == 8)) (super_block layout dev block 1)
 step_writes layout before Done dev block = None
 
@@ -112,7 +112,7 @@ pub record IsFormatImage (layout : Layout) (before image : Image) : Type 0 where
   pub means : HasNoTornMatch layout before step image → MeansOldOrFresh layout before image
 
 -- A stop at each moment of formatting quiet devices leaves only such images.
-abbrev pub FormatSurvives : Layout → History → History → Type 0
+abbrev pub FormatSurvives : Layout → DevicesState → DevicesState → Type 0
 FormatSurvives layout old new =
     IsQuiet (now old) → (moment : ℕ) → old.moment ≤ moment → moment ≤ new.moment
-    → (image : Image) → MayLeaveImage (new.disks moment) image → IsFormatImage layout (as_read (now old)) image
+    → (image : Image) → IsCrashImage (new.disks moment) image → IsFormatImage layout (as_read (now old)) image

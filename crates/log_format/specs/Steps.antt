@@ -3,9 +3,9 @@
 use Rattle.std.specs.Prelude.{◌≡◌, ◌<◌, ℕ, ◌&&◌, ◌||◌, ◌==◌, nat_lt, nat_le, if◌then◌else◌, List, length, slice_index, slice_index_or, Option, Some, None, Result, OnOk}
 use Rattle.std.specs.Option.{IsSome}
 use Rattle.vol_types.specs.declared.layout.Layout.{Layout}
-use Rattle.dev_model.specs.Disk.{Disk, Image, MayLeaveImage, as_read, block_at, blocks_of, zeros}
-use Rattle.dev_model.specs.Devices.{History, now}
-use Rattle.dev_model.specs.Stops.{IsQuiet, LeavesOnly, MayLeaveBut}
+use Rattle.dev_model.specs.Disk.{Disk, Image, IsCrashImage, as_read, block_at, blocks_of, zeros}
+use Rattle.dev_model.specs.Devices.{DevicesState, now}
+use Rattle.dev_model.specs.Crashes.{IsQuiet, EachCrash, IsCrashImageBut}
 use Rattle.geometry.specs.Superblocks.{copy_in, super_block, super_copy}
 use Rattle.log_format.specs.Formatting.{IsOfStep, Step, held_before, if_so, or_held, other_block, spare_block}
 
@@ -51,32 +51,32 @@ pub record AreSupers (layout : Layout) (block : ℕ) (supers : List (List ℕ)) 
 -- The image has as many devices, and holds what a stop might have left before, but where something is written.
 pub record LeavesBut (writes : ℕ → ℕ → Option (List ℕ)) (first : List Disk) (image : Image) : Type 0 where
   pub count : length image ≡ length first
-  pub but : MayLeaveBut (λ dev block. IsSome (writes dev block)) first image
+  pub but : IsCrashImageBut (λ dev block. IsSome (writes dev block)) first image
 
 -- A stop leaves only such images of what was there before.
-abbrev pub Touches : (ℕ → ℕ → Option (List ℕ)) → History → History → Type 0
-Touches writes old new = LeavesOnly (λ _ image. LeavesBut writes (now old) image) old new
+abbrev pub Touches : (ℕ → ℕ → Option (List ℕ)) → DevicesState → DevicesState → Type 0
+Touches writes old new = EachCrash (λ _ _ image. LeavesBut writes (now old) image) old new
 
 -- What was written is read, and elsewhere what was read before.
-abbrev pub Reads : (ℕ → ℕ → Option (List ℕ)) → History → History → Type 0
+abbrev pub Reads : (ℕ → ℕ → Option (List ℕ)) → DevicesState → DevicesState → Type 0
 Reads writes old new = (dev block : ℕ) → block_at (as_read (now new)) dev block ≡ or_held (writes dev block) (block_at (as_read (now old)) dev block)
 
 -- All of it was written.
-pub record Wrote (writes : ℕ → ℕ → Option (List ℕ)) (old new : History) : Type 0 where
+pub record Wrote (writes : ℕ → ℕ → Option (List ℕ)) (old new : DevicesState) : Type 0 where
   pub touches : Touches writes old new
   pub reads : Reads writes old new
 
 -- Nothing else was written, and where the call succeeds all of it.
-pub record Writes {T E : Type 0} (result : Result T E) (writes : ℕ → ℕ → Option (List ℕ)) (old new : History) : Type 0 where
+pub record Writes {T E : Type 0} (result : Result T E) (writes : ℕ → ℕ → Option (List ℕ)) (old new : DevicesState) : Type 0 where
   pub touches : Touches writes old new
   pub reads : OnOk result (Reads writes old new)
 
 -- A stop leaves every place as it is read.
 abbrev pub AllSettled : List Disk → Type 0
-AllSettled disks = (image : Image) → MayLeaveImage disks image → (dev block : ℕ) → block_at image dev block ≡ block_at (as_read disks) dev block
+AllSettled disks = (image : Image) → IsCrashImage disks image → (dev block : ℕ) → block_at image dev block ≡ block_at (as_read disks) dev block
 
 -- The step writes so, and where it succeeds all is settled.
-pub record IsStep {T E : Type 0} (result : Result T E) (writes : ℕ → ℕ → Option (List ℕ)) (old new : History) : Type 0 where
+pub record IsStep {T E : Type 0} (result : Result T E) (writes : ℕ → ℕ → Option (List ℕ)) (old new : DevicesState) : Type 0 where
   pub writes_so : Writes result writes old new
   pub settled : OnOk result (AllSettled (now new))
 
@@ -86,18 +86,18 @@ pub record IsOfSome (layout : Layout) (before image : Image) : Type 0 where
   pub of_step : IsOfStep layout before step image
 
 -- If the disks were quiet at first, a stop leaves only images of the steps.
-abbrev pub LeavesSteps : Layout → History → History → Type 0
-LeavesSteps layout old new = LeavesOnly (λ _ image. IsQuiet (now old) → IsOfSome layout (as_read (now old)) image) old new
+abbrev pub LeavesSteps : Layout → DevicesState → DevicesState → Type 0
+LeavesSteps layout old new = EachCrash (λ _ _ image. IsQuiet (now old) → IsOfSome layout (as_read (now old)) image) old new
 
 -- The devices are formatted up to where this step begins.
-pub record Reached (layout : Layout) (step : Step) (old new : History) : Type 0 where
+pub record Reached (layout : Layout) (step : Step) (old new : DevicesState) : Type 0 where
   pub leaves : LeavesSteps layout old new
   pub held : (dev block : ℕ) → block_at (as_read (now new)) dev block ≡ held_before layout (as_read (now old)) step dev block
   pub settled : IsQuiet (now old) → AllSettled (now new)
   pub count : length (now new) ≡ length (now old)
 
 -- A part of formatting leaves only images of the steps, and where it succeeds, this step is reached, with all settled.
-pub record Formats {T E : Type 0} (result : Result T E) (layout : Layout) (step : Step) (old new : History) : Type 0 where
+pub record Formats {T E : Type 0} (result : Result T E) (layout : Layout) (step : Step) (old new : DevicesState) : Type 0 where
   pub leaves : LeavesSteps layout old new
   pub reached : OnOk result (Reached layout step old new × AllSettled (now new))
 

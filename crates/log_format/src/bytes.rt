@@ -2,7 +2,7 @@ ghost use Rattle.std.specs.Prelude.{◌≡◌, ◌<◌, ◌≤◌, ◌-◌, ℕ,
 ghost use Rattle.vol_types.specs.Faults.{RoseBy};
 ghost use Rattle.dev_model.specs.Devices.{now};
 ghost use Rattle.dev_model.specs.Disk.{as_read, blocks_of, zeros};
-ghost use Rattle.dev_model.specs.Reading.{StaysSo};
+ghost use Rattle.dev_model.specs.Frames.{DisksStay};
 ghost use Rattle.geometry.specs.Layouts.{is_layout};
 ghost use Rattle.geometry.specs.Sessions.{session_block, session_named};
 ghost use Rattle.geometry.specs.Superblocks.{copy_in, super_block, super_copy};
@@ -75,15 +75,15 @@ pub(crate) fn find_spare<D: Devices>(
     devices: &mut D,
     dev: u8,
 ) -> Result<u32, DiskFault>
-    requires { dev < length (D.sizes devices.old) }
-    ensures found { D.tells → IfOk result (λ block. block ≡ spare_block (blocks_of (as_read (now (D.history devices.old))) dev)) }
+    requires { dev < length (D.state devices.old).sizes }
+    ensures found { D.tells → IfOk result (λ block. block ≡ spare_block (blocks_of (as_read (now (D.state devices.old))) dev)) }
     ensures range { IfOk result (λ block. block ≤ 8) }
-    ensures stays { D.tells → StaysSo (D.history devices.old) (D.history devices.new) }
+    ensures stays { D.tells → DisksStay (D.state devices.old) (D.state devices.new) }
     ensures cause { (failed : ℕ) → result ≡ Err (DiskFault.DeviceFault failed) → (failed ≡ dev) × RoseBy 1 (D.faults devices.old) (D.faults devices.new) }
     ensures faults { D.faults devices.old ≤ D.faults devices.new }
     ensures write_faults { D.write_faults devices.new ≡ D.write_faults devices.old }
-    ensures sizes { D.sizes devices.new ≡ D.sizes devices.old }
-    ensures moment { (D.history devices.old).moment ≤ (D.history devices.new).moment }
+    ensures sizes { (D.state devices.new).sizes ≡ (D.state devices.old).sizes }
+    ensures moment { (D.state devices.old).moment ≤ (D.state devices.new).moment }
 {
     match read_counting(alloc, devices, dev)? {
         None => Ok(8),
@@ -93,15 +93,15 @@ pub(crate) fn find_spare<D: Devices>(
 
 /// The blocks of the devices' superblock copies that don't count, in order. It costs two reads a device.
 pub(crate) fn find_spares<D: Devices>(alloc: Global, devices: &mut D) -> Result<Vec<u32>, DiskFault>
-    ensures count { IfOk result (λ spares. length spares.items ≡ length (D.sizes devices.old)) }
-    ensures found { D.tells → IfOk result (λ spares. (dev : ℕ) → dev < length (D.sizes devices.old) → slice_index spares.items dev ≡ spare_block (blocks_of (as_read (now (D.history devices.old))) dev)) }
+    ensures count { IfOk result (λ spares. length spares.items ≡ length (D.state devices.old).sizes) }
+    ensures found { D.tells → IfOk result (λ spares. (dev : ℕ) → dev < length (D.state devices.old).sizes → slice_index spares.items dev ≡ spare_block (blocks_of (as_read (now (D.state devices.old))) dev)) }
     ensures range { IfOk result (λ spares. (dev : ℕ) → slice_index spares.items dev ≤ 8) }
-    ensures stays { D.tells → StaysSo (D.history devices.old) (D.history devices.new) }
-    ensures cause { (dev : ℕ) → result ≡ Err (DiskFault.DeviceFault dev) → (dev < length (D.sizes devices.old)) × RoseBy 1 (D.faults devices.old) (D.faults devices.new) }
+    ensures stays { D.tells → DisksStay (D.state devices.old) (D.state devices.new) }
+    ensures cause { (dev : ℕ) → result ≡ Err (DiskFault.DeviceFault dev) → (dev < length (D.state devices.old).sizes) × RoseBy 1 (D.faults devices.old) (D.faults devices.new) }
     ensures faults { D.faults devices.old ≤ D.faults devices.new }
     ensures write_faults { D.write_faults devices.new ≡ D.write_faults devices.old }
-    ensures sizes { D.sizes devices.new ≡ D.sizes devices.old }
-    ensures moment { (D.history devices.old).moment ≤ (D.history devices.new).moment }
+    ensures sizes { (D.state devices.new).sizes ≡ (D.state devices.old).sizes }
+    ensures moment { (D.state devices.old).moment ≤ (D.state devices.new).moment }
 {
     let count = devices.count();
     let mut spares = Vec::new(alloc);

@@ -1,11 +1,11 @@
+ghost use Rattle.dev_model.specs.Crashes.{EachCrashNow};
 ghost use Rattle.std.specs.Prelude.{◌≡◌, ◌<◌, ◌≤◌, ℕ, true, Ok, Err, OnOk, length};
 ghost use Rattle.vol_types.specs.Faults.{RoseBy};
-ghost use Rattle.dev_model.specs.Devices.{History, now};
+ghost use Rattle.dev_model.specs.Devices.{DevicesState, now};
 ghost use Rattle.dev_model.specs.Disk.{as_read, sizes_of, zeros};
-ghost use Rattle.dev_model.specs.Reading.{StaysSo};
+ghost use Rattle.dev_model.specs.Frames.{DisksStay};
 ghost use Rattle.geometry.specs.Layouts.{is_layout};
 ghost use Rattle.geometry.specs.Sessions.{session_block};
-ghost use Rattle.geometry.specs.Mirrors.{EachLeft};
 ghost use Rattle.log_records.specs.Found.{mounts};
 ghost use Rattle.log_format.specs.Formatting.{Done, Extend, FormatSurvives, fresh_volume};
 ghost use Rattle.log_format.specs.Steps.{ArePlaces, AreSupers, Formats, Reached};
@@ -27,16 +27,16 @@ fn clear_supers<D: Devices>(
 ) -> Result<(), DiskFault>
     requires size { length blank.now ≡ 4096 }
     requires blank { blank.now ≡ zeros }
-    requires spares { length spares.now ≡ length (D.sizes devices.old) }
-    requires others { length others.now ≡ length (D.sizes devices.old) }
-    ensures formats { D.tells → (start : History) → StaysSo start (D.history devices.old) → ArePlaces (as_read (now start)) spares.now others.now → Formats result layout.now Extend start (D.history devices.new) }
-    ensures cause { (dev : ℕ) → result ≡ Err (DiskFault.DeviceFault dev) → (dev < length (D.sizes devices.old)) × RoseBy 1 (D.faults devices.old) (D.faults devices.new) }
+    requires spares { length spares.now ≡ length (D.state devices.old).sizes }
+    requires others { length others.now ≡ length (D.state devices.old).sizes }
+    ensures formats { D.tells → (start : DevicesState) → DisksStay start (D.state devices.old) → ArePlaces (as_read (now start)) spares.now others.now → Formats result layout.now Extend start (D.state devices.new) }
+    ensures cause { (dev : ℕ) → result ≡ Err (DiskFault.DeviceFault dev) → (dev < length (D.state devices.old).sizes) × RoseBy 1 (D.faults devices.old) (D.faults devices.new) }
     ensures faults { D.faults devices.old ≤ D.faults devices.new }
     ensures write_faults { D.write_faults devices.old ≤ D.write_faults devices.new }
-    ensures sizes { D.sizes devices.new ≡ D.sizes devices.old }
-    ensures moment { (D.history devices.old).moment ≤ (D.history devices.new).moment }
+    ensures sizes { (D.state devices.new).sizes ≡ (D.state devices.old).sizes }
+    ensures moment { (D.state devices.old).moment ≤ (D.state devices.new).moment }
 {
-    let _ = layout.meta;
+    let _ = layout.metadata_replicas;
     write_copies(devices, spares, blank)?;
     write_copies(devices, others, blank)
 }
@@ -51,18 +51,18 @@ fn lay_out<D: Devices>(
     seconds: &[Bytes],
 ) -> Result<(), DiskFault>
     requires layout { is_layout layout.now ≡ true }
-    requires count { length layout.now.blocks ≡ length (D.sizes devices.old) }
+    requires count { length layout.now.blocks ≡ length (D.state devices.old).sizes }
     requires size { length blank.now ≡ 4096 }
     requires blank { blank.now ≡ zeros }
     requires session_size { length session.now ≡ 4096 }
     requires session { session.now ≡ session_block layout.now.id 1 }
     requires firsts { AreSupers layout.now 0 firsts.now }
     requires seconds { AreSupers layout.now 8 seconds.now }
-    ensures formats { D.tells → (start : History) → Reached layout.now Extend start (D.history devices.old) → sizes_of (now start) ≡ D.sizes devices.old → Formats result layout.now Done start (D.history devices.new) }
-    ensures cause { (dev : ℕ) → result ≡ Err (DiskFault.DeviceFault dev) → (dev < length (D.sizes devices.old)) × RoseBy 1 (D.faults devices.old) (D.faults devices.new) }
+    ensures formats { D.tells → (start : DevicesState) → Reached layout.now Extend start (D.state devices.old) → sizes_of (now start) ≡ (D.state devices.old).sizes → Formats result layout.now Done start (D.state devices.new) }
+    ensures cause { (dev : ℕ) → result ≡ Err (DiskFault.DeviceFault dev) → (dev < length (D.state devices.old).sizes) × RoseBy 1 (D.faults devices.old) (D.faults devices.new) }
     ensures faults { D.faults devices.old ≤ D.faults devices.new }
     ensures write_faults { D.write_faults devices.old ≤ D.write_faults devices.new }
-    ensures moment { (D.history devices.old).moment ≤ (D.history devices.new).moment }
+    ensures moment { (D.state devices.old).moment ≤ (D.state devices.new).moment }
 {
     extend_devices(devices, layout)?;
     prepare_devices(devices, layout, blank, session)?;
@@ -79,14 +79,14 @@ fn lay_out<D: Devices>(
 /// device and two more: where it is wanting, the devices are as they were.
 pub fn format<D: Devices>(alloc: Global, devices: &mut D, layout: &Layout) -> Result<(), DiskFault>
     requires layout { is_layout layout.now ≡ true }
-    requires count { length layout.now.blocks ≡ length (D.sizes devices.old) }
-    ensures survives { D.tells → FormatSurvives layout.now (D.history devices.old) (D.history devices.new) }
-    ensures done { D.tells → OnOk result (EachLeft (λ image. mounts image ≡ Ok (fresh_volume layout.now)) (D.history devices.new)) }
-    ensures cause { (dev : ℕ) → result ≡ Err (DiskFault.DeviceFault dev) → (dev < length (D.sizes devices.old)) × RoseBy 1 (D.faults devices.old) (D.faults devices.new) }
+    requires count { length layout.now.blocks ≡ length (D.state devices.old).sizes }
+    ensures survives { D.tells → FormatSurvives layout.now (D.state devices.old) (D.state devices.new) }
+    ensures done { D.tells → OnOk result (EachCrashNow (λ image. mounts image ≡ Ok (fresh_volume layout.now)) (D.state devices.new)) }
+    ensures cause { (dev : ℕ) → result ≡ Err (DiskFault.DeviceFault dev) → (dev < length (D.state devices.old).sizes) × RoseBy 1 (D.faults devices.old) (D.faults devices.new) }
     ensures faults { D.faults devices.old ≤ D.faults devices.new }
     ensures write_faults { D.write_faults devices.old ≤ D.write_faults devices.new }
-    ensures past { D.tells → (m : ℕ) → m ≤ (D.history devices.old).moment → (D.history devices.new).disks m ≡ (D.history devices.old).disks m }
-    ensures moment { (D.history devices.old).moment ≤ (D.history devices.new).moment }
+    ensures past { D.tells → (m : ℕ) → m ≤ (D.state devices.old).moment → (D.state devices.new).disks m ≡ (D.state devices.old).disks m }
+    ensures moment { (D.state devices.old).moment ≤ (D.state devices.new).moment }
 {
     let blank = zero_block(alloc)?;
     let session = first_session(alloc, layout)?;

@@ -18,14 +18,14 @@ pub(crate) fn write_copies<D: Devices>(
     places: &[u32],
     bytes: &[u8],
 ) -> Result<(), DiskFault>
-    requires places { length places.now ≡ length (D.sizes devices.old) }
+    requires places { length places.now ≡ length (D.state devices.old).sizes }
     requires size { length bytes.now ≡ 4096 }
-    ensures step { D.tells → IsStep result (on_first (length places.now) (λ dev. if_there (slice_index (D.sizes devices.old) dev) (slice_index places.now dev) bytes.now)) (D.history devices.old) (D.history devices.new) }
-    ensures cause { (dev : ℕ) → result ≡ Err (DiskFault.DeviceFault dev) → (dev < length (D.sizes devices.old)) × RoseBy 1 (D.faults devices.old) (D.faults devices.new) }
+    ensures step { D.tells → IsStep result (on_first (length places.now) (λ dev. if_there (slice_index (D.state devices.old).sizes dev) (slice_index places.now dev) bytes.now)) (D.state devices.old) (D.state devices.new) }
+    ensures cause { (dev : ℕ) → result ≡ Err (DiskFault.DeviceFault dev) → (dev < length (D.state devices.old).sizes) × RoseBy 1 (D.faults devices.old) (D.faults devices.new) }
     ensures faults { D.faults devices.old ≤ D.faults devices.new }
     ensures write_faults { D.write_faults devices.old ≤ D.write_faults devices.new }
-    ensures sizes { D.sizes devices.new ≡ D.sizes devices.old }
-    ensures moment { (D.history devices.old).moment ≤ (D.history devices.new).moment }
+    ensures sizes { (D.state devices.new).sizes ≡ (D.state devices.old).sizes }
+    ensures moment { (D.state devices.old).moment ≤ (D.state devices.new).moment }
 {
     let all = devices.count();
     for dev in 0..all {
@@ -36,14 +36,14 @@ pub(crate) fn write_copies<D: Devices>(
 
 /// Makes each device as long as its number of blocks, and flushes all.
 pub(crate) fn extend_devices<D: Devices>(devices: &mut D, layout: &Layout) -> Result<(), DiskFault>
-    requires count { length layout.now.blocks ≡ length (D.sizes devices.old) }
-    ensures step { D.tells → IsStep result (on_first (length layout.now.blocks) (λ dev. extension (slice_index (D.sizes devices.old) dev) (slice_index layout.now.blocks dev))) (D.history devices.old) (D.history devices.new) }
-    ensures cause { (dev : ℕ) → result ≡ Err (DiskFault.DeviceFault dev) → (dev < length (D.sizes devices.old)) × RoseBy 1 (D.faults devices.old) (D.faults devices.new) }
+    requires count { length layout.now.blocks ≡ length (D.state devices.old).sizes }
+    ensures step { D.tells → IsStep result (on_first (length layout.now.blocks) (λ dev. extension (slice_index (D.state devices.old).sizes dev) (slice_index layout.now.blocks dev))) (D.state devices.old) (D.state devices.new) }
+    ensures cause { (dev : ℕ) → result ≡ Err (DiskFault.DeviceFault dev) → (dev < length (D.state devices.old).sizes) × RoseBy 1 (D.faults devices.old) (D.faults devices.new) }
     ensures faults { D.faults devices.old ≤ D.faults devices.new }
     ensures write_faults { D.write_faults devices.old ≤ D.write_faults devices.new }
-    ensures count { length (D.sizes devices.new) ≡ length (D.sizes devices.old) }
-    ensures room { OnOk result ((dev : ℕ) → dev < length (D.sizes devices.old) → slice_index layout.now.blocks dev ≤ slice_index (D.sizes devices.new) dev) }
-    ensures moment { (D.history devices.old).moment ≤ (D.history devices.new).moment }
+    ensures count { length (D.state devices.new).sizes ≡ length (D.state devices.old).sizes }
+    ensures room { OnOk result ((dev : ℕ) → dev < length (D.state devices.old).sizes → slice_index layout.now.blocks dev ≤ slice_index (D.state devices.new).sizes dev) }
+    ensures moment { (D.state devices.old).moment ≤ (D.state devices.new).moment }
 {
     let count = devices.count();
     let blocks = layout.blocks.as_slice();
@@ -60,19 +60,19 @@ pub(crate) fn prepare_devices<D: Devices>(
     blank: &[u8],
     session: &[u8],
 ) -> Result<(), DiskFault>
-    requires fits { is_layout_of (D.sizes devices.old) layout.now ≡ true }
+    requires fits { is_layout_of (D.state devices.old).sizes layout.now ≡ true }
     requires size { length blank.now ≡ 4096 }
     requires blank { blank.now ≡ zeros }
     requires session_size { length session.now ≡ 4096 }
     requires session { session.now ≡ session_block layout.now.id 1 }
-    ensures step { D.tells → IsStep result (on_first layout.now.meta (λ dev. prepared layout.now)) (D.history devices.old) (D.history devices.new) }
-    ensures cause { (dev : ℕ) → result ≡ Err (DiskFault.DeviceFault dev) → (dev < length (D.sizes devices.old)) × RoseBy 1 (D.faults devices.old) (D.faults devices.new) }
+    ensures step { D.tells → IsStep result (on_first layout.now.metadata_replicas (λ dev. prepared layout.now)) (D.state devices.old) (D.state devices.new) }
+    ensures cause { (dev : ℕ) → result ≡ Err (DiskFault.DeviceFault dev) → (dev < length (D.state devices.old).sizes) × RoseBy 1 (D.faults devices.old) (D.faults devices.new) }
     ensures faults { D.faults devices.old ≤ D.faults devices.new }
     ensures write_faults { D.write_faults devices.old ≤ D.write_faults devices.new }
-    ensures sizes { D.sizes devices.new ≡ D.sizes devices.old }
-    ensures moment { (D.history devices.old).moment ≤ (D.history devices.new).moment }
+    ensures sizes { (D.state devices.new).sizes ≡ (D.state devices.old).sizes }
+    ensures moment { (D.state devices.old).moment ≤ (D.state devices.new).moment }
 {
-    for dev in 0..layout.meta {
+    for dev in 0..layout.metadata_replicas {
         prepare_device(devices, layout, dev, blank, session)?;
     }
     let count = devices.count();
@@ -86,15 +86,15 @@ pub(crate) fn seal_devices<D: Devices>(
     firsts: &[Bytes],
     seconds: &[Bytes],
 ) -> Result<(), DiskFault>
-    requires fits { is_layout_of (D.sizes devices.old) layout.now ≡ true }
+    requires fits { is_layout_of (D.state devices.old).sizes layout.now ≡ true }
     requires firsts { AreSupers layout.now 0 firsts.now }
     requires seconds { AreSupers layout.now 8 seconds.now }
-    ensures step { D.tells → IsStep result (on_first (length layout.now.blocks) (super_copies layout.now)) (D.history devices.old) (D.history devices.new) }
-    ensures cause { (dev : ℕ) → result ≡ Err (DiskFault.DeviceFault dev) → (dev < length (D.sizes devices.old)) × RoseBy 1 (D.faults devices.old) (D.faults devices.new) }
+    ensures step { D.tells → IsStep result (on_first (length layout.now.blocks) (super_copies layout.now)) (D.state devices.old) (D.state devices.new) }
+    ensures cause { (dev : ℕ) → result ≡ Err (DiskFault.DeviceFault dev) → (dev < length (D.state devices.old).sizes) × RoseBy 1 (D.faults devices.old) (D.faults devices.new) }
     ensures faults { D.faults devices.old ≤ D.faults devices.new }
     ensures write_faults { D.write_faults devices.old ≤ D.write_faults devices.new }
-    ensures sizes { D.sizes devices.new ≡ D.sizes devices.old }
-    ensures moment { (D.history devices.old).moment ≤ (D.history devices.new).moment }
+    ensures sizes { (D.state devices.new).sizes ≡ (D.state devices.old).sizes }
+    ensures moment { (D.state devices.old).moment ≤ (D.state devices.new).moment }
 {
     let count = devices.count();
     for dev in 0..count {

@@ -18,7 +18,7 @@ fn layout_of(
     alloc: Global,
     id: [u8; 16],
     devices: usize,
-    meta: u8,
+    metadata_replicas: u8,
     journal: u32,
 ) -> Result<Layout, AllocError> {
     let sizes = [1024; 8];
@@ -27,7 +27,7 @@ fn layout_of(
         blocks: Blocks::from_slice(alloc, &sizes[..devices.min(8)])?,
         journal,
         meta,
-        replicas: 1,
+        data_replicas: 1,
     })
 }
 

@@ -18,14 +18,14 @@ pub(crate) fn write_if_there<D: Devices>(
     place: u32,
     bytes: &[u8],
 ) -> Result<(), DiskFault>
-    requires device { dev < length (D.sizes devices.old) }
+    requires device { dev < length (D.state devices.old).sizes }
     requires size { length bytes.now ≡ 4096 }
-    ensures writes { D.tells → Writes result (on_device dev (if_there (slice_index (D.sizes devices.old) dev) place bytes.now)) (D.history devices.old) (D.history devices.new) }
+    ensures writes { D.tells → Writes result (on_device dev (if_there (slice_index (D.state devices.old).sizes dev) place bytes.now)) (D.state devices.old) (D.state devices.new) }
     ensures cause { (failed : ℕ) → result ≡ Err (DiskFault.DeviceFault failed) → (failed ≡ dev) × RoseBy 1 (D.faults devices.old) (D.faults devices.new) }
     ensures faults { D.faults devices.old ≤ D.faults devices.new }
     ensures write_faults { D.write_faults devices.old ≤ D.write_faults devices.new }
-    ensures sizes { D.sizes devices.new ≡ D.sizes devices.old }
-    ensures moment { (D.history devices.old).moment ≤ (D.history devices.new).moment }
+    ensures sizes { (D.state devices.new).sizes ≡ (D.state devices.old).sizes }
+    ensures moment { (D.state devices.old).moment ≤ (D.state devices.new).moment }
 {
     if devices.blocks(dev) <= place {
         return Ok(());
@@ -39,15 +39,15 @@ pub(crate) fn extend_device<D: Devices>(
     dev: u8,
     blocks: u32,
 ) -> Result<(), DiskFault>
-    requires device { dev < length (D.sizes devices.old) }
-    ensures writes { D.tells → Writes result (on_device dev (extension (slice_index (D.sizes devices.old) dev) blocks)) (D.history devices.old) (D.history devices.new) }
+    requires device { dev < length (D.state devices.old).sizes }
+    ensures writes { D.tells → Writes result (on_device dev (extension (slice_index (D.state devices.old).sizes dev) blocks)) (D.state devices.old) (D.state devices.new) }
     ensures cause { (failed : ℕ) → result ≡ Err (DiskFault.DeviceFault failed) → (failed ≡ dev) × RoseBy 1 (D.faults devices.old) (D.faults devices.new) }
     ensures faults { D.faults devices.old ≤ D.faults devices.new }
     ensures write_faults { D.write_faults devices.old ≤ D.write_faults devices.new }
-    ensures count { length (D.sizes devices.new) ≡ length (D.sizes devices.old) }
-    ensures room { OnOk result (blocks ≤ slice_index (D.sizes devices.new) dev) }
-    ensures others { (other : ℕ) → other ≢ dev → slice_index (D.sizes devices.new) other ≡ slice_index (D.sizes devices.old) other }
-    ensures moment { (D.history devices.old).moment ≤ (D.history devices.new).moment }
+    ensures count { length (D.state devices.new).sizes ≡ length (D.state devices.old).sizes }
+    ensures room { OnOk result (blocks ≤ slice_index (D.state devices.new).sizes dev) }
+    ensures others { (other : ℕ) → other ≢ dev → slice_index (D.state devices.new).sizes other ≡ slice_index (D.state devices.old).sizes other }
+    ensures moment { (D.state devices.old).moment ≤ (D.state devices.new).moment }
 {
     if blocks <= devices.blocks(dev) {
         return Ok(());
@@ -68,20 +68,20 @@ fn prepare_block<D: Devices>(
     blank: &[u8],
     session: &[u8],
 ) -> Result<(), DiskFault>
-    requires fits { is_layout_of (D.sizes devices.old) layout.now ≡ true }
-    requires device { dev < length (D.sizes devices.old) }
+    requires fits { is_layout_of (D.state devices.old).sizes layout.now ≡ true }
+    requires device { dev < length (D.state devices.old).sizes }
     requires first { 1 ≤ block }
     requires last { block < 16 + layout.now.journal }
     requires size { length blank.now ≡ 4096 }
     requires blank { blank.now ≡ zeros }
     requires session_size { length session.now ≡ 4096 }
     requires session { session.now ≡ session_block layout.now.id 1 }
-    ensures writes { D.tells → Writes result (on_device dev (in_block block (prepared layout.now block))) (D.history devices.old) (D.history devices.new) }
+    ensures writes { D.tells → Writes result (on_device dev (in_block block (prepared layout.now block))) (D.state devices.old) (D.state devices.new) }
     ensures cause { (failed : ℕ) → result ≡ Err (DiskFault.DeviceFault failed) → (failed ≡ dev) × RoseBy 1 (D.faults devices.old) (D.faults devices.new) }
     ensures faults { D.faults devices.old ≤ D.faults devices.new }
     ensures write_faults { D.write_faults devices.old ≤ D.write_faults devices.new }
-    ensures sizes { D.sizes devices.new ≡ D.sizes devices.old }
-    ensures moment { (D.history devices.old).moment ≤ (D.history devices.new).moment }
+    ensures sizes { (D.state devices.new).sizes ≡ (D.state devices.old).sizes }
+    ensures moment { (D.state devices.old).moment ≤ (D.state devices.new).moment }
 {
     if block == 8 {
         return Ok(());
@@ -100,18 +100,18 @@ pub(crate) fn prepare_device<D: Devices>(
     blank: &[u8],
     session: &[u8],
 ) -> Result<(), DiskFault>
-    requires fits { is_layout_of (D.sizes devices.old) layout.now ≡ true }
-    requires device { dev < length (D.sizes devices.old) }
+    requires fits { is_layout_of (D.state devices.old).sizes layout.now ≡ true }
+    requires device { dev < length (D.state devices.old).sizes }
     requires size { length blank.now ≡ 4096 }
     requires blank { blank.now ≡ zeros }
     requires session_size { length session.now ≡ 4096 }
     requires session { session.now ≡ session_block layout.now.id 1 }
-    ensures writes { D.tells → Writes result (on_device dev (prepared layout.now)) (D.history devices.old) (D.history devices.new) }
+    ensures writes { D.tells → Writes result (on_device dev (prepared layout.now)) (D.state devices.old) (D.state devices.new) }
     ensures cause { (failed : ℕ) → result ≡ Err (DiskFault.DeviceFault failed) → (failed ≡ dev) × RoseBy 1 (D.faults devices.old) (D.faults devices.new) }
     ensures faults { D.faults devices.old ≤ D.faults devices.new }
     ensures write_faults { D.write_faults devices.old ≤ D.write_faults devices.new }
-    ensures sizes { D.sizes devices.new ≡ D.sizes devices.old }
-    ensures moment { (D.history devices.old).moment ≤ (D.history devices.new).moment }
+    ensures sizes { (D.state devices.new).sizes ≡ (D.state devices.old).sizes }
+    ensures moment { (D.state devices.old).moment ≤ (D.state devices.new).moment }
 {
     for block in 1..16 + layout.journal {
         prepare_block(devices, layout, dev, block, blank, session)?;
@@ -127,18 +127,18 @@ pub(crate) fn seal_device<D: Devices>(
     first: &[u8],
     second: &[u8],
 ) -> Result<(), DiskFault>
-    requires fits { is_layout_of (D.sizes devices.old) layout.now ≡ true }
-    requires device { dev < length (D.sizes devices.old) }
+    requires fits { is_layout_of (D.state devices.old).sizes layout.now ≡ true }
+    requires device { dev < length (D.state devices.old).sizes }
     requires first { IsSuper layout.now dev 0 first.now }
     requires second { IsSuper layout.now dev 8 second.now }
-    ensures writes { D.tells → Writes result (on_device dev (super_copies layout.now dev)) (D.history devices.old) (D.history devices.new) }
+    ensures writes { D.tells → Writes result (on_device dev (super_copies layout.now dev)) (D.state devices.old) (D.state devices.new) }
     ensures cause { (failed : ℕ) → result ≡ Err (DiskFault.DeviceFault failed) → (failed ≡ dev) × RoseBy 1 (D.faults devices.old) (D.faults devices.new) }
     ensures faults { D.faults devices.old ≤ D.faults devices.new }
     ensures write_faults { D.write_faults devices.old ≤ D.write_faults devices.new }
-    ensures sizes { D.sizes devices.new ≡ D.sizes devices.old }
-    ensures moment { (D.history devices.old).moment ≤ (D.history devices.new).moment }
+    ensures sizes { (D.state devices.new).sizes ≡ (D.state devices.old).sizes }
+    ensures moment { (D.state devices.old).moment ≤ (D.state devices.new).moment }
 {
-    let _ = layout.meta;
+    let _ = layout.metadata_replicas;
     write_device(devices, dev, 0, first)?;
     write_device(devices, dev, 8, second)
 }

@@ -37,12 +37,12 @@ first_stays layout place image dev (suc more) file is =
     ∙ ap (λ first. first_of_two first (record_on layout place image (more + dev))) (first_stays layout place image dev more file is)
 
 -- A device holds the record of its place: it is the image's, where no device before holds one, or where the mirrors agree.
-pub found_on : (layout : Layout) (image : Image) (place dev : ℕ) (file : MadeFile) (failed : Option ℕ) → dev < layout.meta → Some file ≡ record_on layout place image dev
+pub found_on : (layout : Layout) (image : Image) (place dev : ℕ) (file : MadeFile) (failed : Option ℕ) → dev < layout.metadata_replicas → Some file ≡ record_on layout place image dev
     → (failed ≡ None → first_record layout place image dev ≡ None) → ((d : ℕ) → failed ≡ Some d → IsMirroredAt layout image place) → Some file ≡ record_at layout image place
 found_on layout image place dev file None device is none mirrors =
     let here : first_record layout place image (dev + 1) ≡ Some file = first_next layout place image dev (Some file) (none refl) is in
-    let all : layout.meta - (dev + 1) + (dev + 1) ≡ layout.meta = omega (arith, device) in
-    sym (subst (λ n. first_record layout place image n ≡ Some file) all (first_stays layout place image (dev + 1) (layout.meta - (dev + 1)) file here))
+    let all : layout.metadata_replicas - (dev + 1) + (dev + 1) ≡ layout.metadata_replicas = omega (arith, device) in
+    sym (subst (λ n. first_record layout place image n ≡ Some file) all (first_stays layout place image (dev + 1) (layout.metadata_replicas - (dev + 1)) file here))
 found_on layout image place dev file (Some d) device is none mirrors = sym (mirrors d refl dev file device (sym is))
 
 module _ (layout : Layout) (image : Image) (place : ℕ) (forest : Forest) (next : Option MadeFile) (read : next ≡ record_at layout image place) (within : place < layout.journal)

@@ -87,7 +87,7 @@ mounts image = mounted_by image (layout_in image)
 
 -- At this place of the log each metadata device that holds a record holds the image's.
 abbrev pub IsMirroredAt : Layout → Image → ℕ → Type 0
-IsMirroredAt layout image place = (dev : ℕ) (file : MadeFile) → dev < layout.meta → record_on layout place image dev ≡ Some file → record_at layout image place ≡ Some file
+IsMirroredAt layout image place = (dev : ℕ) (file : MadeFile) → dev < layout.metadata_replicas → record_on layout place image dev ≡ Some file → record_at layout image place ≡ Some file
 
 -- The mirrors agree: so it is at each place of the log.
 abbrev pub AreMirrored : Layout → Image → Type 0

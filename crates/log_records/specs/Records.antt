@@ -55,4 +55,4 @@ first_record layout place image (suc dev) = first_of_two (first_record layout pl
 
 -- the file whose record an image holds at a place of the log: the one on the first metadata device that holds one
 abbrev pub record_at : Layout → Image → ℕ → Option MadeFile
-record_at layout image place = first_record layout place image layout.meta
+record_at layout image place = first_record layout place image layout.metadata_replicas

@@ -2,7 +2,7 @@ ghost use Rattle.std.specs.Prelude.{◌≡◌, ◌<◌, ◌≤◌, ℕ, true, fa
 ghost use Rattle.vol_types.specs.Faults.{RoseBy};
 ghost use Rattle.dev_model.specs.Devices.{now};
 ghost use Rattle.dev_model.specs.Disk.{as_read};
-ghost use Rattle.dev_model.specs.Reading.{StaysSo};
+ghost use Rattle.dev_model.specs.Frames.{DisksStay};
 ghost use Rattle.geometry.specs.Layouts.{is_layout_of};
 ghost use Rattle.geometry.specs.Sessions.{session_in};
 ghost use Rattle.geometry.specs.Superblocks.{layout_in};
@@ -59,16 +59,16 @@ fn record_on<D: Devices>(
     dev: u8,
     place: u32,
 ) -> Result<Option<MadeFile>, DiskFault>
-    requires layout { is_layout_of (D.sizes devices.old) layout.now ≡ true }
-    requires device { dev < layout.now.meta }
+    requires layout { is_layout_of (D.state devices.old).sizes layout.now ≡ true }
+    requires device { dev < layout.now.metadata_replicas }
     requires place { place < layout.now.journal }
-    ensures found { D.tells → IfOk result (λ found. found ≡ Rattle.log_records.specs.Records.record_on layout.now place (as_read (now (D.history devices.old))) dev) }
-    ensures stays { D.tells → StaysSo (D.history devices.old) (D.history devices.new) }
+    ensures found { D.tells → IfOk result (λ found. found ≡ Rattle.log_records.specs.Records.record_on layout.now place (as_read (now (D.state devices.old))) dev) }
+    ensures stays { D.tells → DisksStay (D.state devices.old) (D.state devices.new) }
     ensures cause { (d : ℕ) → result ≡ Err (DiskFault.DeviceFault d) → (d ≡ dev) × RoseBy 1 (D.faults devices.old) (D.faults devices.new) }
     ensures faults { D.faults devices.old ≤ D.faults devices.new }
     ensures write_faults { D.write_faults devices.new ≡ D.write_faults devices.old }
-    ensures sizes { D.sizes devices.new ≡ D.sizes devices.old }
-    ensures moment { (D.history devices.old).moment ≤ (D.history devices.new).moment }
+    ensures sizes { (D.state devices.new).sizes ≡ (D.state devices.old).sizes }
+    ensures moment { (D.state devices.old).moment ≤ (D.state devices.new).moment }
 {
     let block = read_block(alloc, devices, dev, LOG_START + place)?;
     Ok(read_record(alloc, &layout.id, place, block.as_slice())?)
@@ -82,18 +82,18 @@ fn find_record<D: Devices>(
     layout: &Layout,
     place: u32,
 ) -> Result<Option<MadeFile>, DiskFault>
-    requires layout { is_layout_of (D.sizes devices.old) layout.now ≡ true }
+    requires layout { is_layout_of (D.state devices.old).sizes layout.now ≡ true }
     requires place { place < layout.now.journal }
-    ensures found { D.tells → (RoseBy 1 (D.faults devices.old) (D.faults devices.new) → IsMirroredAt layout.now (as_read (now (D.history devices.old))) place) → IfOk result (λ found. found ≡ record_at layout.now (as_read (now (D.history devices.old))) place) }
-    ensures stays { D.tells → StaysSo (D.history devices.old) (D.history devices.new) }
-    ensures cause { (d : ℕ) → result ≡ Err (DiskFault.DeviceFault d) → (d < length (D.sizes devices.old)) × RoseBy 1 (D.faults devices.old) (D.faults devices.new) }
+    ensures found { D.tells → (RoseBy 1 (D.faults devices.old) (D.faults devices.new) → IsMirroredAt layout.now (as_read (now (D.state devices.old))) place) → IfOk result (λ found. found ≡ record_at layout.now (as_read (now (D.state devices.old))) place) }
+    ensures stays { D.tells → DisksStay (D.state devices.old) (D.state devices.new) }
+    ensures cause { (d : ℕ) → result ≡ Err (DiskFault.DeviceFault d) → (d < length (D.state devices.old).sizes) × RoseBy 1 (D.faults devices.old) (D.faults devices.new) }
     ensures faults { D.faults devices.old ≤ D.faults devices.new }
     ensures write_faults { D.write_faults devices.new ≡ D.write_faults devices.old }
-    ensures sizes { D.sizes devices.new ≡ D.sizes devices.old }
-    ensures moment { (D.history devices.old).moment ≤ (D.history devices.new).moment }
+    ensures sizes { (D.state devices.new).sizes ≡ (D.state devices.old).sizes }
+    ensures moment { (D.state devices.old).moment ≤ (D.state devices.new).moment }
 {
     let mut failed = None;
-    for dev in 0..layout.meta {
+    for dev in 0..layout.metadata_replicas {
         match record_on(alloc, devices, layout, dev, place) {
             Ok(None) => {}
             Ok(Some(file)) => return Ok(Some(file)),
@@ -109,15 +109,15 @@ fn find_record<D: Devices>(
 
 // Reads the log, record by record, up to the first place without the next one.
 fn scan<D: Devices>(alloc: Global, devices: &mut D, layout: &Layout) -> Result<Scanned, DiskFault>
-    requires layout { is_layout_of (D.sizes devices.old) layout.now ≡ true }
-    ensures found { D.tells → (RoseBy 1 (D.faults devices.old) (D.faults devices.new) → AreMirrored layout.now (as_read (now (D.history devices.old)))) → IfOk result (λ scanned. log_in layout.now (as_read (now (D.history devices.old))) ≡ (scanned.records, scanned.forest)) }
+    requires layout { is_layout_of (D.state devices.old).sizes layout.now ≡ true }
+    ensures found { D.tells → (RoseBy 1 (D.faults devices.old) (D.faults devices.new) → AreMirrored layout.now (as_read (now (D.state devices.old)))) → IfOk result (λ scanned. log_in layout.now (as_read (now (D.state devices.old))) ≡ (scanned.records, scanned.forest)) }
     ensures room { IfOk result (λ scanned. scanned.records ≤ layout.now.journal) }
-    ensures stays { D.tells → StaysSo (D.history devices.old) (D.history devices.new) }
-    ensures cause { (d : ℕ) → result ≡ Err (DiskFault.DeviceFault d) → (d < length (D.sizes devices.old)) × RoseBy 1 (D.faults devices.old) (D.faults devices.new) }
+    ensures stays { D.tells → DisksStay (D.state devices.old) (D.state devices.new) }
+    ensures cause { (d : ℕ) → result ≡ Err (DiskFault.DeviceFault d) → (d < length (D.state devices.old).sizes) × RoseBy 1 (D.faults devices.old) (D.faults devices.new) }
     ensures faults { D.faults devices.old ≤ D.faults devices.new }
     ensures write_faults { D.write_faults devices.new ≡ D.write_faults devices.old }
-    ensures sizes { D.sizes devices.new ≡ D.sizes devices.old }
-    ensures moment { (D.history devices.old).moment ≤ (D.history devices.new).moment }
+    ensures sizes { (D.state devices.new).sizes ≡ (D.state devices.old).sizes }
+    ensures moment { (D.state devices.old).moment ≤ (D.state devices.new).moment }
 {
     let mut forest = Forest::fresh(alloc)?;
     for place in 0..layout.journal {
@@ -140,17 +140,17 @@ fn scan<D: Devices>(alloc: Global, devices: &mut D, layout: &Layout) -> Result<S
 ///
 /// Where the count of faults rose in the call, the volume is the one that the image means if its mirrors agree.
 pub fn load<D: Devices>(alloc: Global, devices: &mut D) -> Result<Loaded, MountFault>
-    ensures found { D.tells → IsMountAnswer (RoseBy 1 (D.faults devices.old) (D.faults devices.new)) (as_read (now (D.history devices.old))) result }
-    ensures layout { D.tells → IfOk result (λ loaded. layout_in (as_read (now (D.history devices.old))) ≡ Ok loaded.layout) }
-    ensures session { D.tells → IfOk result (λ loaded. session_in loaded.layout (as_read (now (D.history devices.old))) ≡ Some loaded.session) }
-    ensures fits { IfOk result (λ loaded. is_layout_of (D.sizes devices.new) loaded.layout ≡ true) }
+    ensures found { D.tells → IsMountAnswer (RoseBy 1 (D.faults devices.old) (D.faults devices.new)) (as_read (now (D.state devices.old))) result }
+    ensures layout { D.tells → IfOk result (λ loaded. layout_in (as_read (now (D.state devices.old))) ≡ Ok loaded.layout) }
+    ensures session { D.tells → IfOk result (λ loaded. session_in loaded.layout (as_read (now (D.state devices.old))) ≡ Some loaded.session) }
+    ensures fits { IfOk result (λ loaded. is_layout_of (D.state devices.new).sizes loaded.layout ≡ true) }
     ensures room { IfOk result (λ loaded. loaded.records ≤ loaded.layout.journal) }
-    ensures stays { D.tells → StaysSo (D.history devices.old) (D.history devices.new) }
-    ensures cause { (d : ℕ) → result ≡ Err (MountFault.DeviceFault d) → (d < length (D.sizes devices.old)) × RoseBy 1 (D.faults devices.old) (D.faults devices.new) }
+    ensures stays { D.tells → DisksStay (D.state devices.old) (D.state devices.new) }
+    ensures cause { (d : ℕ) → result ≡ Err (MountFault.DeviceFault d) → (d < length (D.state devices.old).sizes) × RoseBy 1 (D.faults devices.old) (D.faults devices.new) }
     ensures faults { D.faults devices.old ≤ D.faults devices.new }
     ensures write_faults { D.write_faults devices.new ≡ D.write_faults devices.old }
-    ensures sizes { D.sizes devices.new ≡ D.sizes devices.old }
-    ensures moment { (D.history devices.old).moment ≤ (D.history devices.new).moment }
+    ensures sizes { (D.state devices.new).sizes ≡ (D.state devices.old).sizes }
+    ensures moment { (D.state devices.old).moment ≤ (D.state devices.new).moment }
 {
     let layout = read_super(alloc, devices)?;
     let Some(session) = read_session(alloc, devices, &layout)? else {

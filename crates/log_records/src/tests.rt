@@ -60,8 +60,8 @@ fn known_block(rt: HostRuntime) -> Result<(), Fail> {
 
 // Sets a block between two sessions.
 fn put(devices: &mut MemDevices, dev: u8, block: u32, bytes: &[u8]) -> Result<(), Fail>
-    requires { NothingPending (now (⟦<MemDevices as Devices>⟧.history devices.old)) }
-    ensures { NothingPending (now (⟦<MemDevices as Devices>⟧.history devices.new)) }
+    requires { NothingPending (now (⟦<MemDevices as Devices>⟧.state devices.old)) }
+    ensures { NothingPending (now (⟦<MemDevices as Devices>⟧.state devices.new)) }
 {
     if dev >= devices.count() || block >= devices.blocks(dev) || bytes.len() != 4096 {
         return Err(Fail::from("there is no such block"));
@@ -72,14 +72,14 @@ fn put(devices: &mut MemDevices, dev: u8, block: u32, bytes: &[u8]) -> Result<()
 
 // Two devices with the superblocks of a volume that keeps its metadata on both.
 fn volume(alloc: Global) -> Result<MemDevices, Fail>
-    ensures { Rattle.std.specs.Prelude.IfOk result (λ d. NothingPending (now (⟦<MemDevices as Devices>⟧.history d))) }
+    ensures { Rattle.std.specs.Prelude.IfOk result (λ d. NothingPending (now (⟦<MemDevices as Devices>⟧.state d))) }
 {
     let layout = Layout {
         id: ID,
         blocks: Blocks::from_slice(alloc, &[1024, 1024])?,
         journal: 256,
-        meta: 2,
-        replicas: 1,
+        metadata_replicas: 2,
+        data_replicas: 1,
     };
     if !is_layout(&layout) || layout.blocks.len() != 2 {
         return Err(Fail::from("the layout is one of two devices"));
@@ -95,7 +95,7 @@ fn volume(alloc: Global) -> Result<MemDevices, Fail>
 
 // The same, with session 1 on the second device alone.
 fn begun_volume(alloc: Global) -> Result<MemDevices, Fail>
-    ensures { Rattle.std.specs.Prelude.IfOk result (λ d. NothingPending (now (⟦<MemDevices as Devices>⟧.history d))) }
+    ensures { Rattle.std.specs.Prelude.IfOk result (λ d. NothingPending (now (⟦<MemDevices as Devices>⟧.state d))) }
 {
     let mut devices = volume(alloc)?;
     let mut block = vec![in alloc; 0; 4096]?;
@@ -125,7 +125,7 @@ fn an_empty_volume_mounts(rt: HostRuntime) -> Result<(), Fail> {
         ..
     } = load(alloc, &mut devices)?;
     assert!(rt; found.id == ID && found.blocks.as_slice() == [1024, 1024].as_slice());
-    assert!(rt; found.journal == 256 && found.meta == 2 && found.replicas == 1);
+    assert!(rt; found.journal == 256 && found.metadata_replicas == 2 && found.data_replicas == 1);
     assert!(rt; session == 1 && records == 0);
     Ok(())
 }

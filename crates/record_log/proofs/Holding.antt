@@ -8,7 +8,7 @@ use Rattle.std.proofs.lemmas.Bool.Decides.{nat_tests}
 use Rattle.std.proofs.lemmas.Option.{same_Some, none-some as none_some}
 use Rattle.vol_types.specs.declared.layout.Layout.{Layout}
 use Rattle.dev_model.specs.Disk.{Image, block_at}
-use Rattle.dev_model.specs.Stops.{SameBut}
+use Rattle.dev_model.specs.Crashes.{SameBut}
 use Rattle.plain_forest.specs.Forest.{Forest}
 use Rattle.plain_forest.specs.Steps.{made_file, next_number, forest_after, or_before, reply_of, reply_or}
 use Rattle.plain_forest.specs.History.{after_all}

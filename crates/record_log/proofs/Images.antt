@@ -6,8 +6,8 @@ use Rattle.std.proofs.lemmas.Bool.{cases_lt, false≢true}
 use Rattle.std.proofs.lemmas.List.{length-map}
 use Rattle.std.proofs.lemmas.Option.{none-some as none_some, slice_get_past}
 use Rattle.vol_types.specs.declared.layout.Layout.{Layout}
-use Rattle.dev_model.specs.Disk.{Disk, Image, MayLeaveImage, as_read, block_at, blocks_of}
-use Rattle.dev_model.specs.Stops.{IsQuiet}
+use Rattle.dev_model.specs.Disk.{Disk, Image, IsCrashImage, as_read, block_at, blocks_of}
+use Rattle.dev_model.specs.Crashes.{IsQuiet}
 use Rattle.geometry.specs.Superblocks.{layout_in}
 use Rattle.geometry.specs.Sessions.{session_in, session_place}
 use Rattle.geometry.specs.LayoutFacts.{has_places}
@@ -78,7 +78,7 @@ module _ (layout : Layout) (place : ℕ) where
 pub record IsMountedAs (image : Image) (volume : Mounted) : Type 0 where
   pub layout : layout_in image ≡ Ok volume.layout
   pub log : log_in volume.layout image ≡ (volume.commits, volume.forest)
-  pub some : 1 ≤ volume.layout.meta
+  pub some : 1 ≤ volume.layout.metadata_replicas
   pub named : (session : ℕ) × (session_in volume.layout image ≡ Some session)
 
 abbrev the_volume : Mounted → Result Mounted MountFault → Mounted
@@ -97,7 +97,7 @@ is_mounted image volume is = by (layout_in image) refl is
         record {
           layout = found ∙ ap Ok layouts;
           log = subst (λ l. log_in l image ≡ (volume.commits, volume.forest)) layouts (λ i. ((same i).commits, (same i).forest));
-          some = subst (λ (l : Layout). 1 ≤ l.meta) layouts (has_places _ layout (layout_fits image layout found)).mirrored;
+          some = subst (λ (l : Layout). 1 ≤ l.metadata_replicas) layouts (has_places _ layout (layout_fits image layout found)).mirrored;
           named = (session, subst (λ l. session_in l image ≡ Some session) layouts there);
         }
 
@@ -106,7 +106,7 @@ is_mounted image volume is = by (layout_in image) refl is
     by (Ok layout) same is = with_session layout (session_in layout image) same refl is
 
 -- quiet disks are left as they are read
-pub quiet_place : (disks : List Disk) → IsQuiet disks → (image : Image) → MayLeaveImage disks image → (dev block : ℕ) → block_at image dev block ≡ block_at (as_read disks) dev block
+pub quiet_place : (disks : List Disk) → IsQuiet disks → (image : Image) → IsCrashImage disks image → (dev block : ℕ) → block_at image dev block ≡ block_at (as_read disks) dev block
 quiet_place disks quiet image may dev block = ap (λ i. block_at i dev block) (quiet image may)
 
 there_within : (blocks : List (List ℕ)) (place : ℕ) (block : List ℕ) → slice_get blocks place ≡ Some block → place < length blocks

@@ -8,10 +8,10 @@ use Rattle.std.proofs.lemmas.List.{append-nil, map_push, length_push, length-map
 use Rattle.std.proofs.lemmas.List.Elements.{All-push, All-head, All-tail, All-weaker, filter_map-append}
 use Rattle.std.proofs.lemmas.List.Folds.{list_any-append}
 use Rattle.std.proofs.lemmas.List.Sums.{sum_by-append}
-use Rattle.dev_model.specs.Disk.{Disk, Image, MayLeaveImage, as_read}
-use Rattle.dev_model.specs.Stops.{LeavesOnly, MayLeaveBut}
+use Rattle.dev_model.specs.Disk.{Disk, Image, IsCrashImage, as_read}
+use Rattle.dev_model.specs.Crashes.{EachCrash, EachCrashNow, IsCrashImageBut}
 use Rattle.geometry.specs.Sessions.{IsSessionPlace, session_in}
-use Rattle.dev_model.specs.Devices.{History as Moments, now}
+use Rattle.dev_model.specs.Devices.{DevicesState, now}
 use Rattle.vol_types.specs.Faults.{RoseBy}
 use Rattle.plain_forest.specs.Forest.{Forest}
 use Rattle.std.specs.Option.{option_map_or}
@@ -31,7 +31,6 @@ use Rattle.plain_forest.specs.declared.operation.Entry.{Entry}
 use Rattle.log_records.specs.Found.{commit_of, in_main}
 use Rattle.vol_types.specs.declared.layout.Layout.{Layout}
 use Rattle.geometry.specs.Layouts.{is_layout_of}
-use Rattle.geometry.specs.Mirrors.{EachLeft}
 use Rattle.record_log.specs.Durable.{HasWritten, IsOfSession, Writes}
 use Rattle.record_log.specs.Exact.{IsExact, IsExactReply, IsSyncReply, file_reply, halt_behind, has_failed, is_device_fault, is_full_behind, log_short, refusal_or}
 use Rattle.record_log.specs.Acknowledged.{Follow, acknowledged, synced_count}
@@ -251,7 +250,7 @@ follow_ends first last [] is = is
 follow_ends first last (ack ∷ acks) is = omega (arith, is.0, follow_ends ack.moment last acks is.1)
 
 -- The acknowledgements go on.
-module _ (layout : Layout) (session : ℕ) (tells : Type 0) (start moments : Moments) (base durable : ℕ) (files : List MadeFile) (trace : History) (acks : List Ack) (keeps : KeepsAcks layout session tells start moments base durable files trace acks) where
+module _ (layout : Layout) (session : ℕ) (tells : Type 0) (start moments : DevicesState) (base durable : ℕ) (files : List MadeFile) (trace : History) (acks : List Ack) (keeps : KeepsAcks layout session tells start moments base durable files trace acks) where
   -- behind an entry that acknowledges nothing
   pub acks_entry : (entry : Entry) → synced_count entry.reply ≡ None → KeepsAcks layout session tells start moments base durable files (trace ++ entry ∷ []) acks
   acks_entry entry no_sync = record {
@@ -274,7 +273,7 @@ module _ (layout : Layout) (session : ℕ) (tells : Type 0) (start moments : Mom
   }
 
   -- while records are written
-  pub acks_written : (more : ℕ) (later : Moments) → durable ≤ more → moments.moment ≤ later.moment → (tells → Writes layout session (now start) base durable more files moments later)
+  pub acks_written : (more : ℕ) (later : DevicesState) → durable ≤ more → moments.moment ≤ later.moment → (tells → Writes layout session (now start) base durable more files moments later)
       → KeepsAcks layout session tells start later base more files trace acks
   acks_written more later rises moment writes = record {
     each = record { counts = keeps.each.counts; moments = follow_later start.moment acks keeps.each.moments };
@@ -298,7 +297,7 @@ module _ (layout : Layout) (session : ℕ) (tells : Type 0) (start moments : Mom
   acknowledged-push (first ∷ list) ack m = omega (arith, acknowledged-push list ack m)
 
   -- by an acknowledgement of what is durable now
-  pub acks_synced : durable ≤ length files → (tells → EachLeft (HasWritten layout session (now start) base durable files) moments)
+  pub acks_synced : durable ≤ length files → (tells → EachCrashNow (HasWritten layout session (now start) base durable files) moments)
       → KeepsAcks layout session tells start moments base durable files (trace ++ entry_of Sync (Synced durable) ∷ []) (acks ++ record { moment = moments.moment; commits = durable } ∷ [])
   acks_synced most held =
       let ack : Ack = record { moment = moments.moment; commits = durable } in
@@ -323,7 +322,7 @@ module _ (layout : Layout) (session : ℕ) (tells : Type 0) (start moments : Mom
                 count = durable;
                 least = acknowledged_most (acks ++ ack ∷ []) m durable (All-push (λ (a : Ack). a.commits ≤ durable) acks ack keeps.durable (omega arith));
                 most = omega arith;
-                written = held told image (subst (λ n. MayLeaveImage (moments.disks n) image) same may);
+                written = held told image (subst (λ n. IsCrashImage (moments.disks n) image) same may);
               })
               (cases_lt m moments.moment);
         };
@@ -341,7 +340,7 @@ pub record HasWrittenTo (layout : Layout) (session : ℕ) (tells : Type 0) (base
   pub moment : shown.moments.moment ≤ later.moments.moment
   pub faults : shown.faults ≤ later.faults
   pub write_faults : shown.write_faults ≤ later.write_faults
-  pub writes : tells → (disks : List Disk) → EachLeft (HasWritten layout session disks base durable files) shown.moments → Writes layout session disks base durable more files shown.moments later.moments
+  pub writes : tells → (disks : List Disk) → EachCrashNow (HasWritten layout session disks base durable files) shown.moments → Writes layout session disks base durable more files shown.moments later.moments
 
 -- A session stays sound
 module _ {D : Type 0} (opening : Forest) (start : Shown) (tells : Type 0) (shown : Shown) (log : Log D) (forest : Forest) (sound : IsSound opening start tells shown log forest) where
@@ -492,11 +491,11 @@ may_fail_at one other reply same may = subst (λ op. may_fail op reply ≡ true)
 -- A session that has begun and answered nothing is sound.
 pub sound_start : {D : Type 0} (opening : Forest) (start : Shown) (tells : Type 0) (shown : Shown) (devices : D) (layout : Layout) (before base : ℕ) (forest : Forest)
     → forest ≡ opening → is_layout_of shown.sizes layout ≡ true → base ≤ layout.journal → (tells → session_in layout (as_read (now start.moments)) ≡ Some before)
-    → (tells → LeavesOnly (λ _ image. MayLeaveBut (IsSessionPlace layout (before + 1)) (now start.moments) image) start.moments shown.moments)
+    → (tells → EachCrash (λ _ _ image. IsCrashImageBut (IsSessionPlace layout (before + 1)) (now start.moments) image) start.moments shown.moments)
     → start.moments.moment ≤ shown.moments.moment → start.faults ≤ shown.faults → start.write_faults ≤ shown.write_faults
     → IsSound opening start tells shown (record { devices = devices; layout = layout; session = before + 1; base = base; files = []; durable = 0; halted = None; trace = []; acks = [] }) forest
 sound_start opening start tells shown devices layout before base forest same fits room named begun later faults write_faults =
-    let written : (image : Image) → MayLeaveBut (IsSessionPlace layout (before + 1)) (now start.moments) image → HasWritten layout (before + 1) (now start.moments) base 0 [] image = λ image may. record {
+    let written : (image : Image) → IsCrashImageBut (IsSessionPlace layout (before + 1)) (now start.moments) image → HasWritten layout (before + 1) (now start.moments) base 0 [] image = λ image may. record {
       records = λ i lt. absurd (omega (arith, lt));
       others = may_differ_more (IsSessionPlace layout (before + 1)) (IsOfSession layout (before + 1) base (base + 0)) (now start.moments) image (λ d b at. inl at) may;
     } in
@@ -512,7 +511,7 @@ sound_start opening start tells shown devices layout before base forest same fit
       acks = record {
         each = record { counts = refl; moments = later };
         durable = λ place ack within. absurd (omega (arith, within));
-        stops = λ told. leaves_weaker (λ _ image. MayLeaveBut (IsSessionPlace layout (before + 1)) (now start.moments) image) (HasAcknowledged layout (before + 1) (now start.moments) base 0 [] []) start.moments shown.moments
+        stops = λ told. leaves_weaker (λ _ image. IsCrashImageBut (IsSessionPlace layout (before + 1)) (now start.moments) image) (HasAcknowledged layout (before + 1) (now start.moments) base 0 [] []) start.moments shown.moments
             (λ m lo hi image may. record { count = 0; least = omega arith; most = omega arith; written = written image may }) (begun told);
       };
     }

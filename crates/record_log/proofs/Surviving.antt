@@ -7,11 +7,11 @@ use Rattle.std.specs.Option.{option_map_or}
 use Rattle.std.proofs.lemmas.Bool.{cases_lt}
 use Rattle.std.proofs.lemmas.Option.{same_Some, none-some as none_some}
 use Rattle.std.proofs.lemmas.List.{length-map}
-use Rattle.dev_model.specs.Disk.{Disk, Image, MayLeaveImage, as_read, block_at}
-use Rattle.dev_model.specs.Devices.{History as Moments, now}
-use Rattle.dev_model.specs.Reading.{StaysSo}
-use Rattle.dev_model.specs.Stops.{IsQuiet, LeavesOnly, MayLeaveBut}
-use Rattle.dev_model.specs.StopLaws.{left_itself}
+use Rattle.dev_model.specs.Disk.{Disk, Image, IsCrashImage, as_read, block_at}
+use Rattle.dev_model.specs.Devices.{DevicesState, now}
+use Rattle.dev_model.specs.Frames.{DisksStay}
+use Rattle.dev_model.specs.Crashes.{IsQuiet, EachCrash, IsCrashImageBut}
+use Rattle.dev_model.specs.CrashLaws.{left_itself}
 use Rattle.geometry.specs.Sessions.{IsSessionPlace, session_in, session_place}
 use Rattle.geometry.specs.SessionLaws.{place_is_low}
 use Rattle.plain_forest.specs.Forest.{Forest, fresh}
@@ -233,16 +233,16 @@ module _ (opening : Mounted) (session : ℕ) (disks : List Disk) (history : Hist
       not_there same = omega (arith, same)
 
   at_elsewhere : (place : ℕ) → (base ≤ place → place ≤ base + written → ⊥) → record_at opening.layout image place ≡ record_at opening.layout (as_read disks) place
-  at_elsewhere place elsewhere = first_same opening.layout place image (as_read disks) opening.layout.meta (λ dev within. record_elsewhere place dev elsewhere)
+  at_elsewhere place elsewhere = first_same opening.layout place image (as_read disks) opening.layout.metadata_replicas (λ dev within. record_elsewhere place dev elsewhere)
 
   commit_total : commit_count opening.forest history ≡ length files
   commit_total = ap length commits ∙ length-map files commit_of
 
-  none_before : (place dev : ℕ) → base ≤ place → place < opening.layout.journal → dev < opening.layout.meta → record_on opening.layout place (as_read disks) dev ≡ None
-  none_before place dev from to within = first_none opening.layout place (as_read disks) opening.layout.meta (alone.behind place from to) dev within
+  none_before : (place dev : ℕ) → base ≤ place → place < opening.layout.journal → dev < opening.layout.metadata_replicas → record_on opening.layout place (as_read disks) dev ≡ None
+  none_before place dev from to within = first_none opening.layout place (as_read disks) opening.layout.metadata_replicas (alone.behind place from to) dev within
 
   -- a record behind the base is that of a commit
-  commit_at : HasNoChanceMatch opening (as_read disks) history image → (place dev : ℕ) (file : MadeFile) → base ≤ place → place < opening.layout.journal → dev < opening.layout.meta
+  commit_at : HasNoChanceMatch opening (as_read disks) history image → (place dev : ℕ) (file : MadeFile) → base ≤ place → place < opening.layout.journal → dev < opening.layout.metadata_replicas
       → record_on opening.layout place image dev ≡ Some file → slice_get files (place - base) ≡ Some file
   commit_at no_chance place dev file from to within found = ⊎_elim
       (λ stood. absurd (none_some file (sym (none_before place dev from to within) ∙ stood)))
@@ -253,14 +253,14 @@ module _ (opening : Mounted) (session : ℕ) (disks : List Disk) (history : Hist
 
   only_commits : HasNoChanceMatch opening (as_read disks) history image → (i : ℕ) (file : MadeFile) → i < opening.layout.journal - base → record_at opening.layout image (base + i) ≡ Some file → slice_get files i ≡ Some file
   only_commits no_chance i file lt found =
-      let on = first_some opening.layout (base + i) image opening.layout.meta file found in
+      let on = first_some opening.layout (base + i) image opening.layout.metadata_replicas file found in
       let place : base + i - base ≡ i = omega arith in
       subst (λ n. slice_get files n ≡ Some file) place (commit_at no_chance (base + i) on.0 file (omega arith) (omega (arith, lt)) on.1 on.2)
 
-  mirrored : 1 ≤ opening.layout.meta → (i : ℕ) → i < written → record_at opening.layout image (base + i) ≡ slice_get files i
-  mirrored some i lt = first_all opening.layout (base + i) image opening.layout.meta (slice_get files i) some (λ dev within. (has.records i lt).found dev within)
+  mirrored : 1 ≤ opening.layout.metadata_replicas → (i : ℕ) → i < written → record_at opening.layout image (base + i) ≡ slice_get files i
+  mirrored some i lt = first_all opening.layout (base + i) image opening.layout.metadata_replicas (slice_get files i) some (λ dev within. (has.records i lt).found dev within)
 
-  scan_image : HasNoChanceMatch opening (as_read disks) history image → 1 ≤ opening.layout.meta → Scanned (record_at opening.layout image) (opening.layout.journal - base) base written opening.forest files
+  scan_image : HasNoChanceMatch opening (as_read disks) history image → 1 ≤ opening.layout.metadata_replicas → Scanned (record_at opening.layout image) (opening.layout.journal - base) base written opening.forest files
   scan_image no_chance some = scanned (record_at opening.layout image) (opening.layout.journal - base) base written opening.forest after files made (only_commits no_chance) (mirrored some) most (let fits : written ≤ opening.layout.journal - base = omega (arith, room, most) in fits)
 
   log_before : log_in opening.layout (as_read disks) ≡ (base, opening.forest)
@@ -282,8 +282,8 @@ module _ (opening : Mounted) (session : ℕ) (disks : List Disk) (history : Hist
       let elsewhere : base ≤ place → place ≤ base + written → ⊥ = λ from to. omega (arith, earlier, from) in
       at_elsewhere place elsewhere ∙ alone.mirrors place within dev file device (sym (record_elsewhere place dev elsewhere) ∙ found))
       (λ (later : base ≤ place).
-      let first = first_there opening.layout place image opening.layout.meta dev file device found in
-      let on = first_some opening.layout place image opening.layout.meta first.0 first.1 in
+      let first = first_there opening.layout place image opening.layout.metadata_replicas dev file device found in
+      let on = first_some opening.layout place image opening.layout.metadata_replicas first.0 first.1 in
       let one = commit_at no_chance place dev file later within device found in
       let other = commit_at no_chance place on.0 first.0 later within on.1 on.2 in
       first.1 ∙ ap Some (same_Some first.0 file (sym other ∙ one)))
@@ -336,7 +336,7 @@ prefix_less : (opening : Mounted) (history : History) (more less : ℕ) (image :
 prefix_less opening history more less image le is = record { commits = is.commits; least = omega (arith, le, is.least); most = is.most; means = is.means; alone = is.alone }
 
 -- An image has as many devices as the disks that it was left of.
-image_count : (disks : List Disk) (image : Image) → MayLeaveImage disks image → length disks ≡ length image
+image_count : (disks : List Disk) (image : Image) → IsCrashImage disks image → length disks ≡ length image
 image_count [] [] may = refl
 image_count [] (left ∷ image) may = absurd may
 image_count (disk ∷ disks) [] may = absurd may
@@ -344,7 +344,7 @@ image_count (disk ∷ disks) (left ∷ image) may = ap suc (image_count disks im
 
 -- The sizes of the devices stay while a session writes.
 sizes_stay : (opening : Mounted) (session : ℕ) (disks : List Disk) → mounts (as_read disks) ≡ Ok opening → IsQuiet disks → (image : Image) (last : ℕ) → last ≤ opening.layout.journal
-    → MayLeaveBut (IsOfSession opening.layout session opening.commits last) disks image → length image ≡ length disks → map (λ blocks. length blocks) image ≡ map (λ blocks. length blocks) (as_read disks)
+    → IsCrashImageBut (IsOfSession opening.layout session opening.commits last) disks image → length image ≡ length disks → map (λ blocks. length blocks) image ≡ map (λ blocks. length blocks) (as_read disks)
 sizes_stay opening session disks means quiet image last room others as_many =
     same_sizes image (as_read disks) (17 + opening.layout.journal) (as_many ∙ sym (length-map {B = List (List ℕ)} disks (λ (disk : Disk). disk.blocks)))
     (area_is_short (as_read disks) opening means)
@@ -362,8 +362,8 @@ scan_most records (suc more) place forest = by (forest_with_next (records place)
     by (Some next) rest = omega (arith, rest next)
 
 -- Before a session makes files, what is left means what it meant.
-without_files : (opening : Mounted) (session before : ℕ) (old : Moments) → mounts (as_read (now old)) ≡ Ok opening → session_in opening.layout (as_read (now old)) ≡ Some before → session ≡ suc before
-    → IsQuiet (now old) → IsAlone opening.layout opening.commits (as_read (now old)) → (image : Image) → MayLeaveBut (IsOfSession opening.layout session opening.commits (opening.commits + 0)) (now old) image
+without_files : (opening : Mounted) (session before : ℕ) (old : DevicesState) → mounts (as_read (now old)) ≡ Ok opening → session_in opening.layout (as_read (now old)) ≡ Some before → session ≡ suc before
+    → IsQuiet (now old) → IsAlone opening.layout opening.commits (as_read (now old)) → (image : Image) → IsCrashImageBut (IsOfSession opening.layout session opening.commits (opening.commits + 0)) (now old) image
     → length image ≡ length (now old) → HasNoChanceMatch opening (as_read (now old)) [] image → IsPrefix opening [] 0 image
 without_files opening session before old means named behind quiet alone image others as_many no_chance =
     let log = (is_mounted (as_read (now old)) opening means).log in
@@ -390,8 +390,8 @@ survives opening start tells shown log forest sound told steady later past means
     (acknowledged log.acks moment) has.least no_chance
 
 -- While only the next session's number is written, what is left means what it meant.
-pub beginning_survives : (opening : Mounted) (old new : Moments) (before devices : ℕ) → session_in opening.layout (as_read (now old)) ≡ Some before
-    → LeavesOnly (λ _ image. MayLeaveBut (IsSessionPlace opening.layout (suc before)) (now old) image) old new → ((m : ℕ) → m ≤ new.moment → length (new.disks m) ≡ devices) → Survives opening old new [] []
+pub beginning_survives : (opening : Mounted) (old new : DevicesState) (before devices : ℕ) → session_in opening.layout (as_read (now old)) ≡ Some before
+    → EachCrash (λ _ _ image. IsCrashImageBut (IsSessionPlace opening.layout (suc before)) (now old) image) old new → ((m : ℕ) → m ≤ new.moment → length (new.disks m) ≡ devices) → Survives opening old new [] []
 beginning_survives opening old new before devices named only steady means quiet alone moment lo hi image may no_chance =
     let left = only.each moment lo hi image may in
     let others = may_differ_more (IsSessionPlace opening.layout (suc before)) (IsOfSession opening.layout (suc before) opening.commits (opening.commits + 0)) (now old) image (λ d b at. inl at) left in
@@ -399,9 +399,9 @@ beginning_survives opening old new before devices named only steady means quiet 
     without_files opening (suc before) before old means named refl quiet alone image others as_many no_chance
 
 -- What was only read means what it meant.
-pub reading_survives : (opening : Mounted) (old new : Moments) → StaysSo old new → Survives opening old new [] []
+pub reading_survives : (opening : Mounted) (old new : DevicesState) → DisksStay old new → Survives opening old new [] []
 reading_survives opening old new stays means quiet alone moment lo hi image may no_chance =
-    let may_before : MayLeaveImage (now old) image = subst (λ ds. MayLeaveImage ds image) (stays.same moment lo hi) may in
+    let may_before : IsCrashImage (now old) image = subst (λ ds. IsCrashImage ds image) (stays.same moment lo hi) may in
     let named = (is_mounted (as_read (now old)) opening means).named in
     without_files opening (suc named.0) named.0 old means named.1 refl quiet alone image
     (left_itself (IsOfSession opening.layout (suc named.0) opening.commits (opening.commits + 0)) (now old) image may_before) (sym (image_count (now old) image may_before)) no_chance

@@ -3,10 +3,9 @@ use Rattle.std.specs.Prelude.{◌≡◌, ◌⊎◌, ℕ, suc, ◌+◌, ◌<◌, 
 use Rattle.vol_types.specs.Faults.{RoseBy}
 use Rattle.vol_types.specs.declared.layout.Layout.{Layout}
 use Rattle.dev_model.specs.Disk.{Disk, Image, as_read}
-use Rattle.dev_model.specs.Devices.{History as Moments, now}
-use Rattle.dev_model.specs.Stops.{LeavesOnly, MayLeaveBut}
+use Rattle.dev_model.specs.Devices.{DevicesState, now}
+use Rattle.dev_model.specs.Crashes.{EachCrash, EachCrashNow, IsCrashImageBut}
 use Rattle.geometry.specs.Layouts.{is_layout_of}
-use Rattle.geometry.specs.Mirrors.{EachLeft}
 use Rattle.geometry.specs.Sessions.{session_in}
 use Rattle.plain_forest.specs.Forest.{Forest}
 use Rattle.plain_forest.specs.Steps.{reply_of}
@@ -27,7 +26,7 @@ use Rattle.record_log.specs.declared.halt.Halt.{Halt}
 -- what devices show: their disks at each moment so far, their sizes, and how often they failed, at any call and at a write
 -- or a flush
 pub record Shown : Type 0 where
-  pub moments : Moments
+  pub moments : DevicesState
   pub sizes : List ℕ
   pub faults : ℕ
   pub write_faults : ℕ
@@ -88,7 +87,7 @@ pub record KeepsRecords (layout : Layout) (session : ℕ) (tells : Type 0) (star
   pub fits : is_layout_of shown.sizes layout ≡ true
   pub written : durable ≤ length files
   pub behind : tells → (before : ℕ) × (session_in layout (as_read (now start.moments)) ≡ Some before) × (session ≡ suc before)
-  pub held : tells → EachLeft (HasWritten layout session (now start.moments) base durable files) shown.moments
+  pub held : tells → EachCrashNow (HasWritten layout session (now start.moments) base durable files) shown.moments
 
 -- The image has all records that were acknowledged by this moment, and maybe more.
 pub record HasAcknowledged (layout : Layout) (session : ℕ) (start : List Disk) (base durable : ℕ) (files : List MadeFile) (acks : List Ack) (moment : ℕ) (image : Image) : Type 0 where
@@ -99,10 +98,10 @@ pub record HasAcknowledged (layout : Layout) (session : ℕ) (start : List Disk)
 
 -- It acknowledged what was durable, and whatever a stop left at a moment since it began has the records that were
 -- acknowledged by then.
-pub record KeepsAcks (layout : Layout) (session : ℕ) (tells : Type 0) (start now_shown : Moments) (base count : ℕ) (files : List MadeFile) (trace : History) (acks : List Ack) : Type 0 where
+pub record KeepsAcks (layout : Layout) (session : ℕ) (tells : Type 0) (start now_shown : DevicesState) (base count : ℕ) (files : List MadeFile) (trace : History) (acks : List Ack) : Type 0 where
   pub each : AreAcks start.moment now_shown.moment trace acks
   pub durable : All (λ ack. ack.commits ≤ count) acks
-  pub stops : tells → LeavesOnly (HasAcknowledged layout session (now start) base count files acks) start now_shown
+  pub stops : tells → EachCrash (HasAcknowledged layout session (now start) base count files acks) start now_shown
 
 -- What holds of every session that opened with this forest, when its devices showed that, and has this forest now, when
 -- they show this.
@@ -116,15 +115,15 @@ pub record IsSound {D : Type 0} (opening : Forest) (start : Shown) (tells : Type
 -- as it has written make of the opening forest the one after these commits, and the session has sealed each of them.
 abbrev pub HoldsDurable : {D : Type 0} → Forest → Log D → Image → Type 0
 HoldsDurable opening log image =
-    (dev : ℕ) → dev < log.layout.meta
+    (dev : ℕ) → dev < log.layout.metadata_replicas
     → (scanned_from (λ place. record_on log.layout place image dev) log.durable log.base opening ≡ (log.base + log.durable, after_commits opening log.trace log.durable))
     × ((i : ℕ) → i < log.durable → owner_on (log.base + i) image dev ≡ Some log.session)
 
 -- From one state of a session to the next a stop at each moment leaves what it might have left before, but maybe behind
 -- the records that were durable.
-abbrev pub KeepsDurable : {D : Type 0} → (D → Moments) → Log D → Log D → Type 0
+abbrev pub KeepsDurable : {D : Type 0} → (D → DevicesState) → Log D → Log D → Type 0
 KeepsDurable history old new =
-    LeavesOnly (λ _ image. MayLeaveBut (IsFrom old.layout (old.base + old.durable)) (now (history old.devices)) image) (history old.devices) (history new.devices)
+    EachCrash (λ _ _ image. IsCrashImageBut (IsFrom old.layout (old.base + old.durable)) (now (history old.devices)) image) (history old.devices) (history new.devices)
 
 -- the operation is one that the log can keep: to make a file in the root of `main`, to list, or to sync
 abbrev pub IsFlat : Op → Type 0
@@ -163,18 +162,18 @@ pub record StaysHalted {D : Type 0} (halt : Halt) (old new : Log D) (reply : Rep
   pub nothing : new ≡ record old { trace = new.trace }
 
 -- what a sync does, as the session has halted before or not
-abbrev pub Syncs : {D : Type 0} → (D → Moments) → (D → ℕ) → Forest → Option Halt → Log D → Log D → Reply → Type 0
+abbrev pub Syncs : {D : Type 0} → (D → DevicesState) → (D → ℕ) → Forest → Option Halt → Log D → Log D → Reply → Type 0
 Syncs history faults opening (Some halt) old new reply = StaysHalted halt old new reply
 Syncs history faults opening None old new reply = HasSynced opening (history new.devices).moment old new reply ⊎ HasFailed faults (history new.devices).moment old new reply
 
 -- What the log answers to an operation. Only a sync halts it or acknowledges; `faults` counts failed writes and flushes.
-abbrev pub IsLogReply : {D : Type 0} → (D → Moments) → (D → ℕ) → Forest → Op → Log D → Log D → Reply → Type 0
+abbrev pub IsLogReply : {D : Type 0} → (D → DevicesState) → (D → ℕ) → Forest → Op → Log D → Log D → Reply → Type 0
 IsLogReply history faults opening (Mkfile path) old new reply = reply ≡ file_reply old.halted (is_full opening old) path (after_all opening old.trace)
 IsLogReply history faults opening (Ls path) old new reply = reply ≡ reply_of 0 (Ls path) 0 (after_all opening old.trace)
 IsLogReply history faults opening Sync old new reply = Syncs history faults opening old.halted old new reply
 
 -- The operation was answered: its entry stands behind the others.
-pub record Answers {D : Type 0} (history : D → Moments) (faults : D → ℕ) (opening : Forest) (op : Op) (old new : Log D) : Type 0 where
+pub record Answers {D : Type 0} (history : D → DevicesState) (faults : D → ℕ) (opening : Forest) (op : Op) (old new : Log D) : Type 0 where
   pub reply : Reply
   pub is : IsLogReply history faults opening op old new reply
   pub trace : new.trace ≡ old.trace ++ record { client = 0; op = op; reply = reply } ∷ []

@@ -1,8 +1,8 @@
 -- What a stop leaves of a session, and what it means.
 use Rattle.std.specs.Prelude.{◌≡◌, ◌⊎◌, ℕ, ◌+◌, ◌<◌, ◌≤◌, List, slice_get, Some, None, Ok}
-use Rattle.dev_model.specs.Disk.{Image, MayLeaveImage, as_read}
-use Rattle.dev_model.specs.Devices.{History as Moments, now}
-use Rattle.dev_model.specs.Stops.{IsQuiet}
+use Rattle.dev_model.specs.Disk.{Image, IsCrashImage, as_read}
+use Rattle.dev_model.specs.Devices.{DevicesState, now}
+use Rattle.dev_model.specs.Crashes.{IsQuiet}
 use Rattle.vol_types.specs.declared.layout.Layout.{Layout}
 use Rattle.plain_forest.specs.Forest.{Forest}
 use Rattle.plain_forest.specs.Steps.{next_number}
@@ -28,7 +28,7 @@ pub record IsMadeBy (opening : Forest) (history : History) (place : ℕ) (file :
 -- session began, or is the one of the commit whose place it is.
 abbrev pub HasNoChanceMatch : Mounted → Image → History → Image → Type 0
 HasNoChanceMatch opening before history image =
-    (place dev : ℕ) (file : MadeFile) → place < opening.layout.journal → dev < opening.layout.meta → record_on opening.layout place image dev ≡ Some file
+    (place dev : ℕ) (file : MadeFile) → place < opening.layout.journal → dev < opening.layout.metadata_replicas → record_on opening.layout place image dev ≡ Some file
     → (record_on opening.layout place before dev ≡ Some file) ⊎ ((commit : ℕ) × (place ≡ opening.commits + commit) × IsMadeBy opening.forest history commit file)
 
 -- The image means the forest after a prefix of the history's commits, none skipped and none in part, with at least so many
@@ -42,9 +42,9 @@ pub record IsPrefix (opening : Mounted) (history : History) (acknowledged_by_the
 
 -- A stop at each moment of a session leaves only images that mean a prefix of its history with all that was acknowledged by
 -- then, where the devices held this volume, were quiet and the session was alone, and where no chance match is in the image.
-abbrev pub Survives : Mounted → Moments → Moments → History → List Ack → Type 0
+abbrev pub Survives : Mounted → DevicesState → DevicesState → History → List Ack → Type 0
 Survives opening old new history acks =
     mounts (as_read (now old)) ≡ Ok opening → IsQuiet (now old) → IsAlone opening.layout opening.commits (as_read (now old))
     → (moment : ℕ) → old.moment ≤ moment → moment ≤ new.moment
-    → (image : Image) → MayLeaveImage (new.disks moment) image → HasNoChanceMatch opening (as_read (now old)) history image
+    → (image : Image) → IsCrashImage (new.disks moment) image → HasNoChanceMatch opening (as_read (now old)) history image
     → IsPrefix opening history (acknowledged acks moment) image

@@ -1,9 +1,8 @@
 ghost use Rattle.std.specs.Prelude.{◌≡◌, ◌+◌, ◌<◌, ◌≤◌, ◌↔◌, ℕ, true, Err, OnOk, length};
 ghost use Rattle.vol_types.specs.Faults.{RoseBy};
 ghost use Rattle.dev_model.specs.Devices.{now};
-ghost use Rattle.dev_model.specs.Stops.{LeavesOnly, MayLeaveBut};
+ghost use Rattle.dev_model.specs.Crashes.{EachCrash, EachCrashNow, IsCrashImageBut};
 ghost use Rattle.geometry.specs.Layouts.{is_layout_of};
-ghost use Rattle.geometry.specs.Mirrors.{EachLeft};
 ghost use Rattle.geometry.specs.Sessions.{IsSessionPlace};
 ghost use Rattle.record_log.specs.Durable.{NamesSession};
 
@@ -48,16 +47,16 @@ pub fn begin_session<D: Devices>(
     devices: &mut D,
     loaded: &Loaded,
 ) -> Result<(), BeginFault>
-    requires { is_layout_of (D.sizes devices.old) loaded.now.layout ≡ true }
+    requires { is_layout_of (D.state devices.old).sizes loaded.now.layout ≡ true }
     ensures spent { (result ≡ Err BeginFault.Spent) ↔ (4294967295 ≤ loaded.now.session) }
     ensures nothing { result ≡ Err BeginFault.Spent → devices.new ≡ devices.old }
-    ensures numbered { D.tells → OnOk result (EachLeft (NamesSession loaded.now.layout (loaded.now.session + 1)) (D.history devices.new)) }
-    ensures stops { D.tells → LeavesOnly (λ _ image. MayLeaveBut (IsSessionPlace loaded.now.layout (loaded.now.session + 1)) (now (D.history devices.old)) image) (D.history devices.old) (D.history devices.new) }
-    ensures cause { (dev : ℕ) → result ≡ Err (BeginFault.DeviceFault dev) → (dev < length (D.sizes devices.old)) × RoseBy 1 (D.faults devices.old) (D.faults devices.new) }
+    ensures numbered { D.tells → OnOk result (EachCrashNow (NamesSession loaded.now.layout (loaded.now.session + 1)) (D.state devices.new)) }
+    ensures stops { D.tells → EachCrash (λ _ _ image. IsCrashImageBut (IsSessionPlace loaded.now.layout (loaded.now.session + 1)) (now (D.state devices.old)) image) (D.state devices.old) (D.state devices.new) }
+    ensures cause { (dev : ℕ) → result ≡ Err (BeginFault.DeviceFault dev) → (dev < length (D.state devices.old).sizes) × RoseBy 1 (D.faults devices.old) (D.faults devices.new) }
     ensures faults { D.faults devices.old ≤ D.faults devices.new }
     ensures write_faults { D.write_faults devices.old ≤ D.write_faults devices.new }
-    ensures sizes { D.sizes devices.new ≡ D.sizes devices.old }
-    ensures moment { (D.history devices.old).moment ≤ (D.history devices.new).moment }
+    ensures sizes { (D.state devices.new).sizes ≡ (D.state devices.old).sizes }
+    ensures moment { (D.state devices.old).moment ≤ (D.state devices.new).moment }
 {
     if loaded.session >= LAST_SESSION {
         devices.count();

@@ -6,9 +6,8 @@ ghost use Rattle.plain_forest.specs.History.{EachEntry, IsLegal, after_all, comm
 ghost use Rattle.std.specs.Option.{option_map_or};
 ghost use Rattle.plain_forest.specs.Steps.{refusal_of, reply_of};
 ghost use Rattle.plain_forest.specs.declared.path.Path.{Path};
-ghost use Rattle.dev_model.specs.Stops.{LeavesOnly, MayLeaveBut};
+ghost use Rattle.dev_model.specs.Crashes.{EachCrash, EachCrashNow, IsCrashImageBut};
 ghost use Rattle.geometry.specs.Layouts.{is_layout_of};
-ghost use Rattle.geometry.specs.Mirrors.{EachLeft};
 ghost use Rattle.geometry.specs.Sessions.{IsSessionPlace, session_in};
 ghost use Rattle.log_records.specs.Found.{in_main, mounted_as};
 ghost use Rattle.record_log.specs.Durable.{NamesSession};
@@ -62,20 +61,20 @@ impl<D: Devices, O: Opening> Model for RecordLog<D, O> {
 
     ghost view = { λ l. record { devices = l.devices; layout = l.layout; session = l.session; base = l.base; files = l.files.items; durable = l.durable; halted = l.halted; trace = l.trace.items; acks = l.acks.items } };
 
-    ghost invariant = { λ l. IsSound O.forest O.start D.tells (record { moments = D.history l.devices; sizes = D.sizes l.devices; faults = D.faults l.devices; write_faults = D.write_faults l.devices }) (record { devices = l.devices; layout = l.layout; session = l.session; base = l.base; files = l.files.items; durable = l.durable; halted = l.halted; trace = l.trace.items; acks = l.acks.items }) l.forest };
+    ghost invariant = { λ l. IsSound O.forest O.start D.tells (record { moments = D.state l.devices; sizes = (D.state l.devices).sizes; faults = D.faults l.devices; write_faults = D.write_faults l.devices }) (record { devices = l.devices; layout = l.layout; session = l.session; base = l.base; files = l.files.items; durable = l.durable; halted = l.halted; trace = l.trace.items; acks = l.acks.items }) l.forest };
 }
 
 impl<D: Devices, O: Opening> RecordLog<D, O> {
-    /// Goes on with a session that `begin_session` has begun over devices whose volume was loaded.
+    /// ChangesDisks on with a session that `begin_session` has begun over devices whose volume was loaded.
     pub fn start(alloc: Global, devices: D, loaded: Loaded) -> Self
         requires opening { loaded.forest ≡ O.forest }
-        requires fits { is_layout_of (D.sizes devices) loaded.layout ≡ true }
+        requires fits { is_layout_of (D.state devices).sizes loaded.layout ≡ true }
         requires room { loaded.records ≤ loaded.layout.journal }
         requires unspent { loaded.session < 4294967295 }
         requires named { D.tells → session_in loaded.layout (as_read (now O.start.moments)) ≡ Some loaded.session }
-        requires numbered { D.tells → EachLeft (NamesSession loaded.layout (loaded.session + 1)) (D.history devices) }
-        requires begun { D.tells → LeavesOnly (λ _ image. MayLeaveBut (IsSessionPlace loaded.layout (loaded.session + 1)) (now O.start.moments) image) O.start.moments (D.history devices) }
-        requires later { O.start.moments.moment ≤ (D.history devices).moment }
+        requires numbered { D.tells → EachCrashNow (NamesSession loaded.layout (loaded.session + 1)) (D.state devices) }
+        requires begun { D.tells → EachCrash (λ _ _ image. IsCrashImageBut (IsSessionPlace loaded.layout (loaded.session + 1)) (now O.start.moments) image) O.start.moments (D.state devices) }
+        requires later { O.start.moments.moment ≤ (D.state devices).moment }
         requires faults { O.start.faults ≤ D.faults devices }
         requires write_faults { O.start.write_faults ≤ D.write_faults devices }
         ensures { result ≡ record { devices = devices; layout = loaded.layout; session = loaded.session + 1; base = loaded.records; files = []; durable = 0; halted = None; trace = []; acks = [] } }
@@ -121,13 +120,13 @@ impl<D: Devices, O: Opening> RecordLog<D, O> {
         ensures halted { result.halted ≡ self.halted }
         ensures legal { IsLegal O.forest result.trace }
         ensures exact { EachEntry (IsExact O.forest self.base self.layout.journal (halt_or_none result.halted)) result.trace }
-        ensures halts { HasHalted (length (D.sizes result.devices)) O.start.moments.moment (D.history result.devices).moment result.trace result.halted }
+        ensures halts { HasHalted (length (D.state result.devices).sizes) O.start.moments.moment (D.state result.devices).moment result.trace result.halted }
         ensures faults { RoseBy (device_faults result.trace) O.start.faults (D.faults result.devices) }
         ensures write_faults { RoseBy (device_faults result.trace) O.start.write_faults (D.write_faults result.devices) }
-        ensures acknowledged { AreAcks O.start.moments.moment (D.history result.devices).moment result.trace result.acks }
-        ensures survives { D.tells → Survives (mounted_as self.layout (self.base, O.forest)) O.start.moments (D.history result.devices) result.trace result.acks }
-        ensures later { O.start.moments.moment ≤ (D.history result.devices).moment }
-        ensures past { D.tells → (m : ℕ) → m ≤ O.start.moments.moment → (D.history result.devices).disks m ≡ O.start.moments.disks m }
+        ensures acknowledged { AreAcks O.start.moments.moment (D.state result.devices).moment result.trace result.acks }
+        ensures survives { D.tells → Survives (mounted_as self.layout (self.base, O.forest)) O.start.moments (D.state result.devices) result.trace result.acks }
+        ensures later { O.start.moments.moment ≤ (D.state result.devices).moment }
+        ensures past { D.tells → (m : ℕ) → m ≤ O.start.moments.moment → (D.state result.devices).disks m ≡ O.start.moments.disks m }
     {
         Finished {
             devices: self.devices,
@@ -144,16 +143,16 @@ impl<D: Devices, O: Opening> RecordLog<D, O> {
     /// it; where a call to the device fails, the session has halted.
     pub fn call(&mut self, op: &Op) -> Result<(), AllocError>
         requires { IsFlat op.now }
-        ensures answered { OnOk result (Answers D.history D.write_faults O.forest op.now self.old self.new) }
+        ensures answered { OnOk result (Answers D.state D.write_faults O.forest op.now self.old self.new) }
         ensures err { OnErr result (self.new ≡ record self.old { devices = self.new.devices; durable = self.new.durable }) }
         ensures base { self.new.base ≡ self.old.base }
         ensures layout { self.new.layout ≡ self.old.layout }
         ensures rises { self.old.durable ≤ self.new.durable }
         ensures untouched { op.now ≢ Op.Sync → self.new ≡ record self.old { files = self.new.files; trace = self.new.trace } }
-        ensures sizes { D.sizes self.new.devices ≡ D.sizes self.old.devices }
+        ensures sizes { (D.state self.new.devices).sizes ≡ (D.state self.old.devices).sizes }
 
-        ensures durable { D.tells → EachLeft (HoldsDurable O.forest self.new) (D.history self.new.devices) }
-        ensures kept { D.tells → KeepsDurable D.history self.old self.new }
+        ensures durable { D.tells → EachCrashNow (HoldsDurable O.forest self.new) (D.state self.new.devices) }
+        ensures kept { D.tells → KeepsDurable D.state self.old self.new }
     {
         let answered = self.answer(op);
         self.durable_commits_are_held();
@@ -162,21 +161,21 @@ impl<D: Devices, O: Opening> RecordLog<D, O> {
 
     /// The durable commits are on the device, whatever a stop leaves of it now.
     pub fn durable_commits_are_held(&self)
-        ensures { D.tells → EachLeft (HoldsDurable O.forest self.now) (D.history self.now.devices) }
+        ensures { D.tells → EachCrashNow (HoldsDurable O.forest self.now) (D.state self.now.devices) }
     {
         let _ = &self.alloc;
     }
 
     fn answer(&mut self, op: &Op) -> Result<(), AllocError>
         requires { IsFlat op.now }
-        ensures answered { OnOk result (Answers D.history D.write_faults O.forest op.now self.old self.new) }
+        ensures answered { OnOk result (Answers D.state D.write_faults O.forest op.now self.old self.new) }
         ensures err { OnErr result (self.new ≡ record self.old { devices = self.new.devices; durable = self.new.durable }) }
         ensures base { self.new.base ≡ self.old.base }
         ensures layout { self.new.layout ≡ self.old.layout }
         ensures rises { self.old.durable ≤ self.new.durable }
         ensures untouched { op.now ≢ Op.Sync → self.new ≡ record self.old { files = self.new.files; trace = self.new.trace } }
-        ensures sizes { D.sizes self.new.devices ≡ D.sizes self.old.devices }
-        ensures kept { D.tells → KeepsDurable D.history self.old self.new }
+        ensures sizes { (D.state self.new.devices).sizes ≡ (D.state self.old.devices).sizes }
+        ensures kept { D.tells → KeepsDurable D.state self.old self.new }
     {
         match op {
             Op::Mkfile { path } => match path.last() {
@@ -199,7 +198,7 @@ impl<D: Devices, O: Opening> RecordLog<D, O> {
 
     fn make_file(&mut self, op: &Op, name: &Bytes) -> Result<(), AllocError>
         requires { op.now ≡ Op.Mkfile (in_main name.now) }
-        ensures answered { OnOk result (Answers D.history D.write_faults O.forest op.now self.old self.new) }
+        ensures answered { OnOk result (Answers D.state D.write_faults O.forest op.now self.old self.new) }
         ensures err { OnErr result (self.new ≡ self.old) }
         ensures others { self.new ≡ record self.old { files = self.new.files; trace = self.new.trace } }
     {
@@ -278,13 +277,13 @@ impl<D: Devices, O: Opening> RecordLog<D, O> {
     }
 
     fn sync(&mut self) -> Result<(), AllocError>
-        ensures answered { OnOk result (Answers D.history D.write_faults O.forest Op.Sync self.old self.new) }
+        ensures answered { OnOk result (Answers D.state D.write_faults O.forest Op.Sync self.old self.new) }
         ensures err { OnErr result (self.new ≡ record self.old { devices = self.new.devices; durable = self.new.durable }) }
         ensures rises { self.old.durable ≤ self.new.durable }
-        ensures sizes { D.sizes self.new.devices ≡ D.sizes self.old.devices }
+        ensures sizes { (D.state self.new.devices).sizes ≡ (D.state self.old.devices).sizes }
         ensures base { self.new.base ≡ self.old.base }
         ensures layout { self.new.layout ≡ self.old.layout }
-        ensures kept { D.tells → KeepsDurable D.history self.old self.new }
+        ensures kept { D.tells → KeepsDurable D.state self.old self.new }
     {
         match self.halted {
             Some(halt) => self.stay_halted(halt),
@@ -310,13 +309,13 @@ impl<D: Devices, O: Opening> RecordLog<D, O> {
     // Writes each record that isn't written yet, and acknowledges all commits.
     fn sync_all(&mut self) -> Result<(), AllocError>
         requires { self.old.halted ≡ None }
-        ensures answered { OnOk result (Answers D.history D.write_faults O.forest Op.Sync self.old self.new) }
+        ensures answered { OnOk result (Answers D.state D.write_faults O.forest Op.Sync self.old self.new) }
         ensures err { OnErr result (self.new ≡ record self.old { devices = self.new.devices; durable = self.new.durable }) }
         ensures rises { self.old.durable ≤ self.new.durable }
-        ensures sizes { D.sizes self.new.devices ≡ D.sizes self.old.devices }
+        ensures sizes { (D.state self.new.devices).sizes ≡ (D.state self.old.devices).sizes }
         ensures base { self.new.base ≡ self.old.base }
         ensures layout { self.new.layout ≡ self.old.layout }
-        ensures kept { D.tells → KeepsDurable D.history self.old self.new }
+        ensures kept { D.tells → KeepsDurable D.state self.old self.new }
     {
         self.trace.reserve(1)?;
         self.acks.reserve(1)?;

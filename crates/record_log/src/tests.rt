@@ -19,8 +19,8 @@ const ID: [u8; 16] = [7; 16];
 
 // Sets a block between two sessions.
 fn put(devices: &mut MemDevices, dev: u8, block: u32, bytes: &[u8]) -> Result<(), Fail>
-    requires { NothingPending (now (⟦<MemDevices as Devices>⟧.history devices.old)) }
-    ensures { NothingPending (now (⟦<MemDevices as Devices>⟧.history devices.new)) }
+    requires { NothingPending (now (⟦<MemDevices as Devices>⟧.state devices.old)) }
+    ensures { NothingPending (now (⟦<MemDevices as Devices>⟧.state devices.new)) }
 {
     if dev >= devices.count() || block >= devices.blocks(dev) || bytes.len() != 4096 {
         return Err(Fail::from("there is no such block"));
@@ -35,8 +35,8 @@ fn volume_of_session(alloc: Global, session: u64) -> Result<MemDevices, Fail> {
         id: ID,
         blocks: Blocks::from_slice(alloc, &[1024, 1024])?,
         journal: 256,
-        meta: 2,
-        replicas: 1,
+        metadata_replicas: 2,
+        data_replicas: 1,
     };
     if !is_layout(&layout) || layout.blocks.len() != 2 {
         return Err(Fail::from("the layout is one of two devices"));
@@ -74,10 +74,10 @@ fn session_from<D: Devices + Drop, O: Opening>(
     letters: &[u8],
 ) -> Result<Finished<D>, Fail>
     requires opening { loaded.forest ≡ O.forest }
-    requires fits { is_layout_of (D.sizes devices) loaded.layout ≡ true }
+    requires fits { is_layout_of (D.state devices).sizes loaded.layout ≡ true }
     requires room { loaded.records ≤ loaded.layout.journal }
-    requires named { D.tells → session_in loaded.layout (as_read (now (D.history devices))) ≡ Some loaded.session }
-    requires start { O.start ≡ record { moments = D.history devices; sizes = D.sizes devices; faults = D.faults devices; write_faults = D.write_faults devices } }
+    requires named { D.tells → session_in loaded.layout (as_read (now (D.state devices))) ≡ Some loaded.session }
+    requires start { O.start ≡ record { moments = D.state devices; sizes = (D.state devices).sizes; faults = D.faults devices; write_faults = D.write_faults devices } }
 {
     let mut devices = devices;
     begin_session(alloc, &mut devices, &loaded)?;

@@ -2,9 +2,8 @@ ghost use Rattle.std.specs.Prelude.{◌≡◌, ◌+◌, ◌<◌, ◌≤◌, ℕ,
 ghost use Rattle.vol_types.specs.Faults.{RoseBy};
 ghost use Rattle.dev_model.specs.Disk.{Disk};
 ghost use Rattle.dev_model.specs.Devices.{now};
-ghost use Rattle.dev_model.specs.Stops.{LeavesOnly, MayLeaveBut};
+ghost use Rattle.dev_model.specs.Crashes.{EachCrash, EachCrashNow, IsCrashImageBut};
 ghost use Rattle.geometry.specs.Layouts.{is_layout_of};
-ghost use Rattle.geometry.specs.Mirrors.{EachLeft};
 ghost use Rattle.record_log.specs.Durable.{HasWritten, HoldRecord, IsFrom, IsLogPlace, Writes};
 
 use dev_model::Devices;
@@ -23,22 +22,22 @@ pub fn write_record<D: Devices>(
     place: u32,
     file: &MadeFile,
 ) -> Result<(), DiskFault>
-    requires fits { is_layout_of (D.sizes devices.old) layout.now ≡ true }
+    requires fits { is_layout_of (D.state devices.old).sizes layout.now ≡ true }
     requires place { place < layout.now.journal }
     requires name { length file.now.name < 256 }
-    ensures cause { (dev : ℕ) → result ≡ Err (DiskFault.DeviceFault dev) → (dev < length (D.sizes devices.old)) × RoseBy 1 (D.faults devices.old) (D.faults devices.new) × RoseBy 1 (D.write_faults devices.old) (D.write_faults devices.new) }
+    ensures cause { (dev : ℕ) → result ≡ Err (DiskFault.DeviceFault dev) → (dev < length (D.state devices.old).sizes) × RoseBy 1 (D.faults devices.old) (D.faults devices.new) × RoseBy 1 (D.write_faults devices.old) (D.write_faults devices.new) }
     ensures faults { D.faults devices.old ≤ D.faults devices.new }
     ensures write_faults { D.write_faults devices.old ≤ D.write_faults devices.new }
-    ensures sizes { D.sizes devices.new ≡ D.sizes devices.old }
-    ensures moment { (D.history devices.old).moment ≤ (D.history devices.new).moment }
-    ensures held { D.tells → OnOk result (EachLeft (HoldRecord layout.now session place (Some file.now)) (D.history devices.new)) }
-    ensures stops { D.tells → LeavesOnly (λ _ image. MayLeaveBut (IsLogPlace layout.now place) (now (D.history devices.old)) image) (D.history devices.old) (D.history devices.new) }
+    ensures sizes { (D.state devices.new).sizes ≡ (D.state devices.old).sizes }
+    ensures moment { (D.state devices.old).moment ≤ (D.state devices.new).moment }
+    ensures held { D.tells → OnOk result (EachCrashNow (HoldRecord layout.now session place (Some file.now)) (D.state devices.new)) }
+    ensures stops { D.tells → EachCrash (λ _ _ image. IsCrashImageBut (IsLogPlace layout.now place) (now (D.state devices.old)) image) (D.state devices.old) (D.state devices.new) }
 {
     let mut block = vec![in alloc; 0; 4096]?;
     seal_record(alloc, &layout.id, session, place, file, &mut block)?;
     let count = devices.count();
     flush_devices(devices, count)?;
-    write_mirrors(devices, layout.meta, LOG_START + place, &block)
+    write_mirrors(devices, layout.metadata_replicas, LOG_START + place, &block)
 }
 
 /// Writes the records of files into the log that begins at `base`, from the first that isn't durable on, and counts those that
@@ -52,22 +51,22 @@ pub fn write_files<D: Devices>(
     files: &[MadeFile],
     durable: &mut usize,
 ) -> Result<(), DiskFault>
-    requires fits { is_layout_of (D.sizes devices.old) layout.now ≡ true }
+    requires fits { is_layout_of (D.state devices.old).sizes layout.now ≡ true }
     requires room { base + length files.now ≤ layout.now.journal }
     requires names { All (λ file. length file.name < 256) files.now }
     requires some { durable.old ≤ length files.now }
     ensures ok { OnOk result (durable.new ≡ length files.now) }
     ensures rises { durable.old ≤ durable.new }
     ensures most { durable.new ≤ length files.now }
-    ensures cause { (dev : ℕ) → result ≡ Err (DiskFault.DeviceFault dev) → (dev < length (D.sizes devices.old)) × RoseBy 1 (D.faults devices.old) (D.faults devices.new) × RoseBy 1 (D.write_faults devices.old) (D.write_faults devices.new) }
+    ensures cause { (dev : ℕ) → result ≡ Err (DiskFault.DeviceFault dev) → (dev < length (D.state devices.old).sizes) × RoseBy 1 (D.faults devices.old) (D.faults devices.new) × RoseBy 1 (D.write_faults devices.old) (D.write_faults devices.new) }
     ensures faults { D.faults devices.old ≤ D.faults devices.new }
     ensures write_faults { D.write_faults devices.old ≤ D.write_faults devices.new }
-    ensures sizes { D.sizes devices.new ≡ D.sizes devices.old }
-    ensures moment { (D.history devices.old).moment ≤ (D.history devices.new).moment }
+    ensures sizes { (D.state devices.new).sizes ≡ (D.state devices.old).sizes }
+    ensures moment { (D.state devices.old).moment ≤ (D.state devices.new).moment }
 
     // What a stop leaves meanwhile: at first what the session had written by then, whatever it started with.
-    ensures kept { D.tells → LeavesOnly (λ _ image. MayLeaveBut (IsFrom layout.now (base + durable.old)) (now (D.history devices.old)) image) (D.history devices.old) (D.history devices.new) }
-    ensures written { D.tells → (start : List Disk) → EachLeft (HasWritten layout.now session start base durable.old files.now) (D.history devices.old) → Writes layout.now session start base durable.old durable.new files.now (D.history devices.old) (D.history devices.new) }
+    ensures kept { D.tells → EachCrash (λ _ _ image. IsCrashImageBut (IsFrom layout.now (base + durable.old)) (now (D.state devices.old)) image) (D.state devices.old) (D.state devices.new) }
+    ensures written { D.tells → (start : List Disk) → EachCrashNow (HasWritten layout.now session start base durable.old files.now) (D.state devices.old) → Writes layout.now session start base durable.old durable.new files.now (D.state devices.old) (D.state devices.new) }
 {
     while *durable < files.len() {
         write_record(

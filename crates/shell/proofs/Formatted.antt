@@ -1,10 +1,10 @@
+use Rattle.dev_model.specs.Crashes.{EachCrashNow}
 -- How a format ends, from what its parts say.
 use Rattle.std.proofs.Common.{◌≡◌, ◌≤◌, ◌<◌, ℕ, List, length, Some, None, Ok, refl, sym, subst}
 use Rattle.std.proofs.lemmas.Option.{none-some}
 use Rattle.vol_types.specs.Faults.{RoseBy}
 use Rattle.vol_types.specs.declared.layout.Layout.{Layout}
-use Rattle.dev_model.specs.Devices.{History as Moments}
-use Rattle.geometry.specs.Mirrors.{EachLeft}
+use Rattle.dev_model.specs.Devices.{DevicesState}
 use Rattle.geometry.specs.declared.fault.DiskFault.{DiskFault}
 use Rattle.geometry.specs.declared.fault.DiskFault.TheVariants.{DeviceFault, NoMemory}
 use Rattle.plain_forest.specs.History.{History}
@@ -18,7 +18,7 @@ use Rattle.shell.specs.Stops.{stop_of_disk}
 use Rattle.shell.specs.Caused.{FormatCause}
 use Rattle.shell.specs.Phases.{EndsEarly, Formats}
 
-module _ {D : Type 0} (history : D → Moments) (sizes : D → List ℕ) (faults write_faults : D → ℕ) (sink_tells devices_tell : Type 0) (layout : Layout) (old new last : D) where
+module _ {D : Type 0} (history : D → DevicesState) (sizes : D → List ℕ) (faults write_faults : D → ℕ) (sink_tells devices_tell : Type 0) (layout : Layout) (old new last : D) where
   -- what devices show
   abbrev shown : D → Shown
   shown d = record { moments = history d; sizes = sizes d; faults = faults d; write_faults = write_faults d }
@@ -31,7 +31,7 @@ module _ {D : Type 0} (history : D → Moments) (sizes : D → List ℕ) (faults
   -- devices that were formatted
   pub format_done : (line held held_after : List ℕ) (sink_faults sink_faults_after status : ℕ) (trace : History) (acks : List Ack) → line ≡ formatted_line layout
       → (history old).moment ≤ (history new).moment → (devices_tell → FormatSurvives layout (history old) (history new))
-      → (devices_tell → EachLeft (λ image. mounts image ≡ Ok (fresh_volume layout)) (history new)) → last ≡ new
+      → (devices_tell → EachCrashNow (λ image. mounts image ≡ Ok (fresh_volume layout)) (history new)) → last ≡ new
       → EndsEarly sink_tells line 0 held held_after sink_faults sink_faults_after status trace acks
       → Formats sink_tells devices_tell layout (shown old) (shown last) held held_after sink_faults sink_faults_after status trace acks
   format_done line held held_after sink_faults sink_faults_after status trace acks is later survives done same ends =

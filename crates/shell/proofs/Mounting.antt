@@ -3,11 +3,11 @@ use Rattle.std.proofs.Common.{◌≡◌, ◌≤◌, ◌<◌, ◌+◌, ◌⊎◌,
 use Rattle.std.proofs.lemmas.Bool.{cases_lt}
 use Rattle.vol_types.specs.Faults.{RoseBy}
 use Rattle.vol_types.specs.declared.layout.Layout.{Layout}
-use Rattle.dev_model.specs.Disk.{Image, MayLeaveImage, as_read}
-use Rattle.dev_model.specs.Devices.{History as Moments, now}
-use Rattle.dev_model.specs.Reading.{StaysSo, stays_now}
-use Rattle.dev_model.specs.Stops.{LeavesOnly, MayLeaveBut}
-use Rattle.dev_model.specs.StopLaws.{left_itself}
+use Rattle.dev_model.specs.Disk.{Image, IsCrashImage, as_read}
+use Rattle.dev_model.specs.Devices.{DevicesState, now}
+use Rattle.dev_model.specs.FrameLaws.{DisksStay, stays_now}
+use Rattle.dev_model.specs.Crashes.{EachCrash, IsCrashImageBut}
+use Rattle.dev_model.specs.CrashLaws.{left_itself}
 use Rattle.geometry.specs.Sessions.{IsSessionPlace, session_in}
 use Rattle.geometry.specs.Superblocks.{layout_in}
 use Rattle.plain_forest.specs.History.{History}
@@ -39,8 +39,8 @@ pub rose_before : (old mid new : ℕ) → mid ≤ new → RoseBy 1 old mid → R
 rose_before old mid new le rose = omega (arith, le, rose)
 
 -- devices that weren't touched since they were read
-pub stays_only : {D : Type 0} (history : D → Moments) (first mid last : D) → last ≡ mid → StaysSo (history first) (history mid) → StaysSo (history first) (history last)
-stays_only history first mid last same stays = subst (λ d. StaysSo (history first) (history d)) (sym same) stays
+pub stays_only : {D : Type 0} (history : D → DevicesState) (first mid last : D) → last ≡ mid → DisksStay (history first) (history mid) → DisksStay (history first) (history last)
+stays_only history first mid last same stays = subst (λ d. DisksStay (history first) (history d)) (sym same) stays
 
 -- a run without lines has no acknowledgements
 pub no_acks : (first last : ℕ) (history : History) (acks : List Ack) → history ≡ [] → acks ≡ [] → first ≤ last → AreAcks first last history acks
@@ -76,37 +76,37 @@ lies_so image layout session volume is means = ap (λ (v : Mounted). v.layout) (
 -- what holds while a session's number is sealed
 abbrev pub BeginningLaw : Type 0
 BeginningLaw =
-    (opening : Mounted) (old new : Moments) (before devices : ℕ) → session_in opening.layout (as_read (now old)) ≡ Some before
-    → LeavesOnly (λ _ image. MayLeaveBut (IsSessionPlace opening.layout (suc before)) (now old) image) old new → ((m : ℕ) → m ≤ new.moment → length (new.disks m) ≡ devices) → Survives opening old new [] []
+    (opening : Mounted) (old new : DevicesState) (before devices : ℕ) → session_in opening.layout (as_read (now old)) ≡ Some before
+    → EachCrash (λ _ _ image. IsCrashImageBut (IsSessionPlace opening.layout (suc before)) (now old) image) old new → ((m : ℕ) → m ≤ new.moment → length (new.disks m) ≡ devices) → Survives opening old new [] []
 
 -- a volume survives that its next session begins
-pub beginning_survives : BeginningLaw → (old new : Moments) (layout : Layout) (session devices : ℕ) → IsMountable (as_read (now old)) layout session
-    → LeavesOnly (λ _ image. MayLeaveBut (IsSessionPlace layout (session + 1)) (now old) image) old new → ((m : ℕ) → m ≤ new.moment → length (new.disks m) ≡ devices) → (volume : Mounted) → Survives volume old new [] []
+pub beginning_survives : BeginningLaw → (old new : DevicesState) (layout : Layout) (session devices : ℕ) → IsMountable (as_read (now old)) layout session
+    → EachCrash (λ _ _ image. IsCrashImageBut (IsSessionPlace layout (session + 1)) (now old) image) old new → ((m : ℕ) → m ≤ new.moment → length (new.disks m) ≡ devices) → (volume : Mounted) → Survives volume old new [] []
 beginning_survives law old new layout session devices is stops steady volume = λ means.
     let lies : layout ≡ volume.layout = sym (lies_so (as_read (now old)) layout session volume is means) in
     let next : session + 1 ≡ suc session = omega arith in
     law volume old new session devices
     (subst (λ l. session_in l (as_read (now old)) ≡ Some session) lies is.named)
-    (subst (λ l. LeavesOnly (λ _ image. MayLeaveBut (IsSessionPlace l (suc session)) (now old) image) old new) lies (subst (λ n. LeavesOnly (λ _ image. MayLeaveBut (IsSessionPlace layout n) (now old) image) old new) next stops))
+    (subst (λ l. EachCrash (λ _ _ image. IsCrashImageBut (IsSessionPlace l (suc session)) (now old) image) old new) lies (subst (λ n. EachCrash (λ _ _ image. IsCrashImageBut (IsSessionPlace layout n) (now old) image) old new) next stops))
     steady means
 
 earlier_or_later : (m n : ℕ) → (m ≤ n) ⊎ (n < m)
 earlier_or_later m n = ⊎_elim (λ (later : n < m). inr later) (λ (earlier : m ≤ n). inl earlier) (cases_lt n m)
 
 -- what a stop leaves behind reading, it leaves since the reading began
-pub begun_since : (touched : ℕ → ℕ → Type 0) (old mid new : Moments) → StaysSo old mid → LeavesOnly (λ _ image. MayLeaveBut touched (now mid) image) mid new → LeavesOnly (λ _ image. MayLeaveBut touched (now old) image) old new
+pub begun_since : (touched : ℕ → ℕ → Type 0) (old mid new : DevicesState) → DisksStay old mid → EachCrash (λ _ _ image. IsCrashImageBut touched (now mid) image) mid new → EachCrash (λ _ _ image. IsCrashImageBut touched (now old) image) old new
 begun_since touched old mid new stays stops = record {
   later = omega (arith, stays.later, stops.later);
   past = λ m le. stops.past m (omega (arith, le, stays.later)) ∙ stays.past m le;
   each = λ m lo hi image may. ⊎_elim
-      (λ (earlier : m ≤ mid.moment). left_itself touched (now old) image (subst (λ ds. MayLeaveImage ds image) (stops.past m earlier ∙ stays.same m lo earlier) may))
-      (λ (later : mid.moment < m). subst (λ ds. MayLeaveBut touched ds image) (stays_now old mid stays) (stops.each m (omega (arith, later)) hi image may))
+      (λ (earlier : m ≤ mid.moment). left_itself touched (now old) image (subst (λ ds. IsCrashImage ds image) (stops.past m earlier ∙ stays.same m lo earlier) may))
+      (λ (later : mid.moment < m). subst (λ ds. IsCrashImageBut touched ds image) (stays_now old mid stays) (stops.each m (omega (arith, later)) hi image may))
       (earlier_or_later m mid.moment);
 }
 
 -- why loading stopped
 pub load_stopped : (tells read_failed : Type 0) (old new : Shown) (fault : MountFault) → (tells → IsMountAnswer read_failed (as_read (now old.moments)) (Err fault))
-    → ((dev : ℕ) → fault ≡ faults.DeviceFault dev → (dev < length old.sizes) × RoseBy 1 old.faults new.faults) → (tells → StaysSo old.moments new.moments) → new.write_faults ≡ old.write_faults → MountStopped tells old new (stop_of_mount fault)
+    → ((dev : ℕ) → fault ≡ faults.DeviceFault dev → (dev < length old.sizes) × RoseBy 1 old.faults new.faults) → (tells → DisksStay old.moments new.moments) → new.write_faults ≡ old.write_faults → MountStopped tells old new (stop_of_mount fault)
 load_stopped tells read_failed old new faults.NoSuper found cause stays unwritten = record { reason = found; stays = stays; unwritten = unwritten }
 load_stopped tells read_failed old new faults.Version found cause stays unwritten = record { reason = found; stays = stays; unwritten = unwritten }
 load_stopped tells read_failed old new faults.Mixed found cause stays unwritten = record { reason = found; stays = stays; unwritten = unwritten }
@@ -123,7 +123,7 @@ begin_stopped tells old new (of_begin.DeviceFault dev) spent cause = cause dev r
 begin_stopped tells old new of_begin.NoMemory spent cause = tt
 
 -- a volume survives the session that opened it
-pub session_survives : (old new : Moments) (layout : Layout) (session : ℕ) (opening : Mounted) (history : History) (acks : List Ack) → IsMountable (as_read (now old)) layout session → opening.layout ≡ layout
+pub session_survives : (old new : DevicesState) (layout : Layout) (session : ℕ) (opening : Mounted) (history : History) (acks : List Ack) → IsMountable (as_read (now old)) layout session → opening.layout ≡ layout
     → (AreMirrored layout (as_read (now old)) → mounts (as_read (now old)) ≡ Ok opening) → Survives opening old new history acks → (volume : Mounted) → Survives volume old new history acks
 session_survives old new layout session opening history acks is lies found survives volume = λ means quiet alone.
     let image = as_read (now old) in

@@ -7,7 +7,7 @@ use Rattle.std.proofs.lemmas.List.{map-append, length-append}
 use Rattle.std.proofs.lemmas.List.Elements.{filter_map-append}
 use Rattle.std.proofs.lemmas.Grind.{flat_map-append}
 use Rattle.std.proofs.lemmas.Option.{same_Some, none-some as none_some}
-use Rattle.dev_model.specs.Devices.{History as Moments}
+use Rattle.dev_model.specs.Devices.{DevicesState}
 use Rattle.plain_forest.specs.Forest.{Forest}
 use Rattle.plain_forest.specs.History.{History, after_all}
 use Rattle.plain_forest.specs.Steps.{refusal_of, reply_or, made_file, listed}
@@ -127,7 +127,7 @@ has_entry client op (DeviceFault dev) found = refl
 has_entry client op (Halted dev tick) found = refl
 has_entry client op NoMemory found = absurd (cc)
 
-module _ {D : Type 0} (history : D → Moments) (sizes : D → List ℕ) (faults : D → ℕ) (forest : Forest) where
+module _ {D : Type 0} (history : D → DevicesState) (sizes : D → List ℕ) (faults : D → ℕ) (forest : Forest) where
   sync_found : (halted : Option Halt) (old new : Log D) (reply : Reply) → Syncs history faults forest halted old new reply → is_no_memory reply ≡ false
   sync_found (Some halt) old new reply is = ap is_no_memory is.is
   sync_found None old new reply (inl is) = ap is_no_memory is.is

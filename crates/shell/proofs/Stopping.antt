@@ -74,7 +74,7 @@ mount_source tells old new count count_after Memory stopped same = same
 
 -- what stands for a volume where none was opened
 nothing_opened : Mounted
-nothing_opened = fresh_volume (record { id = []; blocks = []; journal = 0; meta = 0; replicas = 0 })
+nothing_opened = fresh_volume (record { id = []; blocks = []; journal = 0; metadata_replicas = 0; data_replicas = 0 })
 
 -- no reply is of another forest where there is none
 legal_none : (volume : Mounted) (history : History) → history ≡ [] → IsLegal volume.forest history

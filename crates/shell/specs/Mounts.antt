@@ -4,7 +4,7 @@ use Rattle.vol_types.specs.Faults.{RoseBy}
 use Rattle.vol_types.specs.declared.layout.Layout.{Layout}
 use Rattle.dev_model.specs.Disk.{Image, as_read}
 use Rattle.dev_model.specs.Devices.{now}
-use Rattle.dev_model.specs.Reading.{StaysSo}
+use Rattle.dev_model.specs.Frames.{DisksStay}
 use Rattle.geometry.specs.Sessions.{session_in}
 use Rattle.log_records.specs.Found.{log_in, mounted_as, mounts}
 use Rattle.log_records.specs.declared.fault.MountFault.TheVariants as faults
@@ -42,7 +42,7 @@ IsRefused image NoSession = (mounts image ≡ Err faults.NoSession) ⊎ IsSpent 
 -- Mounting was refused for this reason, and the devices were only read.
 pub record HasRefused (devices_tell : Type 0) (old new : Shown) (refusal : Refusal) : Type 0 where
   pub reason : devices_tell → IsRefused (as_read (now old.moments)) refusal
-  pub stays : devices_tell → StaysSo old.moments new.moments
+  pub stays : devices_tell → DisksStay old.moments new.moments
   pub unwritten : new.write_faults ≡ old.write_faults
 
 -- Why mounting stopped: it was refused, or a call to a device failed. Want of memory may come at any time.

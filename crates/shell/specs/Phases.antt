@@ -1,3 +1,4 @@
+use Rattle.dev_model.specs.Crashes.{EachCrashNow}
 -- How lines are answered, one after another, and what their replies amount to.
 use Rattle.std.specs.Prelude.{◌≡◌, ◌≢◌, ◌⊎◌, ◌≤◌, ℕ, ◌||◌, false, max, List, [], ◌∷◌, ◌++◌, take, map, Option, None, Ok}
 use Rattle.std.specs.List.{filter_map}
@@ -11,7 +12,6 @@ use Rattle.plain_forest.specs.declared.operation.Reply.{Reply}
 use Rattle.script_text.specs.declared.reading.Line.{Line}
 use Rattle.record_log.specs.Log.{Log, Shown}
 use Rattle.vol_types.specs.declared.layout.Layout.{Layout}
-use Rattle.geometry.specs.Mirrors.{EachLeft}
 use Rattle.geometry.specs.declared.fault.DiskFault.{DiskFault}
 use Rattle.log_records.specs.Found.{mounts}
 use Rattle.log_format.specs.Formatting.{FormatSurvives, fresh_volume}
@@ -105,7 +105,7 @@ pub record EndsEarly (sink_tells : Type 0) (line : List ℕ) (as_asked : ℕ) (h
 pub record Formats (sink_tells devices_tell : Type 0) (layout : Layout) (old new : Shown) (held held_after : List ℕ) (sink_faults sink_faults_after status : ℕ) (trace : History) (acks : List Ack) : Type 0 where
   pub fault : Option DiskFault
   pub survives : devices_tell → FormatSurvives layout old.moments new.moments
-  pub done : devices_tell → fault ≡ None → EachLeft (λ image. mounts image ≡ Ok (fresh_volume layout)) new.moments
+  pub done : devices_tell → fault ≡ None → EachCrashNow (λ image. mounts image ≡ Ok (fresh_volume layout)) new.moments
   pub cause : FormatCause old new fault
   pub later : old.moments.moment ≤ new.moments.moment
   pub ends : EndsEarly sink_tells (format_line layout fault) (format_status fault) held held_after sink_faults sink_faults_after status trace acks

@@ -1,9 +1,9 @@
+use Rattle.dev_model.specs.Crashes.{EachCrashNow}
 -- What the run opened, and what a stop at each of its moments leaves.
 use Rattle.std.specs.Prelude.{◌≡◌, List, None, Ok}
 use Rattle.vol_types.specs.Faults.{RoseBy}
 use Rattle.dev_model.specs.Disk.{as_read}
-use Rattle.dev_model.specs.Devices.{History as Moments, now}
-use Rattle.geometry.specs.Mirrors.{EachLeft}
+use Rattle.dev_model.specs.Devices.{DevicesState, now}
 use Rattle.plain_forest.specs.History.{History}
 use Rattle.log_records.specs.Found.{AreMirrored, Mounted, mounts}
 use Rattle.log_format.specs.Formatting.{FormatSurvives, fresh_volume}
@@ -20,7 +20,7 @@ HasOpened old new opening outcome = Unit {0}
 
 -- A stop at each moment leaves, of a volume, a prefix that has all that was acknowledged; of devices that are formatted, what
 -- they meant, or nothing that mounts, or the fresh volume, and that one where they were formatted.
-abbrev pub IsSurvived : Moments → Moments → History → List Ack → Outcome → Type 0
+abbrev pub IsSurvived : DevicesState → DevicesState → History → List Ack → Outcome → Type 0
 IsSurvived old new trace acks (Stopped stop) = (volume : Mounted) → Survives volume old new trace acks
 IsSurvived old new trace acks (Ran script answered last) = (volume : Mounted) → Survives volume old new trace acks
-IsSurvived old new trace acks (Formatted layout fault) = FormatSurvives layout old new × (fault ≡ None → EachLeft (λ image. mounts image ≡ Ok (fresh_volume layout)) new)
+IsSurvived old new trace acks (Formatted layout fault) = FormatSurvives layout old new × (fault ≡ None → EachCrashNow (λ image. mounts image ≡ Ok (fresh_volume layout)) new)

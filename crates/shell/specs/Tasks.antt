@@ -15,8 +15,8 @@ layout_asked devices asked = record {
   id = asked.id;
   blocks = replicate devices asked.blocks;
   journal = asked.journal;
-  meta = asked.meta_replicas;
-  replicas = asked.data_replicas;
+  metadata_replicas = asked.meta_replicas;
+  data_replicas = asked.data_replicas;
 }
 
 -- to format with this layout, where a volume may lie so

@@ -2,9 +2,8 @@ ghost use Rattle.std.specs.Prelude.{◌≡◌, ◌+◌, ◌<◌, ◌≤◌, true
 ghost use Rattle.vol_types.specs.Faults.{RoseBy};
 ghost use Rattle.dev_model.specs.Disk.{as_read};
 ghost use Rattle.dev_model.specs.Devices.{now};
-ghost use Rattle.dev_model.specs.Stops.{LeavesOnly, MayLeaveBut};
+ghost use Rattle.dev_model.specs.Crashes.{EachCrash, EachCrashNow, IsCrashImageBut};
 ghost use Rattle.geometry.specs.Layouts.{is_layout_of};
-ghost use Rattle.geometry.specs.Mirrors.{EachLeft};
 ghost use Rattle.geometry.specs.Sessions.{IsSessionPlace};
 ghost use Rattle.log_records.specs.Found.{AreMirrored, Mounted, mounts, volume_of};
 ghost use Rattle.record_log.specs.Durable.{NamesSession};
@@ -21,20 +20,20 @@ use std::alloc::Global;
 /// Mounts the volume on the devices for a new session: loads it, and seals the session's number on every metadata device.
 /// Where it is refused, nothing is written.
 pub fn mount<D: Devices>(alloc: Global, devices: &mut D) -> Result<Loaded, Stop>
-    ensures found { D.tells → let image = as_read (now (D.history devices.old)) in
+    ensures found { D.tells → let image = as_read (now (D.state devices.old)) in
         IfOk result (λ loaded. (RoseBy 1 (D.faults devices.old) (D.faults devices.new) → AreMirrored loaded.layout image) → mounts image ≡ Ok (volume_of loaded)) }
-    ensures mountable { D.tells → IfOk result (λ loaded. IsMountable (as_read (now (D.history devices.old))) loaded.layout loaded.session) }
+    ensures mountable { D.tells → IfOk result (λ loaded. IsMountable (as_read (now (D.state devices.old))) loaded.layout loaded.session) }
     ensures unspent { IfOk result (λ loaded. loaded.session < last_session) }
-    ensures fits { IfOk result (λ loaded. is_layout_of (D.sizes devices.new) loaded.layout ≡ true) }
+    ensures fits { IfOk result (λ loaded. is_layout_of (D.state devices.new).sizes loaded.layout ≡ true) }
     ensures room { IfOk result (λ loaded. loaded.records ≤ loaded.layout.journal) }
-    ensures numbered { D.tells → IfOk result (λ loaded. EachLeft (NamesSession loaded.layout (loaded.session + 1)) (D.history devices.new)) }
-    ensures begun { D.tells → IfOk result (λ loaded. LeavesOnly (λ _ image. MayLeaveBut (IsSessionPlace loaded.layout (loaded.session + 1)) (now (D.history devices.old)) image) (D.history devices.old) (D.history devices.new)) }
-    ensures cause { IfErr result (MountStopped D.tells (record { moments = D.history devices.old; sizes = D.sizes devices.old; faults = D.faults devices.old; write_faults = D.write_faults devices.old }) (record { moments = D.history devices.new; sizes = D.sizes devices.new; faults = D.faults devices.new; write_faults = D.write_faults devices.new })) }
-    ensures survives { D.tells → (volume : Mounted) → Survives volume (D.history devices.old) (D.history devices.new) [] [] }
-    ensures sizes { D.sizes devices.new ≡ D.sizes devices.old }
+    ensures numbered { D.tells → IfOk result (λ loaded. EachCrashNow (NamesSession loaded.layout (loaded.session + 1)) (D.state devices.new)) }
+    ensures begun { D.tells → IfOk result (λ loaded. EachCrash (λ _ _ image. IsCrashImageBut (IsSessionPlace loaded.layout (loaded.session + 1)) (now (D.state devices.old)) image) (D.state devices.old) (D.state devices.new)) }
+    ensures cause { IfErr result (MountStopped D.tells (record { moments = D.state devices.old; sizes = (D.state devices.old).sizes; faults = D.faults devices.old; write_faults = D.write_faults devices.old }) (record { moments = D.state devices.new; sizes = (D.state devices.new).sizes; faults = D.faults devices.new; write_faults = D.write_faults devices.new })) }
+    ensures survives { D.tells → (volume : Mounted) → Survives volume (D.state devices.old) (D.state devices.new) [] [] }
+    ensures sizes { (D.state devices.new).sizes ≡ (D.state devices.old).sizes }
     ensures faults { D.faults devices.old ≤ D.faults devices.new }
     ensures write_faults { D.write_faults devices.old ≤ D.write_faults devices.new }
-    ensures moment { (D.history devices.old).moment ≤ (D.history devices.new).moment }
+    ensures moment { (D.state devices.old).moment ≤ (D.state devices.new).moment }
 {
     reading_is_survived();
     beginning_is_survived();

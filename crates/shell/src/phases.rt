@@ -18,7 +18,7 @@ pub fn run_lines<D: Devices, O: Opening, G: Gate>(
     page: &mut Page,
 )
     requires { AreFlat script.now }
-    ensures { RunsLines D.sizes script.now log.old log.new page.old page.new }
+    ensures { RunsLines (D.state script.now).sizes log.old log.new page.old page.new }
 {
     for line in script {
         run_line(log, line, gate, page);
@@ -59,7 +59,7 @@ fn answer<D: Devices, O: Opening>(log: &mut RecordLog<D, O>, line: &Line, op: &O
 
 /// Makes every commit durable, and notes the reply.
 pub fn final_sync<D: Devices, O: Opening>(log: &mut RecordLog<D, O>, page: &mut Page)
-    ensures { RunsSync D.sizes log.old log.new page.old page.new }
+    ensures { RunsSync (D.state log.old).sizes log.new page.old page.new }
 {
     if log.call(&Op::Sync).is_err() {
         page.note(&Reply::NoMemory);
@@ -78,7 +78,7 @@ pub fn end_run<K: Sink, D: Devices, O: Opening>(
     page: &mut Page,
     sink: &mut K,
 ) -> u8
-    ensures { RunsEnd O.forest D.sizes K.tells log.old log.new page.old (K.held sink.old) (K.held sink.new) (K.faults sink.old) (K.faults sink.new) result }
+    ensures { RunsEnd O.forest (D.state K.tells).sizes log.old log.new page.old (K.held sink.old) (K.held sink.new) (K.faults sink.old) (K.faults sink.new) result }
 {
     let begun = print_lines(page, sink);
     final_sync(log, page);

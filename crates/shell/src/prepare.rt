@@ -2,9 +2,8 @@ ghost use Rattle.std.specs.Prelude.{◌≡◌, ◌+◌, ◌<◌, ◌≤◌, ℕ,
 ghost use Rattle.vol_types.specs.Faults.{RoseBy};
 ghost use Rattle.dev_model.specs.Disk.{as_read};
 ghost use Rattle.dev_model.specs.Devices.{now};
-ghost use Rattle.dev_model.specs.Stops.{LeavesOnly, MayLeaveBut};
+ghost use Rattle.dev_model.specs.Crashes.{EachCrash, EachCrashNow, IsCrashImageBut};
 ghost use Rattle.geometry.specs.Layouts.{is_layout_of};
-ghost use Rattle.geometry.specs.Mirrors.{EachLeft};
 ghost use Rattle.geometry.specs.Sessions.{IsSessionPlace};
 ghost use Rattle.log_records.specs.Found.{AreMirrored, Mounted, mounts, volume_of};
 ghost use Rattle.record_log.specs.Durable.{NamesSession};
@@ -43,27 +42,27 @@ pub fn prepare<S: Source, D: Devices>(
     source: &mut S,
     devices: &mut D,
 ) -> Result<Plan, Stop>
-    ensures found { D.tells → let image = as_read (now (D.history devices.old)) in
+    ensures found { D.tells → let image = as_read (now (D.state devices.old)) in
         IfOk result (λ plan. (RoseBy 1 (D.faults devices.old) (D.faults devices.new) → AreMirrored plan.loaded.layout image) → mounts image ≡ Ok (volume_of plan.loaded)) }
-    ensures mountable { D.tells → IfOk result (λ plan. IsMountable (as_read (now (D.history devices.old))) plan.loaded.layout plan.loaded.session) }
+    ensures mountable { D.tells → IfOk result (λ plan. IsMountable (as_read (now (D.state devices.old))) plan.loaded.layout plan.loaded.session) }
     ensures unspent { IfOk result (λ plan. plan.loaded.session < last_session) }
-    ensures fits { IfOk result (λ plan. is_layout_of (D.sizes devices.new) plan.loaded.layout ≡ true) }
+    ensures fits { IfOk result (λ plan. is_layout_of (D.state devices.new).sizes plan.loaded.layout ≡ true) }
     ensures room { IfOk result (λ plan. plan.loaded.records ≤ plan.loaded.layout.journal) }
-    ensures numbered { D.tells → IfOk result (λ plan. EachLeft (NamesSession plan.loaded.layout (plan.loaded.session + 1)) (D.history devices.new)) }
-    ensures begun { D.tells → IfOk result (λ plan. LeavesOnly (λ _ image. MayLeaveBut (IsSessionPlace plan.loaded.layout (plan.loaded.session + 1)) (now (D.history devices.old)) image) (D.history devices.old) (D.history devices.new)) }
+    ensures numbered { D.tells → IfOk result (λ plan. EachCrashNow (NamesSession plan.loaded.layout (plan.loaded.session + 1)) (D.state devices.new)) }
+    ensures begun { D.tells → IfOk result (λ plan. EachCrash (λ _ _ image. IsCrashImageBut (IsSessionPlace plan.loaded.layout (plan.loaded.session + 1)) (now (D.state devices.old)) image) (D.state devices.old) (D.state devices.new)) }
     ensures flat { IfOk result (λ plan. AreFlat plan.script) }
     ensures short { S.tells → OnOk result (length (S.left source.old) ≤ script_limit) }
     ensures reads { S.tells → IfOk result (λ plan. IsScript (lines_of (S.left source.old)) plan.script) }
     ensures still { OnOk result (S.faults source.new ≡ S.faults source.old) }
-    ensures survives { D.tells → (volume : Mounted) → Survives volume (D.history devices.old) (D.history devices.new) [] [] }
-    ensures sizes { D.sizes devices.new ≡ D.sizes devices.old }
+    ensures survives { D.tells → (volume : Mounted) → Survives volume (D.state devices.old) (D.state devices.new) [] [] }
+    ensures sizes { (D.state devices.new).sizes ≡ (D.state devices.old).sizes }
     ensures faults { D.faults devices.old ≤ D.faults devices.new }
     ensures write_faults { D.write_faults devices.old ≤ D.write_faults devices.new }
-    ensures moment { (D.history devices.old).moment ≤ (D.history devices.new).moment }
+    ensures moment { (D.state devices.old).moment ≤ (D.state devices.new).moment }
 
     // Why a run stops, whatever its words are, and what it has touched by then.
-    ensures cause { (words : List (List ℕ)) → IsRun words (D.sizes devices.old) →
-        IfErr result (StopCause S.tells D.tells words (S.left source.old) (record { moments = D.history devices.old; sizes = D.sizes devices.old; faults = D.faults devices.old; write_faults = D.write_faults devices.old }) (record { moments = D.history devices.new; sizes = D.sizes devices.new; faults = D.faults devices.new; write_faults = D.write_faults devices.new })) }
+    ensures cause { (words : List (List ℕ)) → IsRun words (D.state devices.old).sizes →
+        IfErr result (StopCause S.tells D.tells words (S.left source.old) (record { moments = D.state devices.old; sizes = (D.state devices.old).sizes; faults = D.faults devices.old; write_faults = D.write_faults devices.old }) (record { moments = D.state devices.new; sizes = (D.state devices.new).sizes; faults = D.faults devices.new; write_faults = D.write_faults devices.new })) }
     ensures source { IfErr result (λ stop. SourceFailed stop (S.faults source.old) (S.faults source.new)) }
     ensures untouched { IfErr result (λ stop. is_before_mounting stop ≡ true → devices.new ≡ devices.old) }
 {

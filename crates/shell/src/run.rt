@@ -3,9 +3,8 @@ ghost use Rattle.std.specs.Rc.{rc_str_bytes};
 ghost use Rattle.vol_types.specs.Faults.{RoseBy};
 ghost use Rattle.dev_model.specs.Disk.{as_read};
 ghost use Rattle.dev_model.specs.Devices.{now};
-ghost use Rattle.dev_model.specs.Stops.{LeavesOnly, MayLeaveBut};
+ghost use Rattle.dev_model.specs.Crashes.{EachCrash, EachCrashNow, IsCrashImageBut};
 ghost use Rattle.geometry.specs.Layouts.{is_layout, is_layout_of};
-ghost use Rattle.geometry.specs.Mirrors.{EachLeft};
 ghost use Rattle.geometry.specs.Sessions.{IsSessionPlace, session_in};
 ghost use Rattle.plain_forest.specs.History.{EachEntry, IsLegal};
 ghost use Rattle.log_records.specs.Found.{mounted_as};
@@ -54,7 +53,7 @@ pub fn run_words<R, S: Source, K: Sink, D: Devices, G: Gate>(
     devices: D,
     gate: &G,
 ) -> Ended<D>
-    ensures { Headline S.tells K.tells D.tells (record { words = map rc_str_bytes words.now; streams = record { left = S.left source.old; held = K.held sink.old; held_after = K.held sink.new }; faults = record { source = S.faults source.old; source_after = S.faults source.new; sink = K.faults sink.old; sink_after = K.faults sink.new }; devices = devices; devices_after = result.devices; shown = record { moments = D.history devices; sizes = D.sizes devices; faults = D.faults devices; write_faults = D.write_faults devices }; shown_after = record { moments = D.history result.devices; sizes = D.sizes result.devices; faults = D.faults result.devices; write_faults = D.write_faults result.devices }; status = result.status; trace = result.trace; acks = result.acks }) }
+    ensures { Headline S.tells K.tells D.tells (record { words = map rc_str_bytes words.now; streams = record { left = S.left source.old; held = K.held sink.old; held_after = K.held sink.new }; faults = record { source = S.faults source.old; source_after = S.faults source.new; sink = K.faults sink.old; sink_after = K.faults sink.new }; devices = devices; devices_after = result.devices; shown = record { moments = D.state devices; sizes = (D.state devices).sizes; faults = D.faults devices; write_faults = D.write_faults devices }; shown_after = record { moments = D.state result.devices; sizes = (D.state result.devices).sizes; faults = D.faults result.devices; write_faults = D.write_faults result.devices }; status = result.status; trace = result.trace; acks = result.acks }) }
 {
     reading_is_survived();
     match read_task(alloc, words, devices.count()) {
@@ -113,9 +112,9 @@ fn format_devices<K: Sink, D: Devices>(
     devices: D,
 ) -> Ended<D>
     requires layout { is_layout layout.now ≡ true }
-    requires count { length layout.now.blocks ≡ length (D.sizes devices) }
+    requires count { length layout.now.blocks ≡ length (D.state devices).sizes }
     requires line { line.now ≡ formatted_line layout.now }
-    ensures { Formats K.tells D.tells layout.now (record { moments = D.history devices; sizes = D.sizes devices; faults = D.faults devices; write_faults = D.write_faults devices }) (record { moments = D.history result.devices; sizes = D.sizes result.devices; faults = D.faults result.devices; write_faults = D.write_faults result.devices }) (K.held sink.old) (K.held sink.new) (K.faults sink.old) (K.faults sink.new) result.status result.trace result.acks }
+    ensures { Formats K.tells D.tells layout.now (record { moments = D.state devices; sizes = (D.state devices).sizes; faults = D.faults devices; write_faults = D.write_faults devices }) (record { moments = D.state result.devices; sizes = (D.state result.devices).sizes; faults = D.faults result.devices; write_faults = D.write_faults result.devices }) (K.held sink.old) (K.held sink.new) (K.faults sink.old) (K.faults sink.new) result.status result.trace result.acks }
 {
     let mut devices = devices;
     match format(alloc, &mut devices, layout) {
@@ -132,8 +131,8 @@ fn run_script<S: Source, K: Sink, D: Devices, G: Gate, B: Opening>(
     devices: D,
     gate: &G,
 ) -> Ended<D>
-    requires { B.start ≡ record { moments = D.history devices; sizes = D.sizes devices; faults = D.faults devices; write_faults = D.write_faults devices } }
-    ensures { (words : List (List ℕ)) → IsRun words (D.sizes devices) → Headline S.tells K.tells D.tells (record { words = words; streams = record { left = S.left source.old; held = K.held sink.old; held_after = K.held sink.new }; faults = record { source = S.faults source.old; source_after = S.faults source.new; sink = K.faults sink.old; sink_after = K.faults sink.new }; devices = devices; devices_after = result.devices; shown = record { moments = D.history devices; sizes = D.sizes devices; faults = D.faults devices; write_faults = D.write_faults devices }; shown_after = record { moments = D.history result.devices; sizes = D.sizes result.devices; faults = D.faults result.devices; write_faults = D.write_faults result.devices }; status = result.status; trace = result.trace; acks = result.acks }) }
+    requires { B.start ≡ record { moments = D.state devices; sizes = (D.state devices).sizes; faults = D.faults devices; write_faults = D.write_faults devices } }
+    ensures { (words : List (List ℕ)) → IsRun words (D.state devices).sizes → Headline S.tells K.tells D.tells (record { words = words; streams = record { left = S.left source.old; held = K.held sink.old; held_after = K.held sink.new }; faults = record { source = S.faults source.old; source_after = S.faults source.new; sink = K.faults sink.old; sink_after = K.faults sink.new }; devices = devices; devices_after = result.devices; shown = record { moments = D.state devices; sizes = (D.state devices).sizes; faults = D.faults devices; write_faults = D.write_faults devices }; shown_after = record { moments = D.state result.devices; sizes = (D.state result.devices).sizes; faults = D.faults result.devices; write_faults = D.write_faults result.devices }; status = result.status; trace = result.trace; acks = result.acks }) }
 {
     let mut devices = devices;
     match prepare(alloc, source, &mut devices) {
@@ -153,21 +152,21 @@ fn run_plan<K: Sink, D: Devices, G: Gate, O: Opening>(
     requires opening { plan.loaded.forest ≡ O.forest }
     requires faults { O.start.faults ≡ D.faults devices }
     requires write_faults { O.start.write_faults ≡ D.write_faults devices }
-    requires fits { is_layout_of (D.sizes devices) plan.loaded.layout ≡ true }
+    requires fits { is_layout_of (D.state devices).sizes plan.loaded.layout ≡ true }
     requires room { plan.loaded.records ≤ plan.loaded.layout.journal }
     requires unspent { plan.loaded.session < last_session }
     requires named { D.tells → session_in plan.loaded.layout (as_read (now O.start.moments)) ≡ Some plan.loaded.session }
-    requires numbered { D.tells → EachLeft (NamesSession plan.loaded.layout (plan.loaded.session + 1)) (D.history devices) }
-    requires begun { D.tells → LeavesOnly (λ _ image. MayLeaveBut (IsSessionPlace plan.loaded.layout (plan.loaded.session + 1)) (now O.start.moments) image) O.start.moments (D.history devices) }
-    requires later { O.start.moments.moment ≤ (D.history devices).moment }
+    requires numbered { D.tells → EachCrashNow (NamesSession plan.loaded.layout (plan.loaded.session + 1)) (D.state devices) }
+    requires begun { D.tells → EachCrash (λ _ _ image. IsCrashImageBut (IsSessionPlace plan.loaded.layout (plan.loaded.session + 1)) (now O.start.moments) image) O.start.moments (D.state devices) }
+    requires later { O.start.moments.moment ≤ (D.state devices).moment }
     requires flat { AreFlat plan.script }
     ensures legal { IsLegal O.forest result.trace }
     ensures ran { RunsScript O.forest K.tells plan.script (K.held sink.old) (K.held sink.new) (K.faults sink.old) (K.faults sink.new) result.status result.trace }
-    ensures caused { (halted : Option Halt) × HasHalted (length (D.sizes devices)) O.start.moments.moment (D.history result.devices).moment result.trace halted × EachEntry (IsExact O.forest plan.loaded.records plan.loaded.layout.journal (halt_or_none halted)) result.trace }
+    ensures caused { (halted : Option Halt) × HasHalted (length (D.state devices).sizes) O.start.moments.moment (D.state result.devices).moment result.trace halted × EachEntry (IsExact O.forest plan.loaded.records plan.loaded.layout.journal (halt_or_none halted)) result.trace }
     ensures faults { RoseBy (device_faults result.trace) (D.faults devices) (D.faults result.devices) }
     ensures write_faults { RoseBy (device_faults result.trace) (D.write_faults devices) (D.write_faults result.devices) }
-    ensures acknowledged { AreAcks O.start.moments.moment (D.history result.devices).moment result.trace result.acks }
-    ensures survives { D.tells → Survives (mounted_as plan.loaded.layout (plan.loaded.records, O.forest)) O.start.moments (D.history result.devices) result.trace result.acks }
+    ensures acknowledged { AreAcks O.start.moments.moment (D.state result.devices).moment result.trace result.acks }
+    ensures survives { D.tells → Survives (mounted_as plan.loaded.layout (plan.loaded.records, O.forest)) O.start.moments (D.state result.devices) result.trace result.acks }
 {
     let Plan { script, loaded } = plan;
     let mut log = RecordLog::<D, O>::start(alloc, devices, loaded);

@@ -43,8 +43,8 @@ fn read_layout(alloc: Global, asked: &FormatRequest, devices: u8) -> Result<Layo
         id: asked.id,
         blocks: same_blocks(alloc, asked.blocks as u32, devices)?,
         journal: asked.journal as u32,
-        meta: asked.meta_replicas as u8,
-        replicas: asked.data_replicas as u8,
+        metadata_replicas: asked.meta_replicas as u8,
+        data_replicas: asked.data_replicas as u8,
     };
     if is_layout(&layout) {
         Ok(layout)

@@ -1,7 +1,7 @@
 use Rattle.std.proofs.Common.{◌≡◌, length, ap, ◌∙◌}
 use Rattle.std.proofs.lemmas.List.Elements.{All-same}
 use Rattle.dev_model.specs.Disk.{IsBlock}
-use Rattle.dev_model.specs.Stored.{restored}
+use Rattle.dev_model.specs.MemDisks.{restored}
 use Rattle.dev_model.proofs.Overwriting.{length-restored, All-restored}
 use Rattle.dev_model.proofs.disk.blocks_left.Goals as goal
 

@@ -1,5 +1,5 @@
 use Rattle.std.proofs.Common.{◌≡◌, ◌-◌, length, drop}
-use Rattle.dev_model.specs.Stored.{restored}
+use Rattle.dev_model.specs.MemDisks.{restored}
 use Rattle.dev_model.proofs.disk.restored_blocks.Given as goal
 
 abbrev pub invariant-loop-i : goal.invariant-loop-i

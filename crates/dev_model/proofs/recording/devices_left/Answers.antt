@@ -3,7 +3,6 @@ use Rattle.std.proofs.lemmas.List.{take_more, map_push}
 use Rattle.std.proofs.lemmas.List.Elements.{All-push, All-same}
 use Rattle.dev_model.specs.Disk.{IsDisk}
 use Rattle.dev_model.specs.Recording.{devices_left_by}
-use Rattle.dev_model.specs.Stored.{Stored, disks_in}
 use Rattle.dev_model.proofs.LeftImages.{left_more, devices_left_by-push}
 use Rattle.dev_model.proofs.recording.devices_left.Goals as goal
 
@@ -20,5 +19,5 @@ loop-disk-preserved c =
           pushed ∙ ap (λ ds. ds ++ one ∷ []) c.loop-disk.invariant.exact ∙ ap (λ d. devices_left_by c.args.pick (take i devices) ++ d ∷ []) c.in_ok-one.ensures.exact
           ∙ sym (ap (devices_left_by c.args.pick) seen ∙ devices_left_by-push c.args.pick (take i devices) device);
       may = left_more _ _ _ _ device one seen pushed c.loop-disk.invariant.may c.in_ok-one.ensures.may;
-      sound = All-same IsDisk _ _ (ap disks_in pushed ∙ map_push (λ (s : Stored). s.disk) c.loop-disk.left.items one) (All-push IsDisk _ one.disk c.loop-disk.invariant.sound c.len.ensures.sound);
+      sound = All-same IsDisk _ _ pushed (All-push IsDisk _ one c.loop-disk.invariant.sound c.len.ensures.sound);
     }

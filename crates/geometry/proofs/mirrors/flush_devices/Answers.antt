@@ -5,7 +5,7 @@ use Rattle.geometry.proofs.mirrors.flush_devices.Goals as goal
 
 pub loop-dev-init : goal.loop-dev-init
 loop-dev-init g c = record {
-  stops = λ tells. flushes_none (g.D.Devices.history c.args.devices.now);
+  stops = λ tells. flushes_none (g.D.Devices.state c.args.devices.now);
   reads = λ tells dev block. refl;
   settled = λ tells dev le. absurd (omega (arith, le));
   faults = omega arith;
@@ -17,9 +17,9 @@ loop-dev-init g c = record {
 pub loop-dev-preserved : goal.loop-dev-preserved
 loop-dev-preserved g c =
     let D = g.D.Devices in
-    let old = D.history c.args.devices.now in
-    let mid = D.history c.loop-dev.devices in
-    let new = D.history c.flush_device.new.devices in
+    let old = D.state c.args.devices.now in
+    let mid = D.state c.loop-dev.devices in
+    let new = D.state c.flush_device.new.devices in
     let so_far = c.loop-dev.invariant in
     record {
       stops = λ tells. flushes_more c.flush_device.result c.loop-dev.dev old mid new (g.met.D.Devices.sound tells c.loop-dev.devices) (so_far.stops tells) (c.flush_device.ensures.disks tells);

@@ -2,4 +2,4 @@ use Rattle.std.proofs.Common.{◌≡◌, take}
 use Rattle.geometry.proofs.reading.sizes_of.Given as goal
 
 abbrev pub invariant-loop-dev : goal.invariant-loop-dev
-invariant-loop-dev g l = l.sizes.items ≡ take l.dev (g.D.Devices.sizes l.devices)
+invariant-loop-dev g l = l.sizes.items ≡ take l.dev (g.D.Devices.state l.devices).sizes

@@ -1,7 +1,7 @@
 use Rattle.std.proofs.Common.{◌≡◌, ◌≤◌}
 use Rattle.dev_model.specs.Disk.{as_read}
 use Rattle.dev_model.specs.Devices.{now}
-use Rattle.dev_model.specs.Reading.{StaysSo}
+use Rattle.dev_model.specs.Frames.{DisksStay}
 use Rattle.geometry.specs.Sessions.{greatest_session}
 use Rattle.geometry.proofs.sessions.read_session.Given as goal
 
@@ -10,10 +10,10 @@ invariant-loop-dev g l =
     let D = g.D.Devices in
     let first = l.fn.devices in
     record {
-      so_far : D.tells → l.greatest ≡ greatest_session l.layout.id (as_read (now (D.history first))) l.dev;
-      stays : D.tells → StaysSo (D.history first) (D.history l.devices);
+      so_far : D.tells → l.greatest ≡ greatest_session l.layout.id (as_read (now (D.state first))) l.dev;
+      stays : D.tells → DisksStay (D.state first) (D.state l.devices);
       faults : D.faults first ≤ D.faults l.devices;
       write_faults : D.write_faults l.devices ≡ D.write_faults first;
-      moment : (D.history first).moment ≤ (D.history l.devices).moment;
-      sizes : D.sizes l.devices ≡ D.sizes first;
+      moment : (D.state first).moment ≤ (D.state l.devices).moment;
+      sizes : (D.state l.devices).sizes ≡ (D.state first).sizes;
     }

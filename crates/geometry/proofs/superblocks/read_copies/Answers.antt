@@ -1,7 +1,7 @@
 use Rattle.std.proofs.Common.{◌<◌, ◌+◌, ◌∷◌, [], ◌∙◌, ℕ, List, length, ap, sym, arith, map, drop, length-append}
 use Rattle.dev_model.specs.Disk.{as_read, blocks_of}
 use Rattle.dev_model.specs.Devices.{now}
-use Rattle.dev_model.specs.Reading.{stays_now, stays_then}
+use Rattle.dev_model.specs.FrameLaws.{stays_now, stay_then}
 use Rattle.geometry.specs.declared.copies.SuperCopy.{SuperCopy}
 use Rattle.geometry.specs.Superblocks.{counting}
 use Rattle.geometry.proofs.CopiesThere.{behind, copy_more, copy_missing}
@@ -11,12 +11,12 @@ use Rattle.geometry.proofs.superblocks.read_copies.Goals as goal
 pub returns-in-None-clause-found : goal.returns-in-None-clause-found
 returns-in-None-clause-found g c tells =
     let D = g.D.Devices in
-    let disks = now (D.history c.args.devices.now) in
+    let disks = now (D.state c.args.devices.now) in
     let image = as_read disks in
     let dev = c.loop-dev.dev in
     let within : dev < length image = omega (arith, as_many_read disks, ap (λ (s : List ℕ). length s) (g.met.D.Devices.agree tells c.args.devices.now), c.count-count.ensures.count, c.loop-dev-test.true) in
     let found = c.in_ok-copy.ensures.found tells in
-    let same = ap (λ ds. counting (blocks_of (as_read ds) dev)) (stays_now (D.history c.args.devices.now) (D.history c.loop-dev.devices) (c.loop-dev.invariant.stays tells)) in
+    let same = ap (λ ds. counting (blocks_of (as_read ds) dev)) (stays_now (D.state c.args.devices.now) (D.state c.loop-dev.devices) (c.loop-dev.invariant.stays tells)) in
     copy_missing image dev c.loop-dev.copies.items within (c.loop-dev.invariant.so_far tells) (sym same ∙ sym found ∙ c.in-None.is)
 
 pub loop-dev-preserved : goal.loop-dev-preserved
@@ -24,16 +24,16 @@ loop-dev-preserved g c =
     let D = g.D.Devices in
     record {
       so_far = λ tells.
-          let disks = now (D.history c.args.devices.now) in
+          let disks = now (D.state c.args.devices.now) in
           let image = as_read disks in
           let dev = c.loop-dev.dev in
           let within : dev < length image = omega (arith, as_many_read disks, ap (λ (s : List ℕ). length s) (g.met.D.Devices.agree tells c.args.devices.now), c.count-count.ensures.count, c.loop-dev-test.true) in
           let found = c.in_ok-copy.ensures.found tells in
-          let same = ap (λ ds. counting (blocks_of (as_read ds) dev)) (stays_now (D.history c.args.devices.now) (D.history c.loop-dev.devices) (c.loop-dev.invariant.stays tells)) in
+          let same = ap (λ ds. counting (blocks_of (as_read ds) dev)) (stays_now (D.state c.args.devices.now) (D.state c.loop-dev.devices) (c.loop-dev.invariant.stays tells)) in
           ap (λ items. behind items (drop (dev + 1) (map counting image))) c.in_ok-push-in-Some.ensures.items
           ∙ copy_more image dev c.loop-dev.copies.items within (c.loop-dev.invariant.so_far tells) c.in-Some.copy (sym same ∙ sym found ∙ c.in-Some.is);
       each = omega (arith, c.loop-dev.invariant.each, ap (λ (items : List SuperCopy). length items) c.in_ok-push-in-Some.ensures.items, length-append c.loop-dev.copies.items (c.in-Some.copy ∷ []));
-      stays = λ tells. stays_then (D.history c.args.devices.now) (D.history c.loop-dev.devices) (D.history c.read_counting.new.devices) (c.loop-dev.invariant.stays tells) (c.read_counting.ensures.stays tells);
+      stays = λ tells. stay_then (D.state c.args.devices.now) (D.state c.loop-dev.devices) (D.state c.read_counting.new.devices) (c.loop-dev.invariant.stays tells) (c.read_counting.ensures.stays tells);
       faults = omega (arith, c.loop-dev.invariant.faults, c.in_ok-copy.ensures.faults);
       write_faults = c.in_ok-copy.ensures.write_faults ∙ c.loop-dev.invariant.write_faults;
       moment = omega (arith, c.loop-dev.invariant.moment, c.in_ok-copy.ensures.moment);

@@ -10,7 +10,7 @@ use Rattle.geometry.proofs.superblocks.read_super.Goals as goal
 pub returns-in_default-clause-found : goal.returns-in_default-clause-found
 unfolding layout_in
 returns-in_default-clause-found g c tells =
-    let image = as_read (now (g.D.Devices.history c.args.devices.now)) in
+    let image = as_read (now (g.D.Devices.state c.args.devices.now)) in
     let there = all_there (map counting image) in
     let none : there ≡ None = subst (λ o. MatchOption o (there ≡ None) (λ list. there ≡ Some list.items)) c.in_default.is (c.in_ok-copies.ensures.found tells) in
     sym (ap (judged_if_there (map (λ (blocks : List (List ℕ)). length blocks) image)) none)
@@ -18,7 +18,7 @@ returns-in_default-clause-found g c tells =
 pub returns-clause-found : goal.returns-clause-found
 unfolding layout_in
 returns-clause-found g c tells =
-    let disks = now (g.D.Devices.history c.args.devices.now) in
+    let disks = now (g.D.Devices.state c.args.devices.now) in
     let image = as_read disks in
     let there = all_there (map counting image) in
     let all : there ≡ Some c.in-Some.copies.items = subst (λ o. MatchOption o (there ≡ None) (λ list. there ≡ Some list.items)) c.in-Some.is (c.in_ok-copies.ensures.found tells) in

@@ -8,11 +8,11 @@ invariant-loop-dev g l =
     let D = g.D.Devices in
     let first = l.fn.devices in
     record {
-      wrote : D.tells → Wrote (on_first l.dev ((λ dev. extension (slice_index (D.sizes first) dev) (slice_index l.fn.layout.blocks dev)))) (D.history first) (D.history l.devices);
+      wrote : D.tells → Wrote (on_first l.dev ((λ dev. extension (slice_index (D.state first).sizes dev) (slice_index l.fn.layout.blocks dev)))) (D.state first) (D.state l.devices);
       faults : D.faults first ≤ D.faults l.devices;
       write_faults : D.write_faults first ≤ D.write_faults l.devices;
-      count : length (D.sizes l.devices) ≡ length (D.sizes first);
-      others : (other : ℕ) → l.dev ≤ other → slice_index (D.sizes l.devices) other ≡ slice_index (D.sizes first) other;
-      room : (other : ℕ) → other < l.dev → slice_index l.fn.layout.blocks other ≤ slice_index (D.sizes l.devices) other;
-      moment : (D.history first).moment ≤ (D.history l.devices).moment;
+      count : length (D.state l.devices).sizes ≡ length (D.state first).sizes;
+      others : (other : ℕ) → l.dev ≤ other → slice_index (D.state l.devices).sizes other ≡ slice_index (D.state first).sizes other;
+      room : (other : ℕ) → other < l.dev → slice_index l.fn.layout.blocks other ≤ slice_index (D.state l.devices).sizes other;
+      moment : (D.state first).moment ≤ (D.state l.devices).moment;
     }

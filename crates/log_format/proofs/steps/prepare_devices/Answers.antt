@@ -42,28 +42,28 @@ returns-in_err-prepare_device-clause-step g c tells =
     let so_far = c.loop-dev.invariant in
     let dev = c.loop-dev.dev in
     step_failed c.from_residual.result c.prepare_device.result _ _ _ _ _ _ c.from_residual.ensures.0
-    (fewer_devices dev c.args.layout.now.meta (λ (dev : ℕ). prepared c.args.layout.now) (omega (arith, c.loop-dev-test.true)))
-    (one_of_first dev c.args.layout.now.meta (λ (dev : ℕ). prepared c.args.layout.now) (omega (arith, c.loop-dev-test.true)))
+    (fewer_devices dev c.args.layout.now.metadata_replicas (λ (dev : ℕ). prepared c.args.layout.now) (omega (arith, c.loop-dev-test.true)))
+    (one_of_first dev c.args.layout.now.metadata_replicas (λ (dev : ℕ). prepared c.args.layout.now) (omega (arith, c.loop-dev-test.true)))
     (so_far.wrote tells) (c.prepare_device.ensures.writes tells)
 
 pub returns-clause-step : goal.returns-clause-step
 returns-clause-step g c tells =
     let D = g.D.Devices in
     let first = c.args.devices.now in
-    let new = D.history c.flush_devices.new.devices in
-    let same : c.loop-dev.dev ≡ c.args.layout.now.meta = omega (arith, c.loop-dev-test.false) in
+    let new = D.state c.flush_devices.new.devices in
+    let same : c.loop-dev.dev ≡ c.args.layout.now.metadata_replicas = omega (arith, c.loop-dev-test.false) in
     let few : length (now new) ≤ c.count-count.result = omega (arith, disk_count (now new), ap (λ (sizes : List ℕ). length sizes) (g.met.D.Devices.agree tells c.flush_devices.new.devices), ap (λ (sizes : List ℕ). length sizes) c.flush_devices.ensures.sizes, ap (λ (sizes : List ℕ). length sizes) c.loop-dev.invariant.sizes) in
-    step_by_flushes c.flush_devices.result _ _ (D.history c.loop-dev.devices) new c.count-count.result
-    (subst (λ n. Wrote (on_first n (λ (dev : ℕ). prepared c.args.layout.now)) (D.history first) (D.history c.loop-dev.devices)) same (c.loop-dev.invariant.wrote tells))
+    step_by_flushes c.flush_devices.result _ _ (D.state c.loop-dev.devices) new c.count-count.result
+    (subst (λ n. Wrote (on_first n (λ (dev : ℕ). prepared c.args.layout.now)) (D.state first) (D.state c.loop-dev.devices)) same (c.loop-dev.invariant.wrote tells))
     few (c.flush_devices.ensures.stops tells) (c.flush_devices.ensures.reads tells) (c.flush_devices.ensures.settled tells)
 
 pub prepare_device-requires-clause-device : goal.prepare_device-requires-clause-device
-prepare_device-requires-clause-device g c = omega (arith, c.loop-dev-test.true, (has_places (g.D.Devices.sizes c.args.devices.now) c.args.layout.now c.requires.fits).mirrors, ap (λ (sizes : List ℕ). length sizes) c.loop-dev.invariant.sizes)
+prepare_device-requires-clause-device g c = omega (arith, c.loop-dev-test.true, (has_places (g.D.Devices.state c.args.devices.now).sizes c.args.layout.now c.requires.fits).mirrors, ap (λ (sizes : List ℕ). length sizes) c.loop-dev.invariant.sizes)
 
 pub returns-in_err-prepare_device-clause-cause : goal.returns-in_err-prepare_device-clause-cause
 returns-in_err-prepare_device-clause-cause g c =
     let D = g.D.Devices in
-    handed_cause c.from_residual.result c.in_err-prepare_device.field-0.0 (λ dev. (dev < length (D.sizes c.args.devices.now)) × RoseBy 1 (D.faults c.args.devices.now) (D.faults c.prepare_device.new.devices)) c.from_residual.ensures.1
+    handed_cause c.from_residual.result c.in_err-prepare_device.field-0.0 (λ dev. (dev < length (D.state c.args.devices.now).sizes) × RoseBy 1 (D.faults c.args.devices.now) (D.faults c.prepare_device.new.devices)) c.from_residual.ensures.1
     (λ dev is.
     let cause = c.in_err-prepare_device.ensures.cause dev (ap Err is) in
-    (omega (arith, cause.0, c.loop-dev-test.true, (has_places (g.D.Devices.sizes c.args.devices.now) c.args.layout.now c.requires.fits).mirrors), omega (arith, cause.1, c.loop-dev.invariant.faults)))
+    (omega (arith, cause.0, c.loop-dev-test.true, (has_places (g.D.Devices.state c.args.devices.now).sizes c.args.layout.now c.requires.fits).mirrors), omega (arith, cause.1, c.loop-dev.invariant.faults)))

@@ -8,9 +8,9 @@ invariant-loop-dev g l =
     let D = g.D.Devices in
     let first = l.fn.devices in
     record {
-      wrote : D.tells → Wrote (on_first l.dev ((λ dev. prepared l.fn.layout))) (D.history first) (D.history l.devices);
+      wrote : D.tells → Wrote (on_first l.dev ((λ dev. prepared l.fn.layout))) (D.state first) (D.state l.devices);
       faults : D.faults first ≤ D.faults l.devices;
       write_faults : D.write_faults first ≤ D.write_faults l.devices;
-      sizes : D.sizes l.devices ≡ D.sizes first;
-      moment : (D.history first).moment ≤ (D.history l.devices).moment;
+      sizes : (D.state l.devices).sizes ≡ (D.state first).sizes;
+      moment : (D.state first).moment ≤ (D.state l.devices).moment;
     }

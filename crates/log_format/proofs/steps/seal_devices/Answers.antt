@@ -38,33 +38,33 @@ returns-in_err-seal_device-clause-step g c tells =
     let so_far = c.loop-dev.invariant in
     let dev = c.loop-dev.dev in
     step_failed c.from_residual.result c.seal_device.result _ _ _ _ _ _ c.from_residual.ensures.0
-    (fewer_devices dev (length c.args.layout.now.blocks) (super_copies c.args.layout.now) (omega (arith, c.loop-dev-test.true, (has_places (g.D.Devices.sizes c.args.devices.now) c.args.layout.now c.requires.fits).devices)))
-    (one_of_first dev (length c.args.layout.now.blocks) (super_copies c.args.layout.now) (omega (arith, c.loop-dev-test.true, (has_places (g.D.Devices.sizes c.args.devices.now) c.args.layout.now c.requires.fits).devices)))
+    (fewer_devices dev (length c.args.layout.now.blocks) (super_copies c.args.layout.now) (omega (arith, c.loop-dev-test.true, (has_places (g.D.Devices.state c.args.devices.now).sizes c.args.layout.now c.requires.fits).devices)))
+    (one_of_first dev (length c.args.layout.now.blocks) (super_copies c.args.layout.now) (omega (arith, c.loop-dev-test.true, (has_places (g.D.Devices.state c.args.devices.now).sizes c.args.layout.now c.requires.fits).devices)))
     (so_far.wrote tells) (c.seal_device.ensures.writes tells)
 
 pub returns-clause-step : goal.returns-clause-step
 returns-clause-step g c tells =
     let D = g.D.Devices in
     let first = c.args.devices.now in
-    let new = D.history c.flush_devices.new.devices in
-    let same : c.loop-dev.dev ≡ (length c.args.layout.now.blocks) = omega (arith, c.loop-dev-test.false, (has_places (g.D.Devices.sizes c.args.devices.now) c.args.layout.now c.requires.fits).devices) in
+    let new = D.state c.flush_devices.new.devices in
+    let same : c.loop-dev.dev ≡ (length c.args.layout.now.blocks) = omega (arith, c.loop-dev-test.false, (has_places (g.D.Devices.state c.args.devices.now).sizes c.args.layout.now c.requires.fits).devices) in
     let few : length (now new) ≤ c.count-count.result = omega (arith, disk_count (now new), ap (λ (sizes : List ℕ). length sizes) (g.met.D.Devices.agree tells c.flush_devices.new.devices), ap (λ (sizes : List ℕ). length sizes) c.flush_devices.ensures.sizes, ap (λ (sizes : List ℕ). length sizes) c.loop-dev.invariant.sizes) in
-    step_by_flushes c.flush_devices.result _ _ (D.history c.loop-dev.devices) new c.count-count.result
-    (subst (λ n. Wrote (on_first n (super_copies c.args.layout.now)) (D.history first) (D.history c.loop-dev.devices)) same (c.loop-dev.invariant.wrote tells))
+    step_by_flushes c.flush_devices.result _ _ (D.state c.loop-dev.devices) new c.count-count.result
+    (subst (λ n. Wrote (on_first n (super_copies c.args.layout.now)) (D.state first) (D.state c.loop-dev.devices)) same (c.loop-dev.invariant.wrote tells))
     few (c.flush_devices.ensures.stops tells) (c.flush_devices.ensures.reads tells) (c.flush_devices.ensures.settled tells)
 
 pub bounds-firsts-dev : goal.bounds-firsts-dev
-bounds-firsts-dev g c = omega (arith, c.requires.firsts.count, (has_places (g.D.Devices.sizes c.args.devices.now) c.args.layout.now c.requires.fits).devices)
+bounds-firsts-dev g c = omega (arith, c.requires.firsts.count, (has_places (g.D.Devices.state c.args.devices.now).sizes c.args.layout.now c.requires.fits).devices)
 
 pub bounds-seconds-dev : goal.bounds-seconds-dev
-bounds-seconds-dev g c = omega (arith, c.requires.seconds.count, (has_places (g.D.Devices.sizes c.args.devices.now) c.args.layout.now c.requires.fits).devices)
+bounds-seconds-dev g c = omega (arith, c.requires.seconds.count, (has_places (g.D.Devices.state c.args.devices.now).sizes c.args.layout.now c.requires.fits).devices)
 
 pub seal_device-requires-clause-first : goal.seal_device-requires-clause-first
 seal_device-requires-clause-first g c =
     subst (λ (bytes : List ℕ). IsSuper c.args.layout.now c.loop-dev.dev 0 bytes) (sym (c.as_slice-first.ensures ∙ c.index-firsts-dev.is))
-    (c.requires.firsts.each c.loop-dev.dev (omega (arith, c.requires.firsts.count, (has_places (g.D.Devices.sizes c.args.devices.now) c.args.layout.now c.requires.fits).devices)) c.index-firsts-dev.result)
+    (c.requires.firsts.each c.loop-dev.dev (omega (arith, c.requires.firsts.count, (has_places (g.D.Devices.state c.args.devices.now).sizes c.args.layout.now c.requires.fits).devices)) c.index-firsts-dev.result)
 
 pub seal_device-requires-clause-second : goal.seal_device-requires-clause-second
 seal_device-requires-clause-second g c =
     subst (λ (bytes : List ℕ). IsSuper c.args.layout.now c.loop-dev.dev 8 bytes) (sym (c.as_slice-second.ensures ∙ c.index-seconds-dev.is))
-    (c.requires.seconds.each c.loop-dev.dev (omega (arith, c.requires.seconds.count, (has_places (g.D.Devices.sizes c.args.devices.now) c.args.layout.now c.requires.fits).devices)) c.index-seconds-dev.result)
+    (c.requires.seconds.each c.loop-dev.dev (omega (arith, c.requires.seconds.count, (has_places (g.D.Devices.state c.args.devices.now).sizes c.args.layout.now c.requires.fits).devices)) c.index-seconds-dev.result)

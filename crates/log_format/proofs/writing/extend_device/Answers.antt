@@ -8,26 +8,26 @@ use Rattle.log_format.proofs.writing.extend_device.Goals as goal
 
 pub returns-then-blocks-clause-writes : goal.returns-then-blocks-clause-writes
 returns-then-blocks-clause-writes g c tells =
-    writes_all _ _ _ _ (wrote_none _ _ (nothing_to_extend c.args.dev (get_or (g.D.Devices.sizes c.args.devices.now) c.args.dev 0) c.args.blocks (omega arith)))
+    writes_all _ _ _ _ (wrote_none _ _ (nothing_to_extend c.args.dev (get_or (g.D.Devices.state c.args.devices.now).sizes c.args.dev 0) c.args.blocks (omega arith)))
 
 pub returns-in-Ok-clause-writes : goal.returns-in-Ok-clause-writes
 returns-in-Ok-clause-writes g c tells =
     let D = g.D.Devices in
     let agree = g.met.D.Devices.agree tells c.args.devices.now in
-    let old = D.history c.args.devices.now in
+    let old = D.state c.args.devices.now in
     let within : c.args.dev < length (now old) = omega (arith, c.requires.device, ap (λ (sizes : List ℕ). length sizes) agree, disk_count (now old)) in
     let longer : get_or (sizes_of (now old)) c.args.dev 0 ≤ c.args.blocks = omega (arith, c.if-blocks.false, c.blocks-2.ensures, ap (λ (sizes : List ℕ). get_or sizes c.args.dev 0) agree) in
     as_ok c.extend.result _ _ _ _ _ c.in-Ok.is
-    (subst (λ (sizes : List ℕ). Writes c.extend.result (on_device c.args.dev (extension (get_or sizes c.args.dev 0) c.args.blocks)) old (D.history c.extend.new.self)) (sym agree)
-    (writes_by_extend c.extend.result c.args.dev c.args.blocks old (D.history c.extend.new.self) (g.met.D.Devices.sound tells c.args.devices.now) within longer (c.extend.ensures.disks tells)))
+    (subst (λ (sizes : List ℕ). Writes c.extend.result (on_device c.args.dev (extension (get_or sizes c.args.dev 0) c.args.blocks)) old (D.state c.extend.new.self)) (sym agree)
+    (writes_by_extend c.extend.result c.args.dev c.args.blocks old (D.state c.extend.new.self) (g.met.D.Devices.sound tells c.args.devices.now) within longer (c.extend.ensures.disks tells)))
 
 pub returns-in-Err-clause-writes : goal.returns-in-Err-clause-writes
 returns-in-Err-clause-writes g c tells =
     let D = g.D.Devices in
     let agree = g.met.D.Devices.agree tells c.args.devices.now in
-    let old = D.history c.args.devices.now in
+    let old = D.state c.args.devices.now in
     let within : c.args.dev < length (now old) = omega (arith, c.requires.device, ap (λ (sizes : List ℕ). length sizes) agree, disk_count (now old)) in
     let longer : get_or (sizes_of (now old)) c.args.dev 0 ≤ c.args.blocks = omega (arith, c.if-blocks.false, c.blocks-2.ensures, ap (λ (sizes : List ℕ). get_or sizes c.args.dev 0) agree) in
     as_err c.extend.result _ _ _ _
-    (subst (λ (sizes : List ℕ). Writes c.extend.result (on_device c.args.dev (extension (get_or sizes c.args.dev 0) c.args.blocks)) old (D.history c.extend.new.self)) (sym agree)
-    (writes_by_extend c.extend.result c.args.dev c.args.blocks old (D.history c.extend.new.self) (g.met.D.Devices.sound tells c.args.devices.now) within longer (c.extend.ensures.disks tells)))
+    (subst (λ (sizes : List ℕ). Writes c.extend.result (on_device c.args.dev (extension (get_or sizes c.args.dev 0) c.args.blocks)) old (D.state c.extend.new.self)) (sym agree)
+    (writes_by_extend c.extend.result c.args.dev c.args.blocks old (D.state c.extend.new.self) (g.met.D.Devices.sound tells c.args.devices.now) within longer (c.extend.ensures.disks tells)))

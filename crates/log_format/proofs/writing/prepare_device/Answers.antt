@@ -7,7 +7,7 @@ use Rattle.log_format.proofs.Preparing.{prepared_none, prepared_past}
 use Rattle.log_format.proofs.writing.prepare_device.Goals as goal
 
 pub overflow_add-block-end : goal.overflow_add-block-end
-overflow_add-block-end g c = omega (arith, (has_places (g.D.Devices.sizes c.args.devices.now) c.args.layout.now c.requires.fits).journal)
+overflow_add-block-end g c = omega (arith, (has_places (g.D.Devices.state c.args.devices.now).sizes c.args.layout.now c.requires.fits).journal)
 
 pub loop-block-init : goal.loop-block-init
 loop-block-init g c = record {

@@ -1,6 +1,6 @@
 use Rattle.std.proofs.Common.{◌≡◌, Some, subst, sym}
 use Rattle.dev_model.specs.Disk.{as_read}
-use Rattle.dev_model.specs.Reading.{stays_now}
+use Rattle.dev_model.specs.FrameLaws.{stays_now}
 use Rattle.geometry.specs.Sessions.{session_in}
 use Rattle.record_log.proofs.tests.session.Goals as goal
 

@@ -9,7 +9,7 @@ use Rattle.record_log.proofs.writing.write_files.Goals as goal
 pub loop-durable-init : goal.loop-durable-init
 loop-durable-init g c =
     let D = g.D.Devices in
-    let history = D.history c.args.devices.now in
+    let history = D.state c.args.devices.now in
     record {
       rises = omega arith;
       most = c.requires.some;
@@ -24,9 +24,9 @@ loop-durable-init g c =
 pub loop-durable-preserved : goal.loop-durable-preserved
 loop-durable-preserved g c =
     let D = g.D.Devices in
-    let old = D.history c.args.devices.now in
-    let mid = D.history c.loop-durable.devices in
-    let new = D.history c.write_record.new.devices in
+    let old = D.state c.args.devices.now in
+    let mid = D.state c.loop-durable.devices in
+    let new = D.state c.write_record.new.devices in
     let layout = c.args.layout.now in
     let base = c.args.base in
     let files = c.args.files.now in
@@ -53,7 +53,7 @@ returns-in_err-write_record-clause-kept g c tells =
     let base = c.args.base in
     let first = c.args.durable.now in
     let count = c.loop-durable.durable in
-    goes_at c.args.layout.now (base + first) (base + count) (D.history c.args.devices.now) (D.history c.loop-durable.devices) (D.history c.write_record.new.devices)
+    goes_at c.args.layout.now (base + first) (base + count) (D.state c.args.devices.now) (D.state c.loop-durable.devices) (D.state c.write_record.new.devices)
     (let le : base + first ≤ base + count = omega (arith, c.loop-durable.invariant.rises) in le)
     (c.loop-durable.invariant.kept tells) (c.write_record.ensures.stops tells)
 
@@ -61,15 +61,15 @@ pub returns-in_err-write_record-clause-written : goal.returns-in_err-write_recor
 returns-in_err-write_record-clause-written g c tells start held =
     let D = g.D.Devices in
     let so_far = c.loop-durable.invariant in
-    writes_not c.args.layout.now c.args.session start c.args.base c.args.files.now c.args.durable.now c.loop-durable.durable (D.history c.args.devices.now) (D.history c.loop-durable.devices) (D.history c.write_record.new.devices)
+    writes_not c.args.layout.now c.args.session start c.args.base c.args.files.now c.args.durable.now c.loop-durable.durable (D.state c.args.devices.now) (D.state c.loop-durable.devices) (D.state c.write_record.new.devices)
     so_far.rises (so_far.written tells start held) (c.write_record.ensures.stops tells)
 
 pub overflow_cast-durable : goal.overflow_cast-durable
 overflow_cast-durable g c =
-    let has = has_places (g.D.Devices.sizes c.args.devices.now) c.args.layout.now c.requires.fits in
+    let has = has_places (g.D.Devices.state c.args.devices.now).sizes c.args.layout.now c.requires.fits in
     let fits : c.loop-durable.durable < 2 ^ 32 = omega (arith, c.loop-durable-test.true, c.requires.room, has.journal) in record { fits = fits }
 
 pub overflow_add-base : goal.overflow_add-base
 overflow_add-base g c =
-    let has = has_places (g.D.Devices.sizes c.args.devices.now) c.args.layout.now c.requires.fits in
+    let has = has_places (g.D.Devices.state c.args.devices.now).sizes c.args.layout.now c.requires.fits in
     let fits : c.args.base + c.loop-durable.durable < 2 ^ 32 = omega (arith, c.loop-durable-test.true, c.requires.room, has.journal) in record { fits = fits }

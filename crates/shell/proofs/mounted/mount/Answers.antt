@@ -15,34 +15,34 @@ returns-in-Ok-clause-found g c tells mirrors =
 
 pub returns-in-Ok-clause-mountable : goal.returns-in-Ok-clause-mountable
 returns-in-Ok-clause-mountable g c tells =
-    is_mountable (as_read (now (g.D.Devices.history c.args.devices.now))) c.in_ok-loaded.loaded.layout c.in_ok-loaded.loaded.session (c.in_ok-loaded.ensures.layout tells) (c.in_ok-loaded.ensures.session tells)
+    is_mountable (as_read (now (g.D.Devices.state c.args.devices.now))) c.in_ok-loaded.loaded.layout c.in_ok-loaded.loaded.session (c.in_ok-loaded.ensures.layout tells) (c.in_ok-loaded.ensures.session tells)
 
 pub returns-in-Ok-clause-begun : goal.returns-in-Ok-clause-begun
 returns-in-Ok-clause-begun g c tells =
     let D = g.D.Devices in
     let loaded = c.in_ok-loaded.loaded in
-    begun_since (IsSessionPlace loaded.layout (loaded.session + 1)) (D.history c.args.devices.now) (D.history c.load.new.devices) (D.history c.begin_session.new.devices) (c.load.ensures.stays tells) (c.begin_session.ensures.stops tells)
+    begun_since (IsSessionPlace loaded.layout (loaded.session + 1)) (D.state c.args.devices.now) (D.state c.load.new.devices) (D.state c.begin_session.new.devices) (c.load.ensures.stays tells) (c.begin_session.ensures.stops tells)
 
 pub returns-in-Ok-clause-survives : goal.returns-in-Ok-clause-survives
 returns-in-Ok-clause-survives g c tells =
     let D = g.D.Devices in
     let loaded = c.in_ok-loaded.loaded in
-    let old = D.history c.args.devices.now in
-    let new = D.history c.begin_session.new.devices in
-    beginning_survives c.beginning_is_survived.ensures old new loaded.layout loaded.session (length (D.sizes c.begin_session.new.devices))
+    let old = D.state c.args.devices.now in
+    let new = D.state c.begin_session.new.devices in
+    beginning_survives c.beginning_is_survived.ensures old new loaded.layout loaded.session (length (D.state c.begin_session.new.devices).sizes)
     (is_mountable (as_read (now old)) loaded.layout loaded.session (c.in_ok-loaded.ensures.layout tells) (c.in_ok-loaded.ensures.session tells))
-    (begun_since (IsSessionPlace loaded.layout (loaded.session + 1)) old (D.history c.load.new.devices) new (c.load.ensures.stays tells) (c.begin_session.ensures.stops tells))
+    (begun_since (IsSessionPlace loaded.layout (loaded.session + 1)) old (D.state c.load.new.devices) new (c.load.ensures.stays tells) (c.begin_session.ensures.stops tells))
     (g.met.D.Devices.steady tells c.begin_session.new.devices)
 
 pub returns-in-Err-clause-survives : goal.returns-in-Err-clause-survives
 returns-in-Err-clause-survives g c tells =
     let D = g.D.Devices in
     let loaded = c.in_ok-loaded.loaded in
-    let old = D.history c.args.devices.now in
-    let new = D.history c.begin_session.new.devices in
-    beginning_survives c.beginning_is_survived.ensures old new loaded.layout loaded.session (length (D.sizes c.begin_session.new.devices))
+    let old = D.state c.args.devices.now in
+    let new = D.state c.begin_session.new.devices in
+    beginning_survives c.beginning_is_survived.ensures old new loaded.layout loaded.session (length (D.state c.begin_session.new.devices).sizes)
     (is_mountable (as_read (now old)) loaded.layout loaded.session (c.in_ok-loaded.ensures.layout tells) (c.in_ok-loaded.ensures.session tells))
-    (begun_since (IsSessionPlace loaded.layout (loaded.session + 1)) old (D.history c.load.new.devices) new (c.load.ensures.stays tells) (c.begin_session.ensures.stops tells))
+    (begun_since (IsSessionPlace loaded.layout (loaded.session + 1)) old (D.state c.load.new.devices) new (c.load.ensures.stays tells) (c.begin_session.ensures.stops tells))
     (g.met.D.Devices.steady tells c.begin_session.new.devices)
 
 pub returns-in-Err-clause-cause : goal.returns-in-Err-clause-cause
@@ -52,7 +52,7 @@ returns-in-Err-clause-cause g c =
     let first = c.args.devices.now in
     let mid = c.load.new.devices in
     let last = c.begin_session.new.devices in
-    let shown : g.row.D.Denot → Shown = λ d. record { moments = D.history d; sizes = D.sizes d; faults = D.faults d; write_faults = D.write_faults d } in
+    let shown : g.row.D.Denot → Shown = λ d. record { moments = D.state d; sizes = (D.state d).sizes; faults = D.faults d; write_faults = D.write_faults d } in
     let error : c.begin_session.result ≡ Err c.in-Err.fault = c.in-Err.is in
     subst (MountStopped D.tells (shown first) (shown last)) (sym c.unbegun.ensures)
     (begin_stopped D.tells (shown first) (shown last) c.in-Err.fault
@@ -60,8 +60,8 @@ returns-in-Err-clause-cause g c =
     let spent = error ∙ ap (λ (f : BeginFault). Err f) none in
     let same : last ≡ mid = c.begin_session.ensures.nothing spent in
     record {
-      reason = λ tells. inr (loaded.layout, loaded.session, is_mountable (as_read (now (D.history first))) loaded.layout loaded.session (c.in_ok-loaded.ensures.layout tells) (c.in_ok-loaded.ensures.session tells), c.begin_session.ensures.spent.0 spent);
-      stays = λ tells. stays_only D.history first mid last same (c.load.ensures.stays tells);
+      reason = λ tells. inr (loaded.layout, loaded.session, is_mountable (as_read (now (D.state first))) loaded.layout loaded.session (c.in_ok-loaded.ensures.layout tells) (c.in_ok-loaded.ensures.session tells), c.begin_session.ensures.spent.0 spent);
+      stays = λ tells. stays_only D.state first mid last same (c.load.ensures.stays tells);
       unwritten = ap D.write_faults same ∙ c.load.ensures.write_faults;
     })
     (λ dev is.

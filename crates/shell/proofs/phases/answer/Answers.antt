@@ -24,10 +24,10 @@ returns g c =
     let page = c.args.page.now in
     let last = c.add_reply-in-Some.new.page in
     let answered = on_ok_of c.call.result (sym c.is_err.ensures.value ∙ c.if-is_err.false) c.call.ensures.answered in
-    let goes : GoesOn D.sizes old new (cons_option (entry_if_any 0 op answered.reply) []) = goes_answered D.history D.sizes D.write_faults g.O.Opening.forest op old new answered c.call.ensures.base c.call.ensures.layout c.call.ensures.sizes in
+    let goes : GoesOn (D.state old).sizes new (cons_option (entry_if_any 0 op answered.reply) []) = goes_answered D.state (D.state D.write_faults).sizes g.O.Opening.forest op old new answered c.call.ensures.base c.call.ensures.layout c.call.ensures.sizes in
     let found : c.in-Some.entry.now.reply ≡ answered.reply = ap (λ e. e.reply) (is_last old.trace new.trace _ c.in-Some.entry.now answered.trace (ap option_copied (sym c.in-Some.is) ∙ c.last.ensures)) in
-    runs_one D.sizes line answered.reply old new page last
-    (subst (λ o. GoesOn D.sizes old new (cons_option (entry_by o line.client answered.reply) [])) (sym c.requires.op) (subst (λ n. GoesOn D.sizes old new (cons_option (entry_if_any n op answered.reply) [])) (sym c.requires.client) goes))
+    runs_one (D.state line).sizes answered.reply old new page last
+    (subst (λ o. GoesOn (D.state old).sizes new (cons_option (entry_by o line.client answered.reply) [])) (sym c.requires.op) (subst (λ n. GoesOn (D.state old).sizes new (cons_option (entry_if_any n op answered.reply) [])) (sym c.requires.client) goes))
     (λ before shows. subst (λ o. Shows last (before ++ reply_line_by o line.client line.line answered.reply)) (sym c.requires.op) (subst (λ r. Shows last (before ++ reply_line_of line.client line.line r)) found (c.add_reply-in-Some.ensures.shows before shows)))
     (c.add_reply-in-Some.ensures.tally ∙ ap (tally_with page.tally) found)
 
@@ -40,8 +40,8 @@ returns-then-is_err g c =
     let page = c.args.page.now in
     let last = c.add_reply.new.page in
     let none = ap (λ (log : Log g.row.D.Denot). log.trace) (on_err_of c.call.result (sym c.is_err.ensures.value ∙ c.if-is_err.true) c.call.ensures.err) in
-    let goes : GoesOn D.sizes old new [] = goes_none D.sizes old new none c.call.ensures.base c.call.ensures.layout c.call.ensures.sizes in
-    runs_one D.sizes line NoMemory old new page last
-    (subst (λ o. GoesOn D.sizes old new (cons_option (entry_by o line.client NoMemory) [])) (sym c.requires.op) goes)
+    let goes : GoesOn (D.state old).sizes new [] = goes_none (D.state old).sizes new none c.call.ensures.base c.call.ensures.layout c.call.ensures.sizes in
+    runs_one (D.state line).sizes NoMemory old new page last
+    (subst (λ o. GoesOn (D.state old).sizes new (cons_option (entry_by o line.client NoMemory) [])) (sym c.requires.op) goes)
     (λ before shows. subst (λ o. Shows last (before ++ reply_line_by o line.client line.line NoMemory)) (sym c.requires.op) (c.add_reply.ensures.shows before shows))
     c.add_reply.ensures.tally

@@ -12,7 +12,7 @@ returns-then-is_err g c =
     let none = ap (λ (log : Log g.row.D.Denot). log.trace) (on_err_of c.call.result (sym c.is_err.ensures.value ∙ c.if-is_err.true) c.call.ensures.err) in
     record {
       reply = NoMemory;
-      history = goes_none g.D.Devices.sizes c.args.log.now c.call.new.self none c.call.ensures.base c.call.ensures.layout c.call.ensures.sizes;
+      history = goes_none (g.D.Devices.state c.args.log.now).sizes c.call.new.self none c.call.ensures.base c.call.ensures.layout c.call.ensures.sizes;
       text = ap (λ p. p.text) c.note.ensures;
       is_cut = ap (λ p. p.is_cut) c.note.ensures;
       tally = ap (λ p. p.tally) c.note.ensures;
@@ -32,7 +32,7 @@ returns g c =
     let found : c.in-Some.entry.now.reply ≡ answered.reply = ap (λ e. e.reply) (is_last old.trace new.trace _ c.in-Some.entry.now answered.trace (ap option_copied (sym c.in-Some.is) ∙ c.last.ensures)) in
     record {
       reply = answered.reply;
-      history = goes_answered D.history D.sizes D.write_faults g.O.Opening.forest Sync old new answered c.call.ensures.base c.call.ensures.layout c.call.ensures.sizes;
+      history = goes_answered D.state (D.state D.write_faults).sizes g.O.Opening.forest Sync old new answered c.call.ensures.base c.call.ensures.layout c.call.ensures.sizes;
       text = ap (λ p. p.text) c.note-in-Some.ensures;
       is_cut = ap (λ p. p.is_cut) c.note-in-Some.ensures;
       tally = ap (λ p. p.tally) c.note-in-Some.ensures ∙ ap (tally_with c.args.page.now.tally) found;

@@ -14,9 +14,9 @@ returns-clause-ran g c =
     let K = g.K.Sink in
     let O = g.O.Opening in
     let D = g.D.Devices in
-    let lines : RunsLines D.sizes c.args.plan.script c.start-log.result c.run_lines.new.log c.new-page.result c.run_lines.new.page =
-    subst (λ script. RunsLines D.sizes script c.start-log.result c.run_lines.new.log c.new-page.result c.run_lines.new.page) c.as_slice.ensures c.run_lines.ensures in
-    script_ran O.forest D.sizes K.tells c.end_run-status.result c.args.plan.script c.start-log.result c.run_lines.new.log c.end_run-status.new.log c.new-page.result c.run_lines.new.page c.finish-devices.result.trace (K.held c.args.sink.now) (K.held c.end_run-status.new.sink) (K.faults c.args.sink.now) (K.faults c.end_run-status.new.sink)
+    let lines : RunsLines (D.state c.args.plan.script).sizes c.start-log.result c.run_lines.new.log c.new-page.result c.run_lines.new.page =
+    subst (λ script. RunsLines (D.state script).sizes c.start-log.result c.run_lines.new.log c.new-page.result c.run_lines.new.page) c.as_slice.ensures c.run_lines.ensures in
+    script_ran O.forest (D.state K.tells).sizes c.end_run-status.result c.args.plan.script c.start-log.result c.run_lines.new.log c.end_run-status.new.log c.new-page.result c.run_lines.new.page c.finish-devices.result.trace (K.held c.args.sink.now) (K.held c.end_run-status.new.sink) (K.faults c.args.sink.now) (K.faults c.end_run-status.new.sink)
     (ap (λ (log : Log g.row.D.Denot). log.trace) c.start-log.ensures) (ap (λ p. p.text) c.new-page.ensures) (ap (λ p. p.tally) c.new-page.ensures) lines c.end_run-status.ensures c.finish-devices.ensures.trace
 
 pub returns-clause-survives : goal.returns-clause-survives
@@ -28,8 +28,8 @@ returns-clause-survives g c told =
     let layout : c.end_run-status.new.log.layout ≡ c.args.plan.loaded.layout =
     c.end_run-status.ensures.history.layout ∙ c.run_lines.ensures.history.layout ∙ ap (λ (log : Log g.row.D.Denot). log.layout) c.start-log.ensures in
     let after = c.finish-devices.result in
-    subst (λ (l : Layout). Survives (mounted_as l (c.args.plan.loaded.records, O.forest)) O.start.moments (D.history after.devices) after.trace after.acks) layout
-    (subst (λ (n : ℕ). Survives (mounted_as c.end_run-status.new.log.layout (n, O.forest)) O.start.moments (D.history after.devices) after.trace after.acks) base (c.finish-devices.ensures.survives told))
+    subst (λ (l : Layout). Survives (mounted_as l (c.args.plan.loaded.records, O.forest)) O.start.moments (D.state after.devices) after.trace after.acks) layout
+    (subst (λ (n : ℕ). Survives (mounted_as c.end_run-status.new.log.layout (n, O.forest)) O.start.moments (D.state after.devices) after.trace after.acks) base (c.finish-devices.ensures.survives told))
 
 pub returns-clause-caused : goal.returns-clause-caused
 returns-clause-caused g c =
@@ -41,10 +41,10 @@ returns-clause-caused g c =
     let layout : last.layout ≡ c.args.plan.loaded.layout =
     c.end_run-status.ensures.history.layout ∙ c.run_lines.ensures.history.layout ∙ ap (λ (log : Log g.row.D.Denot). log.layout) c.start-log.ensures in
     let after = c.finish-devices.result in
-    let sizes : D.sizes after.devices ≡ D.sizes c.args.devices =
-    ap D.sizes c.finish-devices.ensures.devices ∙ c.end_run-status.ensures.history.same_sizes ∙ c.run_lines.ensures.history.same_sizes ∙ ap (λ (log : Log g.row.D.Denot). D.sizes log.devices) c.start-log.ensures in (
+    let sizes : (D.state after.devices).sizes ≡ (D.state c.args.devices).sizes =
+    ap (D.state c.finish).sizes-devices.ensures.devices ∙ c.end_run-status.ensures.history.same_sizes ∙ c.run_lines.ensures.history.same_sizes ∙ ap (λ (log : Log g.row.D.Denot). (D.state log.devices).sizes) c.start-log.ensures in (
       after.halted,
-      subst (λ (s : List ℕ). HasHalted (length s) O.start.moments.moment (D.history after.devices).moment after.trace after.halted) sizes c.finish-devices.ensures.halts,
+      subst (λ (s : List ℕ). HasHalted (length s) O.start.moments.moment (D.state after.devices).moment after.trace after.halted) sizes c.finish-devices.ensures.halts,
       subst (λ (l : Layout). EachEntry (IsExact O.forest c.args.plan.loaded.records l.journal (halt_or_none after.halted)) after.trace) layout
           (subst (λ (n : ℕ). EachEntry (IsExact O.forest n last.layout.journal (halt_or_none after.halted)) after.trace) base c.finish-devices.ensures.exact),
     )

@@ -4,5 +4,5 @@ use Rattle.shell.proofs.run.run_script.Given as goal
 abbrev pub ghosts-run_plan : goal.ghosts-run_plan
 ghosts-run_plan g a = record {
   forest = a.plan.loaded.forest;
-  start = record { moments = g.B.Opening.start.moments; sizes = g.D.Devices.sizes a.devices; faults = g.D.Devices.faults a.devices; write_faults = g.D.Devices.write_faults a.devices };
+  start = record { moments = g.B.Opening.start.moments; sizes = (g.D.Devices.state a.devices).sizes; faults = g.D.Devices.faults a.devices; write_faults = g.D.Devices.write_faults a.devices };
 }

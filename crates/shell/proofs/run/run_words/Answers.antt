@@ -1,6 +1,6 @@
 use Rattle.std.proofs.Common.{◌≡◌, ◌≤◌, [], Some, None, Global, map, refl, ◌∙◌, sym, subst, arith}
 use Rattle.std.specs.Rc.{rc_str_bytes}
-use Rattle.dev_model.specs.Reading.{stays_here}
+use Rattle.dev_model.specs.FrameLaws.{stay_here}
 use Rattle.record_log.specs.Log.{Shown}
 use Rattle.record_log.specs.Survives.{Survives}
 use Rattle.shell.specs.declared.stop.Stop.TheVariants.{Memory}
@@ -16,7 +16,7 @@ use Rattle.shell.proofs.run.run_words.Goals as goal
 pub returns-in-Ok-Run : goal.returns-in-Ok-Run
 returns-in-Ok-Run g c =
     let words = map (rc_str_bytes {Z = Global}) c.args.words.now in
-    let run : IsRun words (g.D.Devices.sizes c.args.devices) =
+    let run : IsRun words (g.D.Devices.state c.args.devices).sizes =
     subst (λ n. task_of n words ≡ Some ToRun) c.count.ensures.count (subst (λ (task : Task). task_of c.count.result words ≡ Some task) c.in-Ok-Run.field-0-is c.in-Ok-Run.ensures.ok) in
     c.run_script.ensures words run
 
@@ -49,8 +49,8 @@ returns-in-Ok g c =
     let words = map (rc_str_bytes {Z = Global}) c.args.words.now in
     let layout = c.in-Ok-Format.layout in
     let ended = c.format_devices.result in
-    let shown : g.row.D.Denot → Shown = λ d. record { moments = D.history d; sizes = D.sizes d; faults = D.faults d; write_faults = D.write_faults d } in
-    let format : IsFormat words (D.sizes c.args.devices) layout =
+    let shown : g.row.D.Denot → Shown = λ d. record { moments = D.state d; sizes = (D.state d).sizes; faults = D.faults d; write_faults = D.write_faults d } in
+    let format : IsFormat words (D.state c.args.devices).sizes layout =
     subst (λ n. task_of n words ≡ Some (ToFormat layout)) c.count.ensures.count (subst (λ (task : Task). task_of c.count.result words ≡ Some task) c.in-Ok-Format.field-0-is c.in-Ok-Format.ensures.ok) in
     let all : Run g.row.D.Denot = record {
       words = words;
@@ -74,8 +74,8 @@ returns-in-Ok-Format g c =
     let first = c.args.devices in
     let early = c.end_early.ensures in
     let ended = c.end_early.result in
-    let old = D.history first in
-    let shown : g.row.D.Denot → Shown = λ d. record { moments = D.history d; sizes = D.sizes d; faults = D.faults d; write_faults = D.write_faults d } in
+    let old = D.state first in
+    let shown : g.row.D.Denot → Shown = λ d. record { moments = D.state d; sizes = (D.state d).sizes; faults = D.faults d; write_faults = D.write_faults d } in
     let all : Run g.row.D.Denot = record {
       words = map (rc_str_bytes {Z = Global}) c.args.words.now;
       streams = record { left = S.left c.args.source.now; held = K.held c.args.sink.now; held_after = K.held c.end_early.new.sink };
@@ -89,8 +89,8 @@ returns-in-Ok-Format g c =
       acks = ended.acks;
     } in
     stopped S.tells K.tells D.tells all Memory early.ends tt refl (λ before. early.devices)
-    (λ told volume. subst (λ d. Survives volume old (D.history d) [] []) (sym early.devices) (c.reading_is_survived.ensures volume old old (stays_here old)))
-    (subst (λ d. old.moment ≤ (D.history d).moment) (sym early.devices) (omega arith))
+    (λ told volume. subst (λ d. Survives volume old (D.state d) [] []) (sym early.devices) (c.reading_is_survived.ensures volume old old (stay_here old)))
+    (subst (λ d. old.moment ≤ (D.state d).moment) (sym early.devices) (omega arith))
 
 pub returns : goal.returns
 returns g c =
@@ -100,10 +100,10 @@ returns g c =
     let first = c.args.devices in
     let early = c.end_early-in-Err.ensures in
     let ended = c.end_early-in-Err.result in
-    let old = D.history first in
+    let old = D.state first in
     let words = map (rc_str_bytes {Z = Global}) c.args.words.now in
     let left = S.left c.args.source.now in
-    let shown : g.row.D.Denot → Shown = λ d. record { moments = D.history d; sizes = D.sizes d; faults = D.faults d; write_faults = D.write_faults d } in
+    let shown : g.row.D.Denot → Shown = λ d. record { moments = D.state d; sizes = (D.state d).sizes; faults = D.faults d; write_faults = D.write_faults d } in
     let all : Run g.row.D.Denot = record {
       words = words;
       streams = record { left = left; held = K.held c.args.sink.now; held_after = K.held c.end_early-in-Err.new.sink };
@@ -121,5 +121,5 @@ returns g c =
     (words_cause S.tells D.tells words left (shown first) (shown ended.devices) c.in-Err.fault (λ usage. subst (λ n. task_of n words ≡ None) c.count.ensures.count (c.in-Err.ensures.usage usage))))
     (subst (λ stop. SourceFailed stop (S.faults c.args.source.now) (S.faults c.args.source.now)) (sym c.from.ensures) (words_source c.in-Err.fault (S.faults c.args.source.now)))
     (λ before. early.devices)
-    (λ told volume. subst (λ d. Survives volume old (D.history d) [] []) (sym early.devices) (c.reading_is_survived.ensures volume old old (stays_here old)))
-    (subst (λ d. old.moment ≤ (D.history d).moment) (sym early.devices) (omega arith))
+    (λ told volume. subst (λ d. Survives volume old (D.state d) [] []) (sym early.devices) (c.reading_is_survived.ensures volume old old (stay_here old)))
+    (subst (λ d. old.moment ≤ (D.state d).moment) (sym early.devices) (omega arith))

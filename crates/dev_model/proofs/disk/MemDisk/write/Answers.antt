@@ -1,15 +1,17 @@
-use Rattle.std.proofs.Common.{◌≡◌, [], ◌∷◌, ◌++◌, get_or, set, ap, ◌∙◌, rules}
-use Rattle.dev_model.specs.Stored.{stored_by}
+use Rattle.std.proofs.Common.{◌≡◌, ◌<◌, [], ◌∷◌, ◌++◌, get_or, length, set, ap, ◌∙◌, sym, subst, rules, All}
+use Rattle.std.proofs.lemmas.List.Elements.{All-get_or}
+use Rattle.dev_model.specs.Disk.{IsBlock}
+use Rattle.dev_model.specs.MemDisks.{IsKept, disk_by}
 use Rattle.dev_model.specs.declared.disk.Overwritten.{Overwritten}
-use Rattle.dev_model.proofs.StoredBlocks.{stored_by-written}
+use Rattle.dev_model.proofs.KeptBlocks.{disk_by-written, written_is_kept}
 use Rattle.dev_model.proofs.disk.MemDisk.write.Goals as goal
 
 pub returns-clause-ok : goal.returns-clause-ok
 returns-clause-ok c = rw (← c.self.view_is) (
     let d = c.self.inside in
-    let one : Overwritten = record { block = c.args.block; bytes = c.replace-bytes.result } in
+    let one : Overwritten = record { block = c.args.block; bytes = c.replace-bytes.result; asked = c.args.asked } in
     let pushed : c.push.new.self.items ≡ d.overwritten.items ++ one ∷ [] = search rules in
     let was : one.bytes ≡ get_or d.blocks.items c.args.block one.bytes = search rules in
-    ap (λ os. stored_by (set d.blocks.items c.args.block c.replace-bytes.new.dest) os d.shortest) pushed
-    ∙ ap (λ bs. stored_by (set d.blocks.items c.args.block bs) (d.overwritten.items ++ one ∷ []) d.shortest) c.replace-bytes.ensures.after
-    ∙ stored_by-written d.blocks.items d.overwritten.items d.shortest one c.args.bytes was)
+    ap (λ os. disk_by (set d.blocks.items c.args.block c.replace-bytes.new.dest) os d.shortest) pushed
+    ∙ ap (λ bs. disk_by (set d.blocks.items c.args.block bs) (d.overwritten.items ++ one ∷ []) d.shortest) c.replace-bytes.ensures.after
+    ∙ disk_by-written d.blocks.items d.overwritten.items d.shortest one c.args.left was)

@@ -55,7 +55,7 @@ invariant_of-self-in-Synced-1 g c =
     let files : c.reserve-2.new.self.items ≡ l.files.items = c.in_ok-reserve-2.ensures.items in
     let put : c.put_entry-in_default.new.trace.items ≡ trace ++ entry_of op reply ∷ [] = search rules in
     let log : Log g.row.D.Denot = record { devices = l.devices; layout = l.layout; session = l.session; base = l.base; files = l.files.items; durable = l.durable; halted = l.halted; trace = c.put_entry-in_default.new.trace.items; acks = l.acks.items } in
-    subst (λ fs. IsSound opening g.O.Opening.start D.tells (record { moments = D.history l.devices; sizes = D.sizes l.devices; faults = D.faults l.devices; write_faults = D.write_faults l.devices }) (record log { files = fs }) c.apply.new.self) (sym files)
+    subst (λ fs. IsSound opening g.O.Opening.start D.tells (record { moments = D.state l.devices; sizes = (D.state l.devices).sizes; faults = D.faults l.devices; write_faults = D.write_faults l.devices }) (record log { files = fs }) c.apply.new.self) (sym files)
     (sound_plain opening g.O.Opening.start D.tells _ _ l.forest c.self.invariant
     c.put_entry-in_default.new.trace.items (entry_of op reply) c.apply.new.self
     put

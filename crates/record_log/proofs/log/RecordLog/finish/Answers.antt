@@ -22,15 +22,15 @@ returns-clause-survives g c told =
     let D = g.D.Devices in
     let l = c.self.inside in
     let opening = g.O.Opening.forest in
-    let SurvivesWith = λ (layout : Layout) (base : ℕ) (trace : History) (acks : List Ack). Survives (mounted_as layout (base, opening)) g.O.Opening.start.moments (D.history l.devices) trace acks in
+    let SurvivesWith = λ (layout : Layout) (base : ℕ) (trace : History) (acks : List Ack). Survives (mounted_as layout (base, opening)) g.O.Opening.start.moments (D.state l.devices) trace acks in
     subst (λ (acks : List Ack). SurvivesWith c.args.self.layout c.args.self.base c.from.result acks) (sym c.from-2.ensures)
     (subst (λ (trace : History). SurvivesWith c.args.self.layout c.args.self.base trace l.acks.items) (sym c.from.ensures)
     (subst (λ (log : Log g.row.D.Denot). SurvivesWith log.layout log.base l.trace.items l.acks.items) c.self.view_is
     (survives opening g.O.Opening.start D.tells _ _ l.forest c.self.invariant told (g.met.D.Devices.steady told l.devices)
-    (follow_ends g.O.Opening.start.moments.moment (D.history l.devices).moment l.acks.items c.self.invariant.acks.each.moments)
+    (follow_ends g.O.Opening.start.moments.moment (D.state l.devices).moment l.acks.items c.self.invariant.acks.each.moments)
     (c.self.invariant.acks.stops told).past)))
 
 pub returns-clause-later : goal.returns-clause-later
 returns-clause-later g c =
     let l = c.self.inside in
-    follow_ends g.O.Opening.start.moments.moment (g.D.Devices.history l.devices).moment l.acks.items c.self.invariant.acks.each.moments
+    follow_ends g.O.Opening.start.moments.moment (g.D.Devices.state l.devices).moment l.acks.items c.self.invariant.acks.each.moments

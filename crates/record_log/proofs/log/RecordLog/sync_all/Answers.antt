@@ -3,12 +3,11 @@ use Rattle.std.proofs.lemmas.List.{length-map}
 use Rattle.vol_types.specs.Faults.{RoseBy}
 use Rattle.dev_model.specs.Disk.{Disk}
 use Rattle.dev_model.specs.Devices.{now}
-use Rattle.dev_model.specs.Stops.{LeavesOnly, MayLeaveBut}
+use Rattle.dev_model.specs.Crashes.{EachCrash, EachCrashNow, IsCrashImageBut}
 use Rattle.plain_forest.specs.History.{History, commit_count}
 use Rattle.plain_forest.specs.declared.operation.Op.TheVariants.{Sync}
 use Rattle.plain_forest.specs.declared.operation.Reply.TheVariants.{Synced, DeviceFault}
 use Rattle.log_records.specs.Found.{commit_of}
-use Rattle.geometry.specs.Mirrors.{EachLeft}
 use Rattle.geometry.specs.declared.fault.DiskFault.TheVariants as disks
 use Rattle.record_log.specs.Durable.{HasWritten, IsFrom, Writes}
 use Rattle.record_log.specs.Log.{IsSound, Log, Shown, Syncs}
@@ -19,12 +18,12 @@ use Rattle.record_log.proofs.WrittenRecords.{untouched}
 use Rattle.record_log.proofs.log.RecordLog.sync_all.Goals as goal
 
 pub returns-in_err-reserve-clause-kept : goal.returns-in_err-reserve-clause-kept
-returns-in_err-reserve-clause-kept g c = subst (λ (log : Log g.row.D.Denot). g.D.Devices.tells → LeavesOnly (λ _ image. MayLeaveBut (IsFrom log.layout (log.base + log.durable)) (now (g.D.Devices.history log.devices)) image) (g.D.Devices.history log.devices) (g.D.Devices.history c.self.inside.devices)) c.self.view_is
-    (λ told. untouched (IsFrom c.self.inside.layout (c.self.inside.base + c.self.inside.durable)) (g.D.Devices.history c.self.inside.devices))
+returns-in_err-reserve-clause-kept g c = subst (λ (log : Log g.row.D.Denot). g.D.Devices.tells → EachCrash (λ _ _ image. IsCrashImageBut (IsFrom log.layout (log.base + log.durable)) (now (g.D.Devices.state log.devices)) image) (g.D.Devices.state log.devices) (g.D.Devices.state c.self.inside.devices)) c.self.view_is
+    (λ told. untouched (IsFrom c.self.inside.layout (c.self.inside.base + c.self.inside.durable)) (g.D.Devices.state c.self.inside.devices))
 
 pub returns-in_err-reserve-2-clause-kept : goal.returns-in_err-reserve-2-clause-kept
-returns-in_err-reserve-2-clause-kept g c = subst (λ (log : Log g.row.D.Denot). g.D.Devices.tells → LeavesOnly (λ _ image. MayLeaveBut (IsFrom log.layout (log.base + log.durable)) (now (g.D.Devices.history log.devices)) image) (g.D.Devices.history log.devices) (g.D.Devices.history c.self.inside.devices)) c.self.view_is
-    (λ told. untouched (IsFrom c.self.inside.layout (c.self.inside.base + c.self.inside.durable)) (g.D.Devices.history c.self.inside.devices))
+returns-in_err-reserve-2-clause-kept g c = subst (λ (log : Log g.row.D.Denot). g.D.Devices.tells → EachCrash (λ _ _ image. IsCrashImageBut (IsFrom log.layout (log.base + log.durable)) (now (g.D.Devices.state log.devices)) image) (g.D.Devices.state log.devices) (g.D.Devices.state c.self.inside.devices)) c.self.view_is
+    (λ told. untouched (IsFrom c.self.inside.layout (c.self.inside.base + c.self.inside.durable)) (g.D.Devices.state c.self.inside.devices))
 
 pub invariant_of-self-in-Ok : goal.invariant_of-self-in-Ok
 invariant_of-self-in-Ok g c =
@@ -34,8 +33,8 @@ invariant_of-self-in-Ok g c =
     let wrote = c.write_files-written.ensures in
     let devices = c.write_files-written.new.devices in
     let durable = c.write_files-written.new.durable in
-    let shown : Shown = record { moments = D.history l.devices; sizes = D.sizes l.devices; faults = D.faults l.devices; write_faults = D.write_faults l.devices } in
-    let later : Shown = record { moments = D.history devices; sizes = D.sizes devices; faults = D.faults devices; write_faults = D.write_faults devices } in
+    let shown : Shown = record { moments = D.state l.devices; sizes = (D.state l.devices).sizes; faults = D.faults l.devices; write_faults = D.write_faults l.devices } in
+    let later : Shown = record { moments = D.state devices; sizes = (D.state devices).sizes; faults = D.faults devices; write_faults = D.write_faults devices } in
     let log : Log g.row.D.Denot = record { devices = l.devices; layout = l.layout; session = l.session; base = l.base; files = l.files.items; durable = l.durable; halted = l.halted; trace = l.trace.items; acks = l.acks.items } in
     let unhalted : l.halted ≡ None = subst (λ (log : Log g.row.D.Denot). log.halted ≡ None) (sym c.self.view_is) c.requires in
     let has : HasWrittenTo l.layout l.session D.tells l.base l.durable l.files.items shown durable later = record {
@@ -45,12 +44,12 @@ invariant_of-self-in-Ok g c =
       moment = wrote.moment;
       faults = wrote.faults;
       write_faults = wrote.write_faults;
-      writes = λ tells. subst (λ (files : List MadeFile). (start : List Disk) → EachLeft (HasWritten l.layout l.session start l.base l.durable files) (D.history l.devices) → Writes l.layout l.session start l.base l.durable durable files (D.history l.devices) (D.history devices)) c.as_slice.ensures.value (wrote.written tells);
+      writes = λ tells. subst (λ (files : List MadeFile). (start : List Disk) → EachCrashNow (HasWritten l.layout l.session start l.base l.durable files) (D.state l.devices) → Writes l.layout l.session start l.base l.durable durable files (D.state l.devices) (D.state devices)) c.as_slice.ensures.value (wrote.written tells);
     } in
     let all : durable ≡ length l.files.items = c.in-Ok.ensures.ok ∙ ap length c.as_slice.ensures.value in
     let trace : c.put_entry.new.trace.items ≡ l.trace.items ++ entry_of Sync (Synced durable) ∷ [] = c.put_entry.ensures ∙ ap (λ (t : History). t ++ entry_of Sync (Synced durable) ∷ []) c.in_ok-reserve.ensures.items in
     let ack : ℕ → Ack = λ moment. record { moment = moment; commits = durable } in
-    let acks : c.put_ack.new.acks.items ≡ l.acks.items ++ ack (D.history devices).moment ∷ [] =
+    let acks : c.put_ack.new.acks.items ≡ l.acks.items ++ ack (D.state devices).moment ∷ [] =
     c.put_ack.ensures ∙ ap (λ (as_were : List Ack). as_were ++ ack c.moment-moment.result ∷ []) c.in_ok-reserve-2.ensures.items ∙ ap (λ m. l.acks.items ++ ack m ∷ []) c.moment-moment.ensures.moment in
     subst (λ t. IsSound opening g.O.Opening.start D.tells later (record log { devices = devices; durable = durable; trace = t; acks = c.put_ack.new.acks.items }) l.forest) (sym trace)
     (subst (λ (as_are : List Ack). IsSound opening g.O.Opening.start D.tells later (record log { devices = devices; durable = durable; trace = l.trace.items ++ entry_of Sync (Synced durable) ∷ []; acks = as_are }) l.forest) (sym acks)
@@ -64,8 +63,8 @@ invariant_of-self-in-Err-DeviceFault g c =
     let wrote = c.write_files-written.ensures in
     let devices = c.write_files-written.new.devices in
     let durable = c.write_files-written.new.durable in
-    let shown : Shown = record { moments = D.history l.devices; sizes = D.sizes l.devices; faults = D.faults l.devices; write_faults = D.write_faults l.devices } in
-    let later : Shown = record { moments = D.history devices; sizes = D.sizes devices; faults = D.faults devices; write_faults = D.write_faults devices } in
+    let shown : Shown = record { moments = D.state l.devices; sizes = (D.state l.devices).sizes; faults = D.faults l.devices; write_faults = D.write_faults l.devices } in
+    let later : Shown = record { moments = D.state devices; sizes = (D.state devices).sizes; faults = D.faults devices; write_faults = D.write_faults devices } in
     let log : Log g.row.D.Denot = record { devices = l.devices; layout = l.layout; session = l.session; base = l.base; files = l.files.items; durable = l.durable; halted = l.halted; trace = l.trace.items; acks = l.acks.items } in
     let unhalted : l.halted ≡ None = subst (λ (log : Log g.row.D.Denot). log.halted ≡ None) (sym c.self.view_is) c.requires in
     let has : HasWrittenTo l.layout l.session D.tells l.base l.durable l.files.items shown durable later = record {
@@ -75,7 +74,7 @@ invariant_of-self-in-Err-DeviceFault g c =
       moment = wrote.moment;
       faults = wrote.faults;
       write_faults = wrote.write_faults;
-      writes = λ tells. subst (λ (files : List MadeFile). (start : List Disk) → EachLeft (HasWritten l.layout l.session start l.base l.durable files) (D.history l.devices) → Writes l.layout l.session start l.base l.durable durable files (D.history l.devices) (D.history devices)) c.as_slice.ensures.value (wrote.written tells);
+      writes = λ tells. subst (λ (files : List MadeFile). (start : List Disk) → EachCrashNow (HasWritten l.layout l.session start l.base l.durable files) (D.state l.devices) → Writes l.layout l.session start l.base l.durable durable files (D.state l.devices) (D.state devices)) c.as_slice.ensures.value (wrote.written tells);
     } in
     let dev = c.in-Err-DeviceFault.dev in
     let failed : c.write_files-written.result ≡ Err (disks.DeviceFault dev) = search rules in
@@ -85,8 +84,8 @@ invariant_of-self-in-Err-DeviceFault g c =
     let trace : c.put_entry-in-Err-DeviceFault.new.trace.items ≡ l.trace.items ++ entry ∷ [] = c.put_entry-in-Err-DeviceFault.ensures ∙ ap (λ (t : History). t ++ entry ∷ []) c.in_ok-reserve.ensures.items in
     let at = λ (moment : ℕ) (trace : History) (acks : List Ack). IsSound opening g.O.Opening.start D.tells later (record log { devices = devices; durable = durable; halted = Some (record { dev = dev; tick = moment }); trace = trace; acks = acks }) l.forest in
     subst (λ m. at m c.put_entry-in-Err-DeviceFault.new.trace.items c.reserve-2.new.self.items) (sym c.moment-moment.ensures.moment)
-    (subst (λ t. at (D.history devices).moment t c.reserve-2.new.self.items) (sym trace)
-    (subst (λ as_are. at (D.history devices).moment (l.trace.items ++ entry ∷ []) as_are) (sym c.in_ok-reserve-2.ensures.items)
+    (subst (λ t. at (D.state devices).moment t c.reserve-2.new.self.items) (sym trace)
+    (subst (λ as_are. at (D.state devices).moment (l.trace.items ++ entry ∷ []) as_are) (sym c.in_ok-reserve-2.ensures.items)
     (sound_failed opening g.O.Opening.start D.tells shown log l.forest c.self.invariant devices durable later has dev device unhalted cause.1 cause.2)))
 
 pub invariant_of-self-in-Err-NoMemory : goal.invariant_of-self-in-Err-NoMemory
@@ -97,8 +96,8 @@ invariant_of-self-in-Err-NoMemory g c =
     let wrote = c.write_files-written.ensures in
     let devices = c.write_files-written.new.devices in
     let durable = c.write_files-written.new.durable in
-    let shown : Shown = record { moments = D.history l.devices; sizes = D.sizes l.devices; faults = D.faults l.devices; write_faults = D.write_faults l.devices } in
-    let later : Shown = record { moments = D.history devices; sizes = D.sizes devices; faults = D.faults devices; write_faults = D.write_faults devices } in
+    let shown : Shown = record { moments = D.state l.devices; sizes = (D.state l.devices).sizes; faults = D.faults l.devices; write_faults = D.write_faults l.devices } in
+    let later : Shown = record { moments = D.state devices; sizes = (D.state devices).sizes; faults = D.faults devices; write_faults = D.write_faults devices } in
     let log : Log g.row.D.Denot = record { devices = l.devices; layout = l.layout; session = l.session; base = l.base; files = l.files.items; durable = l.durable; halted = l.halted; trace = l.trace.items; acks = l.acks.items } in
     let unhalted : l.halted ≡ None = subst (λ (log : Log g.row.D.Denot). log.halted ≡ None) (sym c.self.view_is) c.requires in
     let has : HasWrittenTo l.layout l.session D.tells l.base l.durable l.files.items shown durable later = record {
@@ -108,7 +107,7 @@ invariant_of-self-in-Err-NoMemory g c =
       moment = wrote.moment;
       faults = wrote.faults;
       write_faults = wrote.write_faults;
-      writes = λ tells. subst (λ (files : List MadeFile). (start : List Disk) → EachLeft (HasWritten l.layout l.session start l.base l.durable files) (D.history l.devices) → Writes l.layout l.session start l.base l.durable durable files (D.history l.devices) (D.history devices)) c.as_slice.ensures.value (wrote.written tells);
+      writes = λ tells. subst (λ (files : List MadeFile). (start : List Disk) → EachCrashNow (HasWritten l.layout l.session start l.base l.durable files) (D.state l.devices) → Writes l.layout l.session start l.base l.durable durable files (D.state l.devices) (D.state devices)) c.as_slice.ensures.value (wrote.written tells);
     } in
     let at = λ (trace : History) (acks : List Ack). IsSound opening g.O.Opening.start D.tells later (record log { devices = devices; durable = durable; trace = trace; acks = acks }) l.forest in
     subst (λ t. at t c.reserve-2.new.self.items) (sym c.in_ok-reserve.ensures.items)
@@ -128,18 +127,18 @@ returns-in-Ok-clause-answered g c =
     let ack : ℕ → ℕ → Ack = λ moment commits. record { moment = moment; commits = commits } in
     record {
       reply = Synced durable;
-      is = subst (λ halted. Syncs g.D.Devices.history g.D.Devices.write_faults opening halted old new (Synced durable)) (sym c.requires) (inl (record {
+      is = subst (λ halted. Syncs g.D.Devices.state g.D.Devices.write_faults opening halted old new (Synced durable)) (sym c.requires) (inl (record {
         is = ap Synced count;
         durable = count;
         acks = c.put_ack.ensures ∙ ap (λ (as_were : List Ack). as_were ++ ack c.moment-moment.result durable ∷ []) (c.in_ok-reserve-2.ensures.items ∙ ap (λ (log : Log g.row.D.Denot). log.acks) c.self.view_is)
-            ∙ ap (λ m. old.acks ++ ack m durable ∷ []) c.moment-moment.ensures.moment ∙ ap (λ n. old.acks ++ ack (g.D.Devices.history c.write_files-written.new.devices).moment n ∷ []) count;
+            ∙ ap (λ m. old.acks ++ ack m durable ∷ []) c.moment-moment.ensures.moment ∙ ap (λ n. old.acks ++ ack (g.D.Devices.state c.write_files-written.new.devices).moment n ∷ []) count;
         halted = ap (λ (log : Log g.row.D.Denot). log.halted) c.self.view_is ∙ c.requires;
       }));
       trace = c.put_entry.ensures ∙ ap (λ (t : History). t ++ entry_of Sync (Synced durable) ∷ []) (c.in_ok-reserve.ensures.items ∙ traces);
     }
 
 pub returns-in-Ok-clause-kept : goal.returns-in-Ok-clause-kept
-returns-in-Ok-clause-kept g c = subst (λ (log : Log g.row.D.Denot). g.D.Devices.tells → LeavesOnly (λ _ image. MayLeaveBut (IsFrom log.layout (log.base + log.durable)) (now (g.D.Devices.history log.devices)) image) (g.D.Devices.history log.devices) (g.D.Devices.history c.write_files-written.new.devices)) c.self.view_is c.write_files-written.ensures.kept
+returns-in-Ok-clause-kept g c = subst (λ (log : Log g.row.D.Denot). g.D.Devices.tells → EachCrash (λ _ _ image. IsCrashImageBut (IsFrom log.layout (log.base + log.durable)) (now (g.D.Devices.state log.devices)) image) (g.D.Devices.state log.devices) (g.D.Devices.state c.write_files-written.new.devices)) c.self.view_is c.write_files-written.ensures.kept
 
 pub returns-in-Err-DeviceFault-clause-answered : goal.returns-in-Err-DeviceFault-clause-answered
 returns-in-Err-DeviceFault-clause-answered g c =
@@ -151,7 +150,7 @@ returns-in-Err-DeviceFault-clause-answered g c =
     let failed : c.write_files-written.result ≡ Err (disks.DeviceFault dev) = search rules in
     record {
       reply = DeviceFault dev;
-      is = subst (λ halted. Syncs g.D.Devices.history g.D.Devices.write_faults opening halted old new (DeviceFault dev)) (sym c.requires) (inr (record {
+      is = subst (λ halted. Syncs g.D.Devices.state g.D.Devices.write_faults opening halted old new (DeviceFault dev)) (sym c.requires) (inr (record {
         dev = dev;
         is = refl;
         cause = subst (λ (log : Log g.row.D.Denot). RoseBy 1 (g.D.Devices.write_faults log.devices) (g.D.Devices.write_faults c.write_files-written.new.devices)) c.self.view_is (c.write_files-written.ensures.cause dev failed).2;
@@ -162,7 +161,7 @@ returns-in-Err-DeviceFault-clause-answered g c =
     }
 
 pub returns-in-Err-DeviceFault-clause-kept : goal.returns-in-Err-DeviceFault-clause-kept
-returns-in-Err-DeviceFault-clause-kept g c = subst (λ (log : Log g.row.D.Denot). g.D.Devices.tells → LeavesOnly (λ _ image. MayLeaveBut (IsFrom log.layout (log.base + log.durable)) (now (g.D.Devices.history log.devices)) image) (g.D.Devices.history log.devices) (g.D.Devices.history c.write_files-written.new.devices)) c.self.view_is c.write_files-written.ensures.kept
+returns-in-Err-DeviceFault-clause-kept g c = subst (λ (log : Log g.row.D.Denot). g.D.Devices.tells → EachCrash (λ _ _ image. IsCrashImageBut (IsFrom log.layout (log.base + log.durable)) (now (g.D.Devices.state log.devices)) image) (g.D.Devices.state log.devices) (g.D.Devices.state c.write_files-written.new.devices)) c.self.view_is c.write_files-written.ensures.kept
 
 pub returns-in-Err-NoMemory-clause-kept : goal.returns-in-Err-NoMemory-clause-kept
-returns-in-Err-NoMemory-clause-kept g c = subst (λ (log : Log g.row.D.Denot). g.D.Devices.tells → LeavesOnly (λ _ image. MayLeaveBut (IsFrom log.layout (log.base + log.durable)) (now (g.D.Devices.history log.devices)) image) (g.D.Devices.history log.devices) (g.D.Devices.history c.write_files-written.new.devices)) c.self.view_is c.write_files-written.ensures.kept
+returns-in-Err-NoMemory-clause-kept g c = subst (λ (log : Log g.row.D.Denot). g.D.Devices.tells → EachCrash (λ _ _ image. IsCrashImageBut (IsFrom log.layout (log.base + log.durable)) (now (g.D.Devices.state log.devices)) image) (g.D.Devices.state log.devices) (g.D.Devices.state c.write_files-written.new.devices)) c.self.view_is c.write_files-written.ensures.kept

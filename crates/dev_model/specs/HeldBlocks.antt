@@ -1,0 +1,41 @@
+-- Which blocks disks have held, and what is believed of digests: no block of a crash image opens by chance, and no two
+-- records have one digest.
+use Rattle.std.specs.Prelude.{◌≡◌, ◌⊎◌, ℕ, ◌≤◌, List, All, Contains, Some, slice_get}
+use Rattle.dev_model.specs.Disk.{Asked, Disk, Image, IsCrashImage, block_at}
+use Rattle.dev_model.specs.Devices.{DevicesState, now}
+
+-- The disk has held these bytes in this block: they were last settled there, or it was asked to write them there since.
+abbrev pub HasHeld : Disk → ℕ → List ℕ → Type 0
+HasHeld disk block bytes = (slice_get disk.settled block ≡ Some bytes) ⊎ Contains disk.asked (record { block = block; bytes = bytes })
+
+-- The disk of this device has held these bytes in this block.
+abbrev pub HaveHeld : List Disk → ℕ → ℕ → List ℕ → Type 0
+HaveHeld disks dev block bytes = (disk : Disk) × (slice_get disks dev ≡ Some disk) × HasHeld disk block bytes
+
+-- Each block of the image that opens is one that the disks have held at its place.
+abbrev pub OnlyHeldOpen : (List ℕ → Type 0) → List Disk → Image → Type 0
+OnlyHeldOpen Opens disks image = (dev block : ℕ) (bytes : List ℕ) → block_at image dev block ≡ Some bytes → Opens bytes → HaveHeld disks dev block bytes
+
+-- No chance match, from one moment to another: whatever a crash left at a moment between them, no block of it opens but those
+-- that the disks had held at their places by then. So the digest of no torn block matches by chance.
+abbrev pub HasNoChanceMatch : (List ℕ → Type 0) → ℕ → ℕ → DevicesState → Type 0
+HasNoChanceMatch Opens first last state =
+    (m : ℕ) → first ≤ m → m ≤ last → (image : Image) → IsCrashImage (state.disks m) image → OnlyHeldOpen Opens (state.disks m) image
+
+-- At a moment from the first to the last these bytes were held in some block.
+abbrev pub WasHeld : ℕ → ℕ → DevicesState → List ℕ → Type 0
+WasHeld first last state bytes = (m : ℕ) × (first ≤ m) × (m ≤ last) × (dev : ℕ) × (block : ℕ) × HaveHeld (state.disks m) dev block bytes
+
+-- No collision, from one moment to another: of the blocks that were held meanwhile, no two lists are records of one digest
+-- with different payloads. `IsRecord blocks payload digest` says what a record is.
+abbrev pub HasNoCollision : (List (List ℕ) → List ℕ → List ℕ → Type 0) → ℕ → ℕ → DevicesState → Type 0
+HasNoCollision IsRecord first last state =
+    (one other : List (List ℕ)) (payload second digest : List ℕ)
+    → All (WasHeld first last state) one → All (WasHeld first last state) other → IsRecord one payload digest → IsRecord other second digest → payload ≡ second
+
+-- From one state of devices to a later one nothing that opens came to be held but what was asked for, where no chance match is
+-- up to then.
+abbrev pub HoldOnly : (List ℕ → Type 0) → (ℕ → ℕ → List ℕ → Type 0) → DevicesState → DevicesState → Type 0
+HoldOnly Opens asked old new =
+    (m : ℕ) → old.moment ≤ m → m ≤ new.moment → HasNoChanceMatch Opens old.moment m new
+    → (dev block : ℕ) (bytes : List ℕ) → Opens bytes → HaveHeld (new.disks m) dev block bytes → HaveHeld (now old) dev block bytes ⊎ asked dev block bytes
