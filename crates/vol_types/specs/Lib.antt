@@ -1,9 +1,14 @@
 pub mod Btrees
 pub mod Faults
+pub mod KeyMaps
+pub mod Layouts
 pub mod Lengths
+pub mod Limits
 pub mod Maps
 pub mod Positions
 pub mod Ranges
 pub mod Sets
+pub mod Spare
+pub mod Standing
 pub mod Values
 pub mod Widths
