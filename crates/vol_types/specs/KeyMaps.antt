@@ -1,6 +1,6 @@
 -- The key map: for each btree a finite map from positions to values. What updates make of it, what a query asks of it,
 -- and when it gives looks.
-use Rattle.std.specs.Prelude.{◌≡◌, ℕ, ◌==◌, Bool, ◌&&◌, if◌then◌else◌, Option, Some, option_map, List, [], ◌∷◌, map, All, slice_get}
+use Rattle.std.specs.Prelude.{◌≡◌, ◌==◌, Bool, ◌&&◌, if◌then◌else◌, Option, Some, option_map, List, [], ◌∷◌, map, All, slice_get}
 use Rattle.std.specs.List.{filter}
 use Rattle.std.specs.Option.{option_to_list}
 use Rattle.std.specs.Ordering.{is_le}
@@ -58,6 +58,10 @@ key_map entries = record {
   deleted = entries Deleted;
   counters = entries Counters;
 }
+
+-- the value at a position of a btree
+abbrev pub value_in : KeyMap → Btree → Pos → Option Value
+value_in keys btree pos = value_at pos_cmp pos (entries_of keys btree)
 
 -- The entries of each btree are a finite map.
 pub record IsKeyMap (keys : KeyMap) : Type 0 where

@@ -1,12 +1,17 @@
 pub mod Btrees
 pub mod Faults
+pub mod KeyMapLaws
 pub mod KeyMaps
+pub mod LayoutLaws
 pub mod Layouts
 pub mod Lengths
 pub mod Limits
+pub mod MapLaws
 pub mod Maps
+pub mod PositionLaws
 pub mod Positions
 pub mod Ranges
+pub mod Rising
 pub mod Sets
 pub mod Spare
 pub mod Standing

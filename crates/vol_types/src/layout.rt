@@ -3,7 +3,7 @@ ghost use Rattle.std.specs.Int.{is_in_range};
 ghost use Rattle.std.specs.List.{list_all};
 ghost use Rattle.vol_types.specs.Layouts.{is_device_size, is_layout};
 
-use crate::{Blocks, Duplicate, Places, Reads};
+use crate::{BUCKET_BLOCKS, Blocks, Duplicate, Places, Reads};
 use std::alloc::{AllocError, Global};
 
 /// How a volume lies on its devices.
@@ -30,7 +30,7 @@ impl Layout {
         if devices < 1 || devices > 8 {
             return false;
         }
-        if self.journal < 256 || self.journal > 4096 || self.journal % 16 != 0 {
+        if self.journal < 256 || self.journal > 4096 || self.journal % BUCKET_BLOCKS != 0 {
             return false;
         }
         if !are_replicas(devices, self.metadata_replicas) {
@@ -49,8 +49,8 @@ fn is_device_size(journal: u32, blocks: u32) -> bool
 {
     1024 <= blocks
         && blocks <= 1_048_576
-        && blocks % 16 == 0
-        && 2 * (u64::from(journal) + 16) <= u64::from(blocks)
+        && blocks % BUCKET_BLOCKS == 0
+        && 2 * (u64::from(journal) + u64::from(BUCKET_BLOCKS)) <= u64::from(blocks)
 }
 
 fn are_device_sizes(journal: u32, blocks: &[u32]) -> bool

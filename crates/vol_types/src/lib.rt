@@ -6,6 +6,7 @@
 
 mod failure;
 mod keys;
+mod laws;
 mod layout;
 mod limits;
 mod lists;
@@ -19,6 +20,10 @@ mod values;
 
 pub use failure::Failed;
 pub use keys::{Key, Update, key_length};
+pub use laws::{
+    constants_are_defined, key_maps_are_updated, layouts_are_tested, maps_are_functions,
+    positions_are_ordered, rising_lists_are_sorted,
+};
 pub use layout::{Layout, Lost};
 pub use limits::{BLOCK_SIZE, BUCKET_BLOCKS, NODE_LIMIT};
 pub use lists::{Duplicate, Listing};

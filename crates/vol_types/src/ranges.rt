@@ -2,7 +2,7 @@ ghost use Rattle.std.specs.Prelude.{◌≡◌, IsTrue, ◌↔◌, ◌%◌, All, 
 ghost use Rattle.std.specs.Ordering.{nat_cmp};
 ghost use Rattle.vol_types.specs.Ranges.{IsAbove, IsBucket, IsDevice, IsExtent, IsInode, IsName, IsNode, IsValue, AreLinks, AreSubs, Rise, most_bytes, most_links, name_cmp};
 
-use crate::{Extent, FileKind, Inode, Link, NodePtr, Place, Pointer, Sub, Value};
+use crate::{BUCKET_BLOCKS, Extent, FileKind, Inode, Link, NodePtr, Place, Pointer, Sub, Value};
 
 impl Value {
     /// Whether its fields are in range. It looks at each of its names, pointers and places.
@@ -17,7 +17,7 @@ impl Value {
             Value::White => true,
             Value::Subs(subs) => are_subs(subs.as_slice()),
             Value::Snap(_) => true,
-            Value::Live(live) => live.blocks <= 16,
+            Value::Live(live) => u32::from(live.blocks) <= BUCKET_BLOCKS,
             Value::Back { .. } => true,
             Value::Gone => true,
             Value::Counter { .. } => true,
@@ -206,5 +206,5 @@ fn are_buckets(places: &[Place]) -> bool
 fn is_bucket(place: &Place) -> bool
     ensures { IsTrue result ↔ IsBucket place.now }
 {
-    place.dev < 8 && place.block % 16 == 0
+    place.dev < 8 && place.block % BUCKET_BLOCKS == 0
 }
