@@ -1,15 +1,15 @@
 -- The order of positions is total, tells any two positions apart, and is that of their numbers.
-use Rattle.std.proofs.Common.{◌≡◌, ℕ, ◌+◌, ◌-◌, ◌*◌, ◌^◌, ◌<◌, Bool, true, false, cond, Some, None, refl, ap, ◌∙◌, arith}
-use Rattle.std.specs.Prelude.{MatchOption, nat_lt}
+use Rattle.std.proofs.Common.{◌≡◌, ℕ, ◌+◌, ◌-◌, ◌*◌, ◌^◌, ◌<◌, Bool, true, false, cond, Some, None, refl, sym, ap, ◌∙◌, arith}
+use Rattle.std.specs.Prelude.{◌≢◌, ◌↔◌, ◌&&◌, MatchOption, nat_lt}
 use Rattle.std.specs.Cmp.{IsTotalOrder, nat_cmp_is}
-use Rattle.std.specs.Ordering.{nat_cmp, ordering_then}
+use Rattle.std.specs.Ordering.{nat_cmp, ordering_then, is_le, is_lt, is_eq}
 use Rattle.std.specs.declared.cmp.Ordering.{Ordering}
 use Rattle.std.specs.declared.cmp.Ordering.TheVariants.{Less, Equal, Greater}
-use Rattle.std.proofs.lemmas.Bool.{ltb-true, ltb-false}
+use Rattle.std.proofs.lemmas.Bool.{ltb-true, ltb-false, true≢false}
 use Rattle.std.proofs.lemmas.Cmp.{on_total, then_total, nat_cmp_total, ranked}
 use Rattle.std.proofs.lemmas.Map.Lookups.{CmpEqualImpliesEq, exact_pairs, exact_unsigned}
 use Rattle.vol_types.specs.declared.positions.Pos.{Pos}
-use Rattle.vol_types.specs.Positions.{pos_cmp, greatest_pos, next_pos, pos_number, IsNext}
+use Rattle.vol_types.specs.Positions.{pos_cmp, greatest_pos, next_pos, pos_number, is_within, IsWithin, IsNext}
 use Rattle.vol_types.specs.Widths.{PosFits}
 
 -- Positions that compare alike are one.
@@ -84,3 +84,24 @@ module _ (p : Pos) (fits : PosFits p) where
   -- The position that follows has the next number, and where there is none it is the greatest.
   pub next_pos-number : MatchOption (next_pos p) (p ≡ greatest_pos) (IsNext p)
   next_pos-number = next_snapshot (nat_lt p.snapshot (2 ^ 32 - 1)) refl
+
+not_greater : (r : Ordering) → is_le r ≡ true → r ≢ Greater
+not_greater Less is = λ same. true≢false (ap is_lt same)
+not_greater Equal is = λ same. true≢false (ap is_eq same)
+not_greater Greater is = absurd (true≢false (sym is))
+
+at_most : (r : Ordering) → r ≢ Greater → is_le r ≡ true
+at_most Less isnt = refl
+at_most Equal isnt = refl
+at_most Greater isnt = absurd (isnt refl)
+
+both : (a b : Bool) → (a && b) ≡ true → (a ≡ true) × (b ≡ true)
+both true b are = (refl, are)
+both false b are = absurd (true≢false (sym are))
+
+-- The test of a range passes exactly the positions in it.
+pub is_within-iff : (first last p : Pos) → (is_within first last p ≡ true) ↔ IsWithin first last p
+is_within-iff first last p = (
+  λ is. let parts = both (is_le (pos_cmp first p)) (is_le (pos_cmp p last)) is in (not_greater (pos_cmp first p) parts.0, not_greater (pos_cmp p last) parts.1),
+  λ within. rw (at_most (pos_cmp first p) within.0) (at_most (pos_cmp p last) within.1),
+)

@@ -10,7 +10,7 @@ ghost use Rattle.vol_types.specs.Layouts.{IsLayout, is_layout};
 ghost use Rattle.vol_types.specs.Limits.{block_size, bucket_blocks, node_limit};
 ghost use Rattle.vol_types.specs.MapLaws.{AreApart};
 ghost use Rattle.vol_types.specs.Maps.{IsMap, put_at, value_at, with_value, without};
-ghost use Rattle.vol_types.specs.Positions.{IsNext, greatest_pos, least_pos, next_pos, pos_cmp, pos_number};
+ghost use Rattle.vol_types.specs.Positions.{IsNext, IsWithin, greatest_pos, is_within, least_pos, next_pos, pos_cmp, pos_number};
 ghost use Rattle.vol_types.specs.Ranges.{Rise};
 ghost use Rattle.vol_types.specs.Widths.{PosFits};
 ghost use Rattle.vol_types.specs.declared.keys.Update.{Update as AnUpdate};
@@ -35,6 +35,7 @@ pub fn positions_are_ordered()
     ensures total { IsTotalOrder pos_cmp }
     ensures exact { (p q : APos) → pos_cmp p q ≡ Equal → p ≡ q }
     ensures numbers { (p q : APos) → PosFits p → PosFits q → pos_cmp p q ≡ nat_cmp (pos_number p) (pos_number q) }
+    ensures within { (first last p : APos) → (is_within first last p ≡ true) ↔ IsWithin first last p }
     ensures next { (p : APos) → PosFits p → MatchOption (next_pos p) (p ≡ greatest_pos) (IsNext p) }
 {}
 

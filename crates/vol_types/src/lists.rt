@@ -1,8 +1,9 @@
-ghost use Rattle.std.specs.Prelude.{◌≡◌, ◌<◌, ◌-◌, ◌++◌, ◌∷◌, [], ◌==◌, length, take, IfOk, IfNone, OnOk, OnErr, slice_get, option_copied};
+ghost use Rattle.std.specs.Prelude.{◌≡◌, ◌<◌, ◌≤◌, ◌-◌, ◌++◌, ◌∷◌, [], ◌==◌, length, take, IfOk, IfErr, IfNone, OnOk, OnErr, slice_get, option_copied};
 ghost use Rattle.std.specs.Option.{option_to_list};
 ghost use Rattle.std.specs.Slice.Iter.{iter_rest};
 ghost use Rattle.std.specs.Iterator.Adapters.{IterYieldsInOrder, IterYieldsInReverse};
 
+use crate::SpareList;
 use std::alloc::{AllocError, AllocFailed, Global};
 use std::cmp::Ordering;
 use std::marker::Model;
@@ -81,6 +82,23 @@ impl<T> Listing<T> {
         ensures err { OnErr result (self.new ≡ self.old) }
     {
         self.members.push(member)
+    }
+
+    /// Makes room for so many more members, of which each push then succeeds. An `Err` hands the list back.
+    pub fn reserve(self, additional: usize) -> Result<SpareList<T>, AllocFailed<Listing<T>>>
+    where
+        T: Drop,
+        ensures members { IfOk result (λ list. list.members ≡ self) }
+        ensures room { IfOk result (λ list. additional ≤ list.spare) }
+        ensures err { IfErr result (λ failed. failed.value ≡ self) }
+    {
+        let mut list = SpareList::from(self);
+        match list.reserve(additional) {
+            Ok(()) => Ok(list),
+            Err(_) => Err(AllocFailed {
+                value: Listing::from(list),
+            }),
+        }
     }
 
     /// Takes the last member out.

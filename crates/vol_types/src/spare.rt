@@ -1,4 +1,4 @@
-ghost use Rattle.std.specs.Prelude.{◌≡◌, ◌+◌, ◌<◌, ◌≤◌, ◌++◌, ◌∷◌, [], OnOk, OnErr, IsOk};
+ghost use Rattle.std.specs.Prelude.{◌≡◌, ◌+◌, ◌<◌, ◌≤◌, ◌++◌, ◌∷◌, [], ◌==◌, length, OnOk, OnErr, IsOk};
 
 use crate::Listing;
 use std::alloc::{AllocError, Global};
@@ -29,6 +29,18 @@ impl<T> SpareList<T> {
         SpareList {
             members: Vec::new(alloc),
         }
+    }
+
+    pub fn len(&self) -> usize
+        ensures { result ≡ length self.now.members }
+    {
+        self.members.len()
+    }
+
+    pub fn is_empty(&self) -> bool
+        ensures { result ≡ (length self.now.members == 0) }
+    {
+        self.members.is_empty()
     }
 
     pub fn as_slice(&self) -> &[T]
