@@ -10,9 +10,9 @@ pub struct Layout {
     /// How many blocks the journal takes on each metadata device.
     pub journal: u32,
     /// How many devices, the first ones, keep the metadata.
-    pub meta: u8,
+    pub metadata_replicas: u8,
     /// How many copies of each block of a file there are.
-    pub replicas: u8,
+    pub data_replicas: u8,
 }
 
 impl Duplicate for Layout {
@@ -21,8 +21,8 @@ impl Duplicate for Layout {
             id: self.id,
             blocks: self.blocks.copy(alloc)?,
             journal: self.journal,
-            meta: self.meta,
-            replicas: self.replicas,
+            metadata_replicas: self.metadata_replicas,
+            data_replicas: self.data_replicas,
         })
     }
 }
