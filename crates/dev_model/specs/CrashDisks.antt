@@ -1,5 +1,5 @@
 -- Laws on what a crash may leave of disks that a write, a flush or an extension changed.
-use Rattle.std.proofs.Common.{◌≡◌, ◌≢◌, ℕ, zero, suc, ◌<◌, ◌≤◌, List, [], ◌∷◌, ◌++◌, length, get_or, set, slice_get, refl, ap, ◌∙◌, sym, subst, arith, ⊎_elim, All, Contains}
+use Rattle.std.proofs.Common.{◌≡◌, ◌≢◌, ℕ, zero, suc, ◌<◌, ◌≤◌, List, [], ◌∷◌, length, get_or, set, slice_get, refl, ap, ◌∙◌, sym, subst, arith, ⊎_elim, All, Contains}
 use Rattle.std.proofs.lemmas.List.{length-set, set_past}
 use Rattle.std.proofs.lemmas.List.Elements.{All-set, All-head, All-tail, All-get_or, Contains-push_cases}
 use Rattle.std.proofs.lemmas.Bool.{cases_lt, cases_eq}

@@ -1,7 +1,7 @@
 -- Which blocks disks have held, and what is believed of digests: no block of a crash image opens by chance, and no two
 -- records have one digest.
 use Rattle.std.specs.Prelude.{◌≡◌, ◌⊎◌, ℕ, ◌≤◌, List, All, Contains, Some, slice_get}
-use Rattle.dev_model.specs.Disk.{Asked, Disk, Image, IsCrashImage, block_at}
+use Rattle.dev_model.specs.Disk.{Disk, Image, IsCrashImage, block_at}
 use Rattle.dev_model.specs.Devices.{DevicesState, now}
 
 -- The disk has held these bytes in this block: they were last settled there, or it was asked to write them there since.

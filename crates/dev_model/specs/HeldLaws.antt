@@ -1,8 +1,8 @@
 -- Laws on what disks have held: a write adds what it asked for, a flush only what was read, an extension zeros.
-use Rattle.std.proofs.Common.{◌≡◌, ◌≢◌, ℕ, zero, suc, ◌-◌, ◌<◌, ◌≤◌, List, [], ◌∷◌, ◌++◌, length, replicate, set, slice_get, Option, None, Some, refl, ap, ◌∙◌, sym, subst, arith, Result, Ok, Err, MatchResult, ◌⊎◌, inl, inr, ⊎_elim, All, Contains}
+use Rattle.std.proofs.Common.{◌≡◌, ℕ, zero, suc, ◌<◌, ◌≤◌, List, [], ◌∷◌, length, slice_get, Some, refl, ap, ◌∙◌, sym, subst, arith, Result, Ok, Err, MatchResult, ◌⊎◌, inl, inr, ⊎_elim, All, Contains}
 use Rattle.std.proofs.lemmas.List.Elements.{Contains-push_cases}
 use Rattle.std.proofs.lemmas.Bool.{cases_lt}
-use Rattle.dev_model.specs.Disk.{Asked, Disk, Image, IsBlock, IsDisk, IsPending, IsCrashOf, IsCrashImage, as_read, block_at, changed, after_write, written, flushed}
+use Rattle.dev_model.specs.Disk.{Asked, Disk, IsBlock, IsDisk, IsPending, IsCrashOf, IsCrashImage, as_read, block_at, changed, after_write, written, flushed}
 use Rattle.dev_model.specs.Devices.{ChangesDisks, DevicesState, Is, MayBeWritten, now}
 use Rattle.dev_model.specs.HeldBlocks.{HasHeld, HaveHeld, HasNoChanceMatch, HoldOnly, OnlyHeldOpen}
 use Rattle.dev_model.specs.CrashLaws.{as_read_may_be_left}
