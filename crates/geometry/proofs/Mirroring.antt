@@ -1,5 +1,5 @@
 -- What flushes and mirrored writes leave, and what they ask for.
-use Rattle.std.proofs.Common.{◌≡◌, ℕ, zero, suc, ◌+◌, ◌<◌, ◌≤◌, List, [], ◌∷◌, length, get_or, Some, refl, ap, ◌∙◌, sym, subst, arith, ⊎_elim, ◌⊎◌, inl, inr, All, MatchResult, Result, Ok, Err}
+use Rattle.std.proofs.Common.{◌≡◌, ℕ, zero, suc, ◌+◌, ◌<◌, ◌≤◌, Bool, List, [], ◌∷◌, length, get_or, Some, refl, ap, ◌∙◌, sym, subst, arith, ⊎_elim, ◌⊎◌, inl, inr, All, MatchResult, Result, Ok, Err}
 use Rattle.std.proofs.lemmas.Bool.{cases_lt}
 use Rattle.std.proofs.lemmas.List.{length-map}
 use Rattle.dev_model.specs.Disk.{Disk, Image, IsBlock, IsDisk, IsCrashImage, as_read, block_at, changed, after_write, flushed, written, sizes_of}
@@ -99,15 +99,15 @@ pub settled_mirrors : (mid new : List Disk) (mirrors block : ℕ) (bytes : List 
 settled_mirrors mid new mirrors block bytes read same settled image may dev within = settled dev within image may block ∙ same dev block ∙ read dev within
 
 -- Flushes after writes ask for nothing more than the writes.
-pub hold_then_flushes : (Opens : List ℕ → Type 0) (asked : ℕ → ℕ → List ℕ → Type 0) (old mid new : DevicesState) → old.moment ≤ mid.moment
-    → ((m : ℕ) → m ≤ mid.moment → new.disks m ≡ mid.disks m) → HoldOnly Opens asked old mid → HoldOnly Opens NoBlock mid new → HoldOnly Opens asked old new
-hold_then_flushes Opens asked old mid new begun past writes flushes m lo hi no_chance d b x opens held = ⊎_elim
+pub hold_then_flushes : (opens : List ℕ → Bool) (asked : ℕ → ℕ → List ℕ → Type 0) (old mid new : DevicesState) → old.moment ≤ mid.moment
+    → ((m : ℕ) → m ≤ mid.moment → new.disks m ≡ mid.disks m) → HoldOnly opens asked old mid → HoldOnly opens NoBlock mid new → HoldOnly opens asked old new
+hold_then_flushes opens asked old mid new begun past writes flushes m lo hi no_chance d b x is_open held = ⊎_elim
     (λ (later : mid.moment < m). ⊎_elim
         (λ (before : HaveHeld (now mid) d b x).
-        writes mid.moment begun (omega arith) (no_chance_before Opens old.moment m mid new past mid.moment (omega (arith, later)) (omega arith) no_chance) d b x opens before)
+        writes mid.moment begun (omega arith) (no_chance_before opens old.moment m mid new past mid.moment (omega (arith, later)) (omega arith) no_chance) d b x is_open before)
         (λ (none : ⊥). absurd none)
-        (flushes m (omega (arith, later)) hi (λ n from to image may. no_chance n (omega (arith, begun, from)) to image may) d b x opens held))
+        (flushes m (omega (arith, later)) hi (λ n from to image may. no_chance n (omega (arith, begun, from)) to image may) d b x is_open held))
     (λ (earlier : m ≤ mid.moment).
-    writes m lo earlier (no_chance_before Opens old.moment m mid new past m (omega arith) earlier no_chance) d b x opens
+    writes m lo earlier (no_chance_before opens old.moment m mid new past m (omega arith) earlier no_chance) d b x is_open
     (subst (λ (ds : List Disk). HaveHeld ds d b x) (past m earlier) held))
     (cases_lt mid.moment m)

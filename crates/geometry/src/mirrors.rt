@@ -1,4 +1,4 @@
-ghost use Rattle.std.specs.Prelude.{◌≡◌, ◌<◌, ◌≤◌, ℕ, List, length, IfErr, OnOk};
+ghost use Rattle.std.specs.Prelude.{◌≡◌, ◌<◌, ◌≤◌, ℕ, Bool, List, length, IfErr, OnOk};
 ghost use Rattle.dev_model.specs.Disk.{IsCrashImage, as_read, block_at};
 ghost use Rattle.dev_model.specs.Devices.{IsFlush, IsPlace, IsWrite, now};
 ghost use Rattle.dev_model.specs.Frames.{GoOn, after_writes};
@@ -49,7 +49,7 @@ pub fn flush_devices<D: Devices>(devices: &mut D, count: u8) -> Result<(), DiskF
     ensures crashes { D.tells → EachCrash (λ _ _ image. IsCrashImage (now (D.state devices.old)) image) (D.state devices.old) (D.state devices.new) }
     ensures reads { D.tells → (dev block : ℕ) → block_at (as_read (now (D.state devices.new))) dev block ≡ block_at (as_read (now (D.state devices.old))) dev block }
     ensures settled { D.tells → OnOk result ((dev : ℕ) → dev < count → IsSettled (now (D.state devices.new)) dev) }
-    ensures asks { D.tells → (Opens : List ℕ → Type 0) → HoldOnly Opens NoBlock (D.state devices.old) (D.state devices.new) }
+    ensures asks { D.tells → (opens : List ℕ → Bool) → HoldOnly opens NoBlock (D.state devices.old) (D.state devices.new) }
     ensures goes_on { GoOn (D.state devices.old) (D.state devices.new) }
     ensures cause { (D.state devices.new).faults ≡ after_writes (failed_device result) (D.state devices.old).faults }
     ensures device { NamesOneOf count result }
@@ -74,7 +74,7 @@ pub fn write_mirrors<D: Devices>(
     ensures crashes { D.tells → EachCrash (λ _ _ image. IsCrashImageBut (IsMirror mirrors block) (now (D.state devices.old)) image) (D.state devices.old) (D.state devices.new) }
     ensures written { D.tells → OnOk result (HoldMirrors mirrors block bytes.now (as_read (now (D.state devices.new)))) }
     ensures elsewhere { D.tells → SameBut (IsMirror mirrors block) (as_read (now (D.state devices.old))) (as_read (now (D.state devices.new))) }
-    ensures asks { D.tells → (Opens : List ℕ → Type 0) → HoldOnly Opens (IsMirrorBlock mirrors block bytes.now) (D.state devices.old) (D.state devices.new) }
+    ensures asks { D.tells → (opens : List ℕ → Bool) → HoldOnly opens (IsMirrorBlock mirrors block bytes.now) (D.state devices.old) (D.state devices.new) }
     ensures goes_on { GoOn (D.state devices.old) (D.state devices.new) }
     ensures cause { (D.state devices.new).faults ≡ after_writes (failed_device result) (D.state devices.old).faults }
     ensures device { NamesOneOf mirrors result }
@@ -98,7 +98,7 @@ pub fn settle_mirrors<D: Devices>(
     ensures crashes { D.tells → EachCrash (λ _ _ image. IsCrashImageBut (IsMirror mirrors block) (now (D.state devices.old)) image) (D.state devices.old) (D.state devices.new) }
     ensures held { D.tells → OnOk result (EachCrashNow (HoldMirrors mirrors block bytes.now) (D.state devices.new)) }
     ensures elsewhere { D.tells → SameBut (IsMirror mirrors block) (as_read (now (D.state devices.old))) (as_read (now (D.state devices.new))) }
-    ensures asks { D.tells → (Opens : List ℕ → Type 0) → HoldOnly Opens (IsMirrorBlock mirrors block bytes.now) (D.state devices.old) (D.state devices.new) }
+    ensures asks { D.tells → (opens : List ℕ → Bool) → HoldOnly opens (IsMirrorBlock mirrors block bytes.now) (D.state devices.old) (D.state devices.new) }
     ensures goes_on { GoOn (D.state devices.old) (D.state devices.new) }
     ensures cause { (D.state devices.new).faults ≡ after_writes (failed_device result) (D.state devices.old).faults }
     ensures device { NamesOneOf mirrors result }

@@ -1,4 +1,4 @@
-ghost use Rattle.std.specs.Prelude.{◌≡◌, ◌≢◌, ◌<◌, ℕ, List, true, Some, length, IfOk, IfSome, OnOk, MatchOption};
+ghost use Rattle.std.specs.Prelude.{◌≡◌, ◌≢◌, ◌<◌, ℕ, Bool, List, true, Some, length, IfOk, IfSome, OnOk, MatchOption};
 ghost use Rattle.std.specs.Int.{w64, from_le_bytes};
 ghost use Rattle.dev_model.specs.Devices.{IsPlace, now};
 ghost use Rattle.dev_model.specs.Disk.{as_read};
@@ -191,7 +191,7 @@ pub fn write_session<D: Devices>(
     requires { is_layout_of (D.state devices.old).sizes layout.now ≡ true }
     ensures crashes { D.tells → EachCrash (λ _ _ image. IsCrashImageBut (IsSessionPlace layout.now session) (now (D.state devices.old)) image) (D.state devices.old) (D.state devices.new) }
     ensures held { D.tells → OnOk result (EachCrashNow (λ image. (dev : ℕ) → dev < layout.now.metadata_replicas → session_at layout.now.id image dev (session_place session) ≡ Some session) (D.state devices.new)) }
-    ensures asks { D.tells → (Opens : List ℕ → Type 0) → HoldOnly Opens (IsSessionBlock layout.now session) (D.state devices.old) (D.state devices.new) }
+    ensures asks { D.tells → (opens : List ℕ → Bool) → HoldOnly opens (IsSessionBlock layout.now session) (D.state devices.old) (D.state devices.new) }
     ensures cause { (D.state devices.new).faults ≡ after_writes (failed_device result) (D.state devices.old).faults }
     ensures device { IfSome (failed_device result) (λ dev. dev < length (D.state devices.old).sizes) }
     ensures goes_on { GoOn (D.state devices.old) (D.state devices.new) }

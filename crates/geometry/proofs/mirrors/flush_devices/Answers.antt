@@ -14,7 +14,7 @@ loop-dev-init g c =
       crashes = λ tells. flushes_none state;
       reads = λ tells dev block. refl;
       settled = λ tells dev le. absurd (omega (arith, le));
-      asks = λ tells Opens. hold_here Opens NoBlock state;
+      asks = λ tells opens. hold_here opens NoBlock state;
       goes_on = go_on_here state;
       faults = refl;
     }
@@ -33,7 +33,7 @@ loop-dev-preserved g c =
       settled = λ tells.
           let within : c.loop-dev.dev < length (now mid) = omega (arith, c.requires, c.loop-dev-test.true, ap length so_far.goes_on.sizes, ap length (g.met.D.Devices.agree tells c.loop-dev.devices), disk_count (now mid)) in
           settles_more (now mid) (now new) c.loop-dev.dev (g.met.D.Devices.sound tells c.loop-dev.devices) within (c.in_ok-flush_device.ensures.call.disks tells).after (so_far.settled tells);
-      asks = λ tells Opens. hold_by_flush Opens NoBlock old mid so_far.goes_on.later (so_far.asks tells Opens) c.flush_device.result c.loop-dev.dev new (g.met.D.Devices.sound tells c.loop-dev.devices) (call.disks tells);
+      asks = λ tells opens. hold_by_flush opens NoBlock old mid so_far.goes_on.later (so_far.asks tells opens) c.flush_device.result c.loop-dev.dev new (g.met.D.Devices.sound tells c.loop-dev.devices) (call.disks tells);
       goes_on = go_on_then old mid new so_far.goes_on (go_on_by_write D.tells c.loop-dev.dev c.flush_device.result (Is (now mid)) (Is (changed c.loop-dev.dev flushed (now mid))) mid new call c.flush_device.ensures.sizes);
       faults = c.in_ok-flush_device.ensures.call.faults ∙ so_far.faults;
     }

@@ -1,4 +1,4 @@
-use Rattle.std.proofs.Common.{◌≡◌, ◌<◌, ℕ, List}
+use Rattle.std.proofs.Common.{◌≡◌, ◌<◌, ℕ, Bool, List}
 use Rattle.dev_model.specs.Disk.{IsCrashImage, as_read, block_at}
 use Rattle.dev_model.specs.Devices.{now}
 use Rattle.dev_model.specs.PlaceLaws.{IsSettled}
@@ -16,7 +16,7 @@ invariant-loop-dev g l =
       crashes : D.tells → EachCrash (λ _ _ image. IsCrashImage (now (D.state first)) image) (D.state first) (D.state l.devices);
       reads : D.tells → (dev block : ℕ) → block_at (as_read (now (D.state l.devices))) dev block ≡ block_at (as_read (now (D.state first))) dev block;
       settled : D.tells → (dev : ℕ) → dev < l.dev → IsSettled (now (D.state l.devices)) dev;
-      asks : D.tells → (Opens : List ℕ → Type 0) → HoldOnly Opens NoBlock (D.state first) (D.state l.devices);
+      asks : D.tells → (opens : List ℕ → Bool) → HoldOnly opens NoBlock (D.state first) (D.state l.devices);
       goes_on : GoOn (D.state first) (D.state l.devices);
       faults : (D.state l.devices).faults ≡ (D.state first).faults;
     }

@@ -13,10 +13,10 @@ returns-clause-crashes g c tells =
     flushed_after (IsMirror c.args.mirrors c.args.block) (now old) old mid (D.state c.flush_devices.new.devices) (c.write_mirrors.ensures.crashes tells) (c.flush_devices.ensures.crashes tells)
 
 pub returns-clause-asks : goal.returns-clause-asks
-returns-clause-asks g c tells Opens =
+returns-clause-asks g c tells opens =
     let D = g.D.Devices in
-    hold_then_flushes Opens (IsMirrorBlock c.args.mirrors c.args.block c.args.bytes.now) (D.state c.args.devices.now) (D.state c.write_mirrors.new.devices) (D.state c.flush_devices.new.devices)
-    (c.write_mirrors.ensures.goes_on).later (c.flush_devices.ensures.crashes tells).past (c.write_mirrors.ensures.asks tells Opens) (c.flush_devices.ensures.asks tells Opens)
+    hold_then_flushes opens (IsMirrorBlock c.args.mirrors c.args.block c.args.bytes.now) (D.state c.args.devices.now) (D.state c.write_mirrors.new.devices) (D.state c.flush_devices.new.devices)
+    (c.write_mirrors.ensures.goes_on).later (c.flush_devices.ensures.crashes tells).past (c.write_mirrors.ensures.asks tells opens) (c.flush_devices.ensures.asks tells opens)
 
 pub returns-clause-goes_on : goal.returns-clause-goes_on
 returns-clause-goes_on g c =

@@ -17,7 +17,7 @@ loop-dev-init g c =
       crashes = λ tells. started (λ _ _ image. IsCrashImageBut touched (now state) image) state (left_itself touched (now state));
       written = λ tells dev le. absurd (omega (arith, le));
       elsewhere = λ tells dev b away. refl;
-      asks = λ tells Opens. hold_here Opens (IsMirrorBlock c.args.mirrors c.args.block c.args.bytes.now) state;
+      asks = λ tells opens. hold_here opens (IsMirrorBlock c.args.mirrors c.args.block c.args.bytes.now) state;
       goes_on = go_on_here state;
       faults = refl;
     }
@@ -42,7 +42,7 @@ loop-dev-preserved g c =
           let within : block < get_or (sizes_of (now mid)) dev 0 = subst (λ (sizes : List ℕ). block < get_or sizes dev 0) (g.met.D.Devices.agree tells c.loop-dev.devices) place in
           written_more (now mid) (now new) dev block bytes within (c.in_ok-write_device.ensures.call.disks tells).after (so_far.written tells);
       elsewhere = λ tells. elsewhere_more result (IsMirror c.args.mirrors block) dev block bytes old mid new (c.loop-dev-test.true, refl) (so_far.elsewhere tells) (call.disks tells);
-      asks = λ tells Opens. hold_by_write Opens (IsMirrorBlock c.args.mirrors block bytes) old mid so_far.goes_on.later (so_far.asks tells Opens) result dev block bytes new ((c.loop-dev-test.true, refl), refl) (call.disks tells);
+      asks = λ tells opens. hold_by_write opens (IsMirrorBlock c.args.mirrors block bytes) old mid so_far.goes_on.later (so_far.asks tells opens) result dev block bytes new ((c.loop-dev-test.true, refl), refl) (call.disks tells);
       goes_on = go_on_then old mid new so_far.goes_on (go_on_by_write D.tells dev result (MayBeWritten dev block bytes (now mid)) (Is (changed dev (written block bytes) (now mid))) mid new call c.write_device.ensures.sizes);
       faults = c.in_ok-write_device.ensures.call.faults ∙ so_far.faults;
     }
@@ -62,7 +62,7 @@ returns-in_err-write_device-clause-elsewhere g c tells =
     (c.loop-dev-test.true, refl) (c.loop-dev.invariant.elsewhere tells) (c.write_device.ensures.call.disks tells)
 
 pub returns-in_err-write_device-clause-asks : goal.returns-in_err-write_device-clause-asks
-returns-in_err-write_device-clause-asks g c tells Opens =
+returns-in_err-write_device-clause-asks g c tells opens =
     let D = g.D.Devices in
-    hold_by_write Opens (IsMirrorBlock c.args.mirrors c.args.block c.args.bytes.now) (D.state c.args.devices.now) (D.state c.loop-dev.devices) c.loop-dev.invariant.goes_on.later (c.loop-dev.invariant.asks tells Opens)
+    hold_by_write opens (IsMirrorBlock c.args.mirrors c.args.block c.args.bytes.now) (D.state c.args.devices.now) (D.state c.loop-dev.devices) c.loop-dev.invariant.goes_on.later (c.loop-dev.invariant.asks tells opens)
     c.write_device.result c.loop-dev.dev c.args.block c.args.bytes.now (D.state c.write_device.new.devices) ((c.loop-dev-test.true, refl), refl) (c.write_device.ensures.call.disks tells)

@@ -1,4 +1,4 @@
-use Rattle.std.proofs.Common.{◌≡◌, ◌<◌, ℕ, List, Some}
+use Rattle.std.proofs.Common.{◌≡◌, ◌<◌, ℕ, Bool, List, Some}
 use Rattle.dev_model.specs.Disk.{as_read, block_at}
 use Rattle.dev_model.specs.Devices.{now}
 use Rattle.dev_model.specs.Crashes.{EachCrash, IsCrashImageBut, SameBut}
@@ -15,7 +15,7 @@ invariant-loop-dev g l =
       crashes : D.tells → EachCrash (λ _ _ image. IsCrashImageBut (IsMirror l.fn.mirrors l.fn.block) (now (D.state first)) image) (D.state first) (D.state l.devices);
       written : D.tells → (dev : ℕ) → dev < l.dev → block_at (as_read (now (D.state l.devices))) dev l.fn.block ≡ Some l.fn.bytes;
       elsewhere : D.tells → SameBut (IsMirror l.fn.mirrors l.fn.block) (as_read (now (D.state first))) (as_read (now (D.state l.devices)));
-      asks : D.tells → (Opens : List ℕ → Type 0) → HoldOnly Opens (IsMirrorBlock l.fn.mirrors l.fn.block l.fn.bytes) (D.state first) (D.state l.devices);
+      asks : D.tells → (opens : List ℕ → Bool) → HoldOnly opens (IsMirrorBlock l.fn.mirrors l.fn.block l.fn.bytes) (D.state first) (D.state l.devices);
       goes_on : GoOn (D.state first) (D.state l.devices);
       faults : (D.state l.devices).faults ≡ (D.state first).faults;
     }
