@@ -1,16 +1,16 @@
 -- What flushes and mirrored writes leave, and what they ask for.
-use Rattle.std.proofs.Common.{◌≡◌, ℕ, zero, suc, ◌+◌, ◌<◌, ◌≤◌, Bool, List, [], ◌∷◌, length, get_or, Some, refl, ap, ◌∙◌, sym, subst, arith, ⊎_elim, ◌⊎◌, inl, inr, All, MatchResult, Result, Ok, Err}
+use Rattle.std.proofs.Common.{◌≡◌, ℕ, zero, suc, ◌+◌, ◌<◌, ◌≤◌, Bool, List, [], ◌∷◌, length, get_or, Some, refl, ap, ◌∙◌, sym, subst, arith, ⊎_elim, All, MatchResult, Result, Ok, Err}
 use Rattle.std.proofs.lemmas.Bool.{cases_lt}
 use Rattle.std.proofs.lemmas.List.{length-map}
 use Rattle.dev_model.specs.Disk.{Disk, Image, IsBlock, IsDisk, IsCrashImage, as_read, block_at, changed, after_write, flushed, written, sizes_of}
 use Rattle.dev_model.specs.Devices.{DevicesState, ChangesDisks, Is, MayBeWritten, now}
 use Rattle.dev_model.specs.Crashes.{EachCrash, IsAt, IsCrashImageBut, SameBut}
-use Rattle.dev_model.specs.CrashLaws.{started, goes_on, same_but_more}
+use Rattle.dev_model.specs.CrashLaws.{started, goes_on}
 use Rattle.dev_model.specs.CrashDisks.{left_by_flush, slice_get-set_other}
-use Rattle.dev_model.specs.HeldBlocks.{HasNoChanceMatch, HaveHeld, HoldOnly}
+use Rattle.dev_model.specs.HeldBlocks.{HaveHeld, HoldOnly}
 use Rattle.dev_model.specs.HeldLaws.{no_chance_before}
 use Rattle.dev_model.specs.PlaceLaws.{IsSettled, reads_flushed, reads_written, reads_written_elsewhere, settled_by_flush, settled_over_flush}
-use Rattle.geometry.specs.Mirrors.{IsMirror, HoldMirrors, NoBlock}
+use Rattle.geometry.specs.Mirrors.{HoldMirrors, NoBlock}
 
 -- There are as many sizes as disks.
 pub disk_count : (disks : List Disk) → length (sizes_of disks) ≡ length disks
@@ -70,8 +70,10 @@ elsewhere_more result touched dev block bytes old mid new hit so_far changes d b
   where
     away : ¬ IsAt dev block d b
     away at = elsewhere (subst (λ n. touched n b) (sym at.0) (subst (λ n. touched dev n) (sym at.1) hit))
+
     left : (bytes_left : List ℕ) → now new ≡ changed dev (after_write block bytes bytes_left) (now mid) → block_at (as_read (now mid)) d b ≡ block_at (as_read (now new)) d b
     left bytes_left is = subst (λ (ds : List Disk). block_at (as_read (now mid)) d b ≡ block_at (as_read ds) d b) (sym is) (reads_elsewhere (now mid) dev block bytes bytes_left d b away)
+
     after : {T E : Type 0} (result : Result T E) → MatchResult result (λ _. now new ≡ changed dev (written block bytes) (now mid)) (λ _. MayBeWritten dev block bytes (now mid) (now new))
         → block_at (as_read (now mid)) d b ≡ block_at (as_read (now new)) d b
     after (Ok x) is = left bytes is
@@ -103,10 +105,10 @@ pub hold_then_flushes : (opens : List ℕ → Bool) (asked : ℕ → ℕ → Lis
     → ((m : ℕ) → m ≤ mid.moment → new.disks m ≡ mid.disks m) → HoldOnly opens asked old mid → HoldOnly opens NoBlock mid new → HoldOnly opens asked old new
 hold_then_flushes opens asked old mid new begun past writes flushes m lo hi no_chance d b x is_open held = ⊎_elim
     (λ (later : mid.moment < m). ⊎_elim
-        (λ (before : HaveHeld (now mid) d b x).
-        writes mid.moment begun (omega arith) (no_chance_before opens old.moment m mid new past mid.moment (omega (arith, later)) (omega arith) no_chance) d b x is_open before)
-        (λ (none : ⊥). absurd none)
-        (flushes m (omega (arith, later)) hi (λ n from to image may. no_chance n (omega (arith, begun, from)) to image may) d b x is_open held))
+    (λ (before : HaveHeld (now mid) d b x).
+    writes mid.moment begun (omega arith) (no_chance_before opens old.moment m mid new past mid.moment (omega (arith, later)) (omega arith) no_chance) d b x is_open before)
+    (λ (none : ⊥). absurd none)
+    (flushes m (omega (arith, later)) hi (λ n from to image may. no_chance n (omega (arith, begun, from)) to image may) d b x is_open held))
     (λ (earlier : m ≤ mid.moment).
     writes m lo earlier (no_chance_before opens old.moment m mid new past m (omega arith) earlier no_chance) d b x is_open
     (subst (λ (ds : List Disk). HaveHeld ds d b x) (past m earlier) held))

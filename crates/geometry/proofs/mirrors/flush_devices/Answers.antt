@@ -37,3 +37,17 @@ loop-dev-preserved g c =
       goes_on = go_on_then old mid new so_far.goes_on (go_on_by_write D.tells c.loop-dev.dev c.flush_device.result (Is (now mid)) (Is (changed c.loop-dev.dev flushed (now mid))) mid new call c.flush_device.ensures.sizes);
       faults = c.in_ok-flush_device.ensures.call.faults ∙ so_far.faults;
     }
+
+pub returns-in_err-flush_device-clause-asks : goal.returns-in_err-flush_device-clause-asks
+returns-in_err-flush_device-clause-asks g c tells opens =
+    let D = g.D.Devices in
+    hold_by_flush opens NoBlock (D.state c.args.devices.now) (D.state c.loop-dev.devices) c.loop-dev.invariant.goes_on.later (c.loop-dev.invariant.asks tells opens)
+    c.flush_device.result c.loop-dev.dev (D.state c.flush_device.new.devices) (g.met.D.Devices.sound tells c.loop-dev.devices) (c.flush_device.ensures.call.disks tells)
+
+pub returns-in_err-flush_device-clause-goes_on : goal.returns-in_err-flush_device-clause-goes_on
+returns-in_err-flush_device-clause-goes_on g c =
+    let D = g.D.Devices in
+    let mid = D.state c.loop-dev.devices in
+    let new = D.state c.flush_device.new.devices in
+    go_on_then (D.state c.args.devices.now) mid new c.loop-dev.invariant.goes_on
+    (go_on_by_write D.tells c.loop-dev.dev c.flush_device.result (Is (now mid)) (Is (changed c.loop-dev.dev flushed (now mid))) mid new c.flush_device.ensures.call c.flush_device.ensures.sizes)

@@ -1,8 +1,7 @@
-use Rattle.std.proofs.Common.{◌∙◌}
 use Rattle.dev_model.specs.Devices.{now}
 use Rattle.dev_model.specs.FrameLaws.{go_on_then}
 use Rattle.geometry.specs.Mirrors.{IsMirror, IsMirrorBlock}
-use Rattle.geometry.proofs.Mirroring.{flushed_after, hold_then_flushes, settled_mirrors}
+use Rattle.geometry.proofs.Mirroring.{flushed_after, hold_then_flushes}
 use Rattle.geometry.proofs.mirrors.settle_mirrors.Goals as goal
 
 pub returns-clause-crashes : goal.returns-clause-crashes

@@ -66,3 +66,14 @@ returns-in_err-write_device-clause-asks g c tells opens =
     let D = g.D.Devices in
     hold_by_write opens (IsMirrorBlock c.args.mirrors c.args.block c.args.bytes.now) (D.state c.args.devices.now) (D.state c.loop-dev.devices) c.loop-dev.invariant.goes_on.later (c.loop-dev.invariant.asks tells opens)
     c.write_device.result c.loop-dev.dev c.args.block c.args.bytes.now (D.state c.write_device.new.devices) ((c.loop-dev-test.true, refl), refl) (c.write_device.ensures.call.disks tells)
+
+pub returns-in_err-write_device-clause-goes_on : goal.returns-in_err-write_device-clause-goes_on
+returns-in_err-write_device-clause-goes_on g c =
+    let D = g.D.Devices in
+    let mid = D.state c.loop-dev.devices in
+    let new = D.state c.write_device.new.devices in
+    let dev = c.loop-dev.dev in
+    let block = c.args.block in
+    let bytes = c.args.bytes.now in
+    go_on_then (D.state c.args.devices.now) mid new c.loop-dev.invariant.goes_on
+    (go_on_by_write D.tells dev c.write_device.result (MayBeWritten dev block bytes (now mid)) (Is (changed dev (written block bytes) (now mid))) mid new c.write_device.ensures.call c.write_device.ensures.sizes)
