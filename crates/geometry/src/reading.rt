@@ -1,4 +1,4 @@
-ghost use Rattle.std.specs.Prelude.{◌≡◌, Some, length, IfOk, IfSome};
+ghost use Rattle.std.specs.Prelude.{◌≡◌, ◌≤◌, Some, length, IfOk, IfSome};
 ghost use Rattle.dev_model.specs.Devices.{IsPlace, now};
 ghost use Rattle.dev_model.specs.Disk.{as_read, block_at};
 ghost use Rattle.dev_model.specs.Frames.{AreOnlyRead, after_reads};
@@ -32,7 +32,8 @@ pub fn read_block<D: Devices>(
 
 /// The number of blocks of each device.
 pub(crate) fn sizes_of<D: Devices>(alloc: Global, devices: &D) -> Result<Vec<u32>, AllocError>
-    ensures { IfOk result (λ sizes. sizes.items ≡ (D.state devices.now).sizes) }
+    ensures sizes { IfOk result (λ sizes. sizes.items ≡ (D.state devices.now).sizes) }
+    ensures few_devices { length (D.state devices.now).sizes ≤ 8 }
 {
     let count = devices.count();
     let mut sizes = Vec::new(alloc);

@@ -118,6 +118,7 @@ fn read_copies<D: Devices>(
     ensures read { AreOnlyRead D.tells (D.state devices.old) (D.state devices.new) }
     ensures cause { (D.state devices.new).faults ≡ after_reads (failed_device result) (D.state devices.old).faults }
     ensures device { IfSome (failed_device result) (λ dev. dev < length (D.state devices.old).sizes) }
+    ensures few_devices { length (D.state devices.old).sizes ≤ 8 }
 {
     let count = devices.count();
     let mut copies = Vec::new(alloc);
@@ -137,6 +138,7 @@ pub fn read_super<D: Devices>(alloc: Global, devices: &mut D) -> Result<Layout, 
     ensures read { AreOnlyRead D.tells (D.state devices.old) (D.state devices.new) }
     ensures cause { (D.state devices.new).faults ≡ after_reads (failed_super_device result) (D.state devices.old).faults }
     ensures device { IfSome (failed_super_device result) (λ dev. dev < length (D.state devices.old).sizes) }
+    ensures few_devices { length (D.state devices.old).sizes ≤ 8 }
 {
     let sizes = sizes_of(alloc, devices)?;
     let Some(copies) = read_copies(alloc, devices)? else {
