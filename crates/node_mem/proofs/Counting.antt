@@ -1,5 +1,5 @@
 -- What stays true of a node when a value is put or taken away.
-use Rattle.std.proofs.Common.{◌≡◌, ℕ, ◌+◌, ◌-◌, ◌^◌, ◌<◌, ◌≤◌, Option, Some, None, List, [], ◌∷◌, length, refl, sym, ap, ◌∙◌, subst, arith}
+use Rattle.std.proofs.Common.{◌≡◌, ℕ, ◌+◌, ◌-◌, ◌^◌, ◌<◌, ◌≤◌, Option, Some, None, List, [], ◌∷◌, length, refl, sym, ap, ◌∙◌, subst, arith, lit<, add-zero}
 use Rattle.std.specs.Prelude.{All, sum_by, unwrap_or, option_map, IfSome}
 use Rattle.std.specs.Map.{keys_of, values_of}
 use Rattle.std.specs.BTreeMap.{is_at}
@@ -64,6 +64,14 @@ node-with_key node pos value new is covered range rises eq = record {
   in_range = subst (λ es. All IsValue (values_of es)) (sym eq) (values-with_key IsValue pos value node.values is.in_range (in_range value range));
 }
 
+-- the node without a value is one
+pub node-without : (node : Node) (pos : Pos) (new : List (Pos × Value)) → IsNode node → IsMap pos_cmp new → new ≡ with_key pos None node.values → IsNode (record { least = node.least; greatest = node.greatest; values = new })
+node-without node pos new is rises eq = record {
+  rises = rises;
+  covered = subst (λ es. All (IsWithin node.least node.greatest) (keys_of es)) (sym eq) (All-map-remove_entry (is_at (pos_cmp pos)) (λ e. e.0) (IsWithin node.least node.greatest) node.values is.covered);
+  in_range = subst (λ es. All IsValue (values_of es)) (sym eq) (All-map-remove_entry (is_at (pos_cmp pos)) (λ e. e.1) IsValue node.values is.in_range);
+}
+
 -- and its bytes are counted
 pub counted-with_key : (pos : Pos) (value before : Option Value) (values new : List (Pos × Value)) (bytes added removed : ℕ) → IsMap pos_cmp values → IsCounted values bytes → new ≡ with_key pos value values
     → before ≡ value_at pos_cmp pos values → added ≡ length_of value → added < 2 ^ 32 → removed ≡ length_of before → IsCounted new (bytes + added - removed)
@@ -91,3 +99,14 @@ before-in_range pos before node is was = found before (subst (λ o. IfSome o IsV
     found : (o : Option Value) → IfSome o IsValue → IsKeyValue o
     found None p = tt
     found (Some value) p = p
+
+-- what is taken away weighs no more than all
+pub taken-le : (pos : Pos) (before : Option Value) (values : List (Pos × Value)) (bytes taken : ℕ) → IsMap pos_cmp values → IsCounted values bytes → before ≡ value_at pos_cmp pos values → taken ≡ length_of before → taken ≤ bytes
+taken-le pos before values bytes taken rises c was t = omega (arith, removed-le pos None before values bytes 0 taken rises c was refl t)
+
+-- and the bytes without it are counted
+pub counted-without : (pos : Pos) (before : Option Value) (values new : List (Pos × Value)) (bytes taken : ℕ) → IsMap pos_cmp values → IsCounted values bytes → new ≡ with_key pos None values → before ≡ value_at pos_cmp pos values → taken ≡ length_of before
+    → IsCounted new (bytes - taken)
+counted-without pos before values new bytes taken rises c eq was t =
+    let counted = counted-with_key pos None before values new bytes 0 taken rises c eq was refl (lit< tt) t in
+    subst (λ n. IsCounted new (n - taken)) (add-zero bytes) counted

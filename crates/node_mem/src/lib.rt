@@ -1,24 +1,29 @@
 //! A node of a btree in memory: the values of a range of positions, and how many bytes they take on disk.
 #![tactic(auto)]
 
-ghost use Rattle.std.specs.Prelude.{◌≡◌, [], option_copied, option_map, OnOk, OnErr, IfOk};
+ghost use Rattle.std.specs.Prelude.{◌≡◌, [], length, option_copied, option_map, IsSome, IfOk, OnOk, OnErr};
 ghost use Rattle.std.specs.Map.Iter.{deref_pair};
-ghost use Rattle.vol_types.specs.Maps.{value_at, IsMap};
+ghost use Rattle.vol_types.specs.Maps.{value_at};
 ghost use Rattle.vol_types.specs.Positions.{pos_cmp, IsWithin};
 ghost use Rattle.vol_types.specs.Ranges.{IsKeyValue};
-ghost use Rattle.node_mem.specs.Counts.{length_of};
-ghost use Rattle.node_mem.specs.Nodes.{IsNode, with_key, first_from, size_of};
+ghost use Rattle.node_mem.specs.Nodes.{IsNode, with_key, values_from, values_after, values_up_to, values_within, first_of, last_of, middle_of, size_of};
 
+mod lengths;
+mod values;
+
+use crate::lengths::length;
+use crate::values::exchange;
 use std::alloc::{AllocError, Global};
-use std::collections::BTreeMap;
+use std::collections::{BTreeMap, btree_map};
 use std::marker::Model;
-use vol_types::{Pos, Value, key_length};
+use std::ops::Bound;
+use vol_types::{Pos, Value};
 
 /// How many bytes a set takes before its keys.
 const SET_HEAD: u128 = 56;
 
-/// The values of a node, each at its position, in order. Each call costs a logarithm of their number, but for `size`,
-/// which only looks.
+/// The values of a node, each at its position, in order. Each call that looks for a position, puts or removes takes steps
+/// that grow with the logarithm of their number. `size`, `len`, `least` and `greatest` only look.
 #[derive(Drop)]
 pub struct NodeMem {
     least: Pos,
@@ -52,35 +57,26 @@ impl NodeMem {
         })
     }
 
-    /// The value at a position.
-    pub fn get(&self, pos: &Pos) -> Option<&Value>
-        ensures { option_copied result ≡ value_at pos_cmp pos.now self.now.values }
+    /// The least position that the node covers.
+    pub fn least(&self) -> Pos
+        ensures { result ≡ self.now.least }
     {
-        self.values.get(pos)
+        self.least
     }
 
-    /// The first value at this position or behind it, with its position.
-    pub fn next_from(&self, pos: &Pos) -> Option<(&Pos, &Value)>
-        ensures { option_map deref_pair result ≡ first_from pos.now self.now.values }
+    /// The greatest position that the node covers.
+    pub fn greatest(&self) -> Pos
+        ensures { result ≡ self.now.greatest }
     {
-        self.values.range(*pos..).next()
+        self.greatest
     }
 
-    /// Puts a value at a position, whether or not there was one, or takes it away where none is given. An `Err` changes
-    /// nothing. It goes over the names of both values for their lengths.
-    pub fn put(&mut self, pos: &Pos, value: Option<Value>) -> Result<(), AllocError>
-        requires covered { IsWithin self.old.least self.old.greatest pos.now }
-        requires in_range { IsKeyValue value }
-        ensures ok { OnOk result (self.new ≡ record { least = self.old.least; greatest = self.old.greatest; values = with_key pos.now value self.old.values }) }
-        ensures err { OnErr result (self.new ≡ self.old) }
+    /// How many values there are.
+    pub fn len(&self) -> usize
+        ensures exact { result ≡ length self.now.values }
+        ensures sound { IsNode self.now }
     {
-        // So few keys of so few bytes each fit 128 bits together.
-        let count = self.values.len();
-        prove!(count < 1 << 63);
-        let added = length(&value);
-        let before = exchange(&mut self.values, *pos, value)?;
-        self.bytes = self.bytes + added as u128 - length(&before) as u128;
-        Ok(())
+        self.values.len()
     }
 
     /// How many bytes the node takes on disk as one set, or 2^32 - 1 where they are more.
@@ -90,33 +86,95 @@ impl NodeMem {
     {
         u32::try_from(self.bytes).unwrap_or(u32::MAX)
     }
-}
 
-// How many bytes a value takes as a key, or none where there is none.
-fn length(value: &Option<Value>) -> u32
-    requires { IsKeyValue value.now }
-    ensures { result ≡ length_of value.now }
-{
-    match value {
-        None => 0,
-        Some(value) => key_length(Some(value)),
+    /// The value at a position.
+    pub fn get(&self, pos: &Pos) -> Option<&Value>
+        ensures { option_copied result ≡ value_at pos_cmp pos.now self.now.values }
+    {
+        self.values.get(pos)
     }
-}
 
-// Puts a value at a position or takes it away, and gives the one that was there. An `Err` changes nothing.
-fn exchange(
-    values: &mut BTreeMap<Pos, Value>,
-    pos: Pos,
-    value: Option<Value>,
-) -> Result<Option<Value>, AllocError>
-    ensures before { IfOk result (λ before. before ≡ value_at pos_cmp pos values.old.entries) }
-    ensures rises { IsMap pos_cmp values.new.entries }
-    ensures ok { OnOk result (values.new.entries ≡ with_key pos value values.old.entries) }
-    ensures err { OnErr result (values.new.entries ≡ values.old.entries) }
-{
-    match value {
-        None => Ok(values.remove(&pos)),
-        Some(value) => Ok(values.insert(pos, value)?),
+    /// The first value at this position or after it, with its position.
+    pub fn next_from(&self, pos: &Pos) -> Option<(&Pos, &Value)>
+        ensures { option_map deref_pair result ≡ first_of (values_from pos.now self.now.values) }
+    {
+        self.values.range(*pos..).next()
+    }
+
+    /// The first value strictly after this position, with its position.
+    pub fn next_after(&self, pos: &Pos) -> Option<(&Pos, &Value)>
+        ensures { option_map deref_pair result ≡ first_of (values_after pos.now self.now.values) }
+    {
+        self.values.range((Bound::Excluded(*pos), Bound::Unbounded)).next()
+    }
+
+    /// The last value at this position or before it, with its position.
+    pub fn last_up_to(&self, pos: &Pos) -> Option<(&Pos, &Value)>
+        ensures { option_map deref_pair result ≡ last_of (values_up_to pos.now self.now.values) }
+    {
+        self.values.range(..=*pos).next_back()
+    }
+
+    /// All values, each with its position, in order.
+    pub fn iter(&self) -> btree_map::Iter<'_, Pos, Value>
+        ensures { result ≡ self.now.values }
+    {
+        self.values.iter()
+    }
+
+    /// The values from the first position to the last one, both included, in order. There are none where the first is
+    /// after the last. A step costs no more than that of `iter`.
+    pub fn range(&self, first: &Pos, last: &Pos) -> btree_map::Range<'_, Pos, Value>
+        ensures { result ≡ values_within first.now last.now self.now.values }
+    {
+        if first > last {
+            return self.values.range(*first..*first);
+        }
+        self.values.range((Bound::Included(*first), Bound::Included(*last)))
+    }
+
+    /// The middle one of the positions of two or more values, which is not the last: a split there halves their number.
+    /// It goes over half of the values.
+    pub fn middle(&self) -> Option<Pos>
+        ensures { result ≡ middle_of self.now.values }
+    {
+        let count = self.values.len();
+        if count < 2 {
+            return None;
+        }
+        self.values.keys().nth((count - 1) / 2).copied()
+    }
+
+    /// Puts a value at a position, whether or not there was one, or takes it away where none is given, and gives the
+    /// value that was there. Only a value at a position that had none takes memory. It goes over the names of both
+    /// values for their lengths.
+    pub fn put(&mut self, pos: &Pos, value: Option<Value>) -> Result<Option<Value>, AllocError>
+        requires covered { IsWithin self.old.least self.old.greatest pos.now }
+        requires in_range { IsKeyValue value }
+        ensures before { IfOk result (λ before. before ≡ value_at pos_cmp pos.now self.old.values) }
+        ensures ok { OnOk result (self.new ≡ record { least = self.old.least; greatest = self.old.greatest; values = with_key pos.now value self.old.values }) }
+        // After an `Err` the node is as before. It comes only where a value is put at a position that has none.
+        ensures err { OnErr result (self.new ≡ self.old) }
+        ensures put { OnErr result (IsSome value) }
+        ensures absent { OnErr result (value_at pos_cmp pos.now self.old.values ≡ None) }
+    {
+        // So few keys of so few bytes each fit 128 bits together.
+        let count = self.values.len();
+        prove!(count < 1 << 63);
+        let added = length(&value);
+        let before = exchange(&mut self.values, *pos, value)?;
+        self.bytes = self.bytes + added as u128 - length(&before) as u128;
+        Ok(before)
+    }
+
+    /// Takes the value at a position away, and gives it. It takes no memory.
+    pub fn remove(&mut self, pos: &Pos) -> Option<Value>
+        ensures before { result ≡ value_at pos_cmp pos.now self.old.values }
+        ensures after { self.new ≡ record { least = self.old.least; greatest = self.old.greatest; values = with_key pos.now None self.old.values } }
+    {
+        let before = self.values.remove(pos);
+        self.bytes -= length(&before) as u128;
+        before
     }
 }
 
