@@ -1,5 +1,5 @@
 -- What a node in memory keeps beside its values: how many bytes they take.
-use Rattle.std.specs.Prelude.{◌≡◌, ℕ, ◌<◌, ◌^◌, Option, Some, None, List, All}
+use Rattle.std.specs.Prelude.{◌≡◌, ℕ, ◌<◌, ◌^◌, Option, Some, None, List, All, sum_by}
 use Rattle.std.specs.Map.{values_of}
 use Rattle.vol_types.specs.Lengths.{key_length_of}
 use Rattle.vol_types.specs.Sets.{set_length_of}
@@ -11,6 +11,10 @@ use Rattle.node_mem.specs.Nodes.{keys_in}
 abbrev pub length_of : Option Value → ℕ
 length_of None = 0
 length_of (Some value) = key_length_of (Some value)
+
+-- the bytes of values as keys
+abbrev pub lengths_of : List (Pos × Value) → ℕ
+lengths_of values = sum_by (λ value. key_length_of (Some value)) (values_of values)
 
 -- The bytes of a node's set are counted, and those of each key fit 32 bits.
 pub record IsCounted (values : List (Pos × Value)) (bytes : ℕ) : Type 0 where

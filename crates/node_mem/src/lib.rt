@@ -1,23 +1,26 @@
 //! A node of a btree in memory: the values of a range of positions, and how many bytes they take on disk.
 #![tactic(auto)]
 
-ghost use Rattle.std.specs.Prelude.{◌≡◌, [], length, option_copied, option_map, IsSome, IfOk, OnOk, OnErr};
+ghost use Rattle.std.specs.Prelude.{◌≡◌, [], length, All, option_copied, option_map, IsSome, IfOk, OnOk, OnErr};
 ghost use Rattle.std.specs.Map.Iter.{deref_pair};
 ghost use Rattle.vol_types.specs.Maps.{value_at};
 ghost use Rattle.vol_types.specs.Positions.{pos_cmp, IsWithin};
 ghost use Rattle.vol_types.specs.Ranges.{IsKeyValue};
-ghost use Rattle.node_mem.specs.Nodes.{IsNode, with_key, values_from, values_after, values_up_to, values_within, first_of, last_of, middle_of, size_of};
+ghost use Rattle.node_mem.specs.Nodes.{IsNode, with_key, with_keys, keys_in, values_from, values_after, values_up_to, values_within, first_of, last_of, middle_of, size_of};
 
+mod changes;
 mod lengths;
 mod values;
 
+pub use changes::Change;
+
 use crate::lengths::length;
-use crate::values::exchange;
+use crate::values::{copy_keys, copy_map, exchange};
 use std::alloc::{AllocError, Global};
 use std::collections::{BTreeMap, btree_map};
 use std::marker::Model;
 use std::ops::Bound;
-use vol_types::{Pos, Value};
+use vol_types::{Duplicate, Key, Keys, Pos, Value};
 
 /// How many bytes a set takes before its keys.
 const SET_HEAD: u128 = 56;
@@ -176,7 +179,50 @@ impl NodeMem {
         self.bytes -= length(&before) as u128;
         before
     }
+
+    /// All values as keys, in their order. It copies each value.
+    pub fn keys(&self, alloc: Global) -> Result<Keys, AllocError>
+        ensures { IfOk result (λ keys. keys ≡ keys_in self.now.values) }
+    {
+        copy_keys(alloc, &self.values)
+    }
+
+    // Puts the key's value at its position, or takes the one there away.
+    fn put_key(&mut self, key: Key) -> Result<(), AllocError>
+        requires covered { IsWithin self.old.least self.old.greatest key.pos }
+        requires in_range { IsKeyValue key.value }
+        ensures { OnOk result (self.new ≡ record { least = self.old.least; greatest = self.old.greatest; values = with_key key.pos key.value self.old.values }) }
+    {
+        let Key { pos, value } = key;
+        self.put(&pos, value)?;
+        Ok(())
+    }
+
+    /// The node with each key put in turn, or taken away where it has no value, so that a later one of a position counts.
+    /// It costs as much as a `put` for each key.
+    pub fn merged(mut self, keys: Keys) -> Result<NodeMem, AllocError>
+        requires covered { All (λ key. IsWithin self.least self.greatest key.pos) keys }
+        requires in_range { All (λ key. IsKeyValue key.value) keys }
+        ensures { IfOk result (λ node. node ≡ record { least = self.least; greatest = self.greatest; values = with_keys keys self.values }) }
+    {
+        for key in Vec::from(keys) {
+            self.put_key(key)?;
+        }
+        Ok(self)
+    }
 }
+
+impl Duplicate for NodeMem {
+    fn copy(&self, alloc: Global) -> Result<Self, AllocError> {
+        Ok(NodeMem {
+            least: self.least,
+            greatest: self.greatest,
+            values: copy_map(alloc, &self.values)?,
+            bytes: self.bytes,
+        })
+    }
+}
+
 
 #[cfg(test)]
 mod tests;

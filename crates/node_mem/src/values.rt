@@ -1,11 +1,11 @@
 ghost use Rattle.std.specs.Prelude.{◌≡◌, IsSome, IfOk, OnOk, OnErr};
 ghost use Rattle.vol_types.specs.Maps.{value_at, IsMap};
 ghost use Rattle.vol_types.specs.Positions.{pos_cmp};
-ghost use Rattle.node_mem.specs.Nodes.{with_key};
+ghost use Rattle.node_mem.specs.Nodes.{with_key, keys_in};
 
-use std::alloc::AllocError;
+use std::alloc::{AllocError, Global};
 use std::collections::BTreeMap;
-use vol_types::{Pos, Value};
+use vol_types::{Duplicate, Key, Keys, Pos, Value};
 
 /// Puts a value at a position or takes it away, and gives the one that was there. An `Err` changes nothing.
 pub(crate) fn exchange(
@@ -24,4 +24,33 @@ pub(crate) fn exchange(
         None => Ok(values.remove(&pos)),
         Some(value) => Ok(values.insert(pos, value)?),
     }
+}
+
+/// An equal map. It goes over all entries.
+#[tactic(auto, using(crate::proofs::Copies::copy_more))]
+pub(crate) fn copy_map<K: Ord + Duplicate, V: Duplicate>(
+    alloc: Global,
+    map: &BTreeMap<K, V>,
+) -> Result<BTreeMap<K, V>, AllocError>
+    ensures { IfOk result (λ copy. copy.entries ≡ map.now.entries) }
+{
+    let mut copy = BTreeMap::new(alloc);
+    for (key, value) in map.iter() {
+        copy.insert(key.copy(alloc)?, value.copy(alloc)?)?;
+    }
+    Ok(copy)
+}
+
+/// The values as keys, in their order.
+pub(crate) fn copy_keys(alloc: Global, values: &BTreeMap<Pos, Value>) -> Result<Keys, AllocError>
+    ensures { IfOk result (λ keys. keys ≡ keys_in values.now.entries) }
+{
+    let mut keys = Keys::new(alloc);
+    for (pos, value) in values.iter() {
+        keys.push(Key {
+            pos: *pos,
+            value: Some(value.copy(alloc)?),
+        })?;
+    }
+    Ok(keys)
 }
