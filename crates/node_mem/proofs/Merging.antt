@@ -2,16 +2,17 @@
 use Rattle.std.proofs.Common.{◌≡◌, ℕ, Option, Some, None, List, [], ◌∷◌, ◌++◌, refl, sym, ap, subst, ◌∙◌}
 use Rattle.std.specs.Prelude.{All}
 use Rattle.std.proofs.lemmas.List.Elements.{All-head, All-tail}
-use Rattle.vol_types.specs.Positions.{IsWithin}
+use Rattle.vol_types.specs.Maps.{put_at}
+use Rattle.vol_types.specs.Positions.{pos_cmp, IsWithin}
 use Rattle.vol_types.specs.Ranges.{IsKeyValue}
 use Rattle.vol_types.specs.declared.keys.Key.{Key}
 use Rattle.vol_types.specs.declared.positions.Pos.{Pos}
 use Rattle.vol_types.specs.declared.values.Value.{Value}
-use Rattle.node_mem.specs.Nodes.{Node, with_key, with_keys}
+use Rattle.node_mem.specs.Nodes.{Node, with_keys}
 
 -- The node became another one by some of the keys, and the rest may still be put.
 pub record IsMerging (node : Node) (keys : List Key) (now : Node) (rest : List Key) : Type 0 where
-  pub merged : with_keys rest now.values ≡ with_keys keys node.values
+  pub merged : with_keys rest now.entries ≡ with_keys keys node.entries
   pub least : now.least ≡ node.least
   pub greatest : now.greatest ≡ node.greatest
   pub covered : All (λ key. IsWithin node.least node.greatest key.pos) rest
@@ -29,9 +30,9 @@ module _ (node : Node) (keys : List Key) (now new : Node) (key : Key) (rest left
   next_in_range = All-head (λ key. IsKeyValue key.value) key left (subst (All (λ key. IsKeyValue key.value)) next merging.in_range)
 
   -- once it was put, the others are left
-  pub merging_more : new ≡ record { least = now.least; greatest = now.greatest; values = with_key key.pos key.value now.values } → IsMerging node keys new left
+  pub merging_more : new ≡ record { least = now.least; greatest = now.greatest; entries = put_at pos_cmp key.pos key.value now.entries } → IsMerging node keys new left
   merging_more put = record {
-    merged = ap (λ (n : Node). with_keys left n.values) put ∙ ap (λ ks. with_keys ks now.values) (sym next) ∙ merging.merged;
+    merged = ap (λ (n : Node). with_keys left n.entries) put ∙ ap (λ ks. with_keys ks now.entries) (sym next) ∙ merging.merged;
     least = ap (λ (n : Node). n.least) put ∙ merging.least;
     greatest = ap (λ (n : Node). n.greatest) put ∙ merging.greatest;
     covered = All-tail (λ key. IsWithin node.least node.greatest key.pos) key left (subst (All (λ key. IsWithin node.least node.greatest key.pos)) next merging.covered);
@@ -39,9 +40,9 @@ module _ (node : Node) (keys : List Key) (now new : Node) (key : Key) (rest left
   }
 
 -- with no key left, all are put
-pub merging_all : (node : Node) (keys : List Key) (now : Node) (rest : List Key) → IsMerging node keys now rest → rest ≡ [] → now ≡ record { least = node.least; greatest = node.greatest; values = with_keys keys node.values }
+pub merging_all : (node : Node) (keys : List Key) (now : Node) (rest : List Key) → IsMerging node keys now rest → rest ≡ [] → now ≡ record { least = node.least; greatest = node.greatest; entries = with_keys keys node.entries }
 merging_all node keys now rest merging none = λ i. record {
   least = merging.least i;
   greatest = merging.greatest i;
-  values = (ap (λ ks. with_keys ks now.values) (sym none) ∙ merging.merged) i;
+  entries = (ap (λ ks. with_keys ks now.entries) (sym none) ∙ merging.merged) i;
 }

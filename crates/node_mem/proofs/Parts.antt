@@ -16,7 +16,8 @@ use Rattle.vol_types.specs.Positions.{pos_cmp}
 use Rattle.vol_types.specs.declared.positions.Pos.{Pos}
 use Rattle.vol_types.specs.declared.values.Value.{Value}
 use Rattle.vol_types.proofs.PositionOrder.{pos_total}
-use Rattle.node_mem.specs.Nodes.{values_up_to, values_within, last_of}
+use Rattle.vol_types.specs.KeyMaps.{Entries, entries_within}
+use Rattle.node_mem.specs.Nodes.{entries_up_to, last_of}
 
 -- an order turned round
 turned : (o : Ordering) → not (is_lt (ordering_reverse o)) ≡ is_le o
@@ -29,11 +30,11 @@ pub le_turned : (p q : Pos) → not (is_lt (pos_cmp p q)) ≡ is_le (pos_cmp q p
 le_turned p q = ap (λ o. not (is_lt o)) (pos_total.antisymm p q) ∙ turned (pos_cmp q p)
 
 -- the values that aren't after a position are those up to it
-pub up_to-range : (pos : Pos) (values : List (Pos × Value)) → filter (λ entry. not (is_lt (pos_cmp pos entry.0))) values ≡ values_up_to pos values
+pub up_to-range : (pos : Pos) (values : List (Pos × Value)) → filter (λ entry. not (is_lt (pos_cmp pos entry.0))) values ≡ entries_up_to pos values
 up_to-range pos values = filter_agree (λ entry. not (is_lt (pos_cmp pos entry.0))) (λ entry. is_le (pos_cmp entry.0 pos)) (λ entry. le_turned pos entry.0) values
 
 -- the same between two positions
-pub within-range : (first last : Pos) (values : List (Pos × Value)) → filter (λ entry. is_le (pos_cmp first entry.0) && not (is_lt (pos_cmp last entry.0))) values ≡ values_within first last values
+pub within-range : (first last : Pos) (values : List (Pos × Value)) → filter (λ entry. is_le (pos_cmp first entry.0) && not (is_lt (pos_cmp last entry.0))) values ≡ entries_within first last values
 within-range first last values =
     filter_agree (λ entry. is_le (pos_cmp first entry.0) && not (is_lt (pos_cmp last entry.0))) (λ entry. is_le (pos_cmp first entry.0) && is_le (pos_cmp entry.0 last))
     (λ entry. ap (λ b. is_le (pos_cmp first entry.0) && b) (le_turned last entry.0)) values
@@ -50,7 +51,7 @@ crossed Equal Equal apart = absurd (apart refl refl)
 
 -- where the first position is after the last one, there are no values between them
 pub crossed-range : (first last : Pos) (values : List (Pos × Value)) → is_gt (pos_cmp first last) ≡ true
-    → filter (λ entry. is_le (pos_cmp first entry.0) && not (is_le (pos_cmp first entry.0))) values ≡ values_within first last values
+    → filter (λ entry. is_le (pos_cmp first entry.0) && not (is_le (pos_cmp first entry.0))) values ≡ entries_within first last values
 crossed-range first last values after =
     filter_agree (λ entry. is_le (pos_cmp first entry.0) && not (is_le (pos_cmp first entry.0))) (λ entry. is_le (pos_cmp first entry.0) && is_le (pos_cmp entry.0 last))
     (λ entry. crossed (pos_cmp first entry.0) (pos_cmp entry.0 last) (λ le up. false≢true (sym (upto pos_total first entry.0 last le up) ∙ after))) values

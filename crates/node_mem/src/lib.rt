@@ -3,10 +3,11 @@
 
 ghost use Rattle.std.specs.Prelude.{◌≡◌, [], length, All, option_copied, option_map, IsSome, IfOk, OnOk, OnErr};
 ghost use Rattle.std.specs.Map.Iter.{deref_pair};
-ghost use Rattle.vol_types.specs.Maps.{value_at};
+ghost use Rattle.vol_types.specs.KeyMaps.{keys_in, first_from, entries_within};
+ghost use Rattle.vol_types.specs.Maps.{value_at, put_at};
 ghost use Rattle.vol_types.specs.Positions.{pos_cmp, IsWithin};
 ghost use Rattle.vol_types.specs.Ranges.{IsKeyValue};
-ghost use Rattle.node_mem.specs.Nodes.{IsNode, with_key, with_keys, keys_in, values_from, values_after, values_up_to, values_within, first_of, last_of, middle_of, size_of};
+ghost use Rattle.node_mem.specs.Nodes.{IsNode, with_keys, entries_after, entries_up_to, first_of, last_of, middle_of, size_of};
 
 mod changes;
 mod lengths;
@@ -31,7 +32,7 @@ const SET_HEAD: u128 = 56;
 pub struct NodeMem {
     least: Pos,
     greatest: Pos,
-    values: BTreeMap<Pos, Value>,
+    entries: BTreeMap<Pos, Value>,
     /// How many bytes the node takes as one set.
     bytes: u128,
 }
@@ -42,20 +43,20 @@ impl Model for NodeMem {
 
     ghost Value = { Node };
 
-    ghost view = { λ node. record { least = node.least; greatest = node.greatest; values = node.values.entries } };
+    ghost view = { λ node. record { least = node.least; greatest = node.greatest; entries = node.entries.entries } };
 
-    ghost invariant = { λ node. IsNode (record { least = node.least; greatest = node.greatest; values = node.values.entries }) × IsCounted node.values.entries node.bytes };
+    ghost invariant = { λ node. IsNode (record { least = node.least; greatest = node.greatest; entries = node.entries.entries }) × IsCounted node.entries.entries node.bytes };
 }
 
 impl NodeMem {
     /// A node without values, which covers the positions from the least to the greatest one. It takes no memory.
     pub fn new(alloc: Global, least: &Pos, greatest: &Pos) -> Result<NodeMem, AllocError>
-        ensures { IfOk result (λ node. node ≡ record { least = least.now; greatest = greatest.now; values = [] }) }
+        ensures { IfOk result (λ node. node ≡ record { least = least.now; greatest = greatest.now; entries = [] }) }
     {
         Ok(NodeMem {
             least: *least,
             greatest: *greatest,
-            values: BTreeMap::new(alloc),
+            entries: BTreeMap::new(alloc),
             bytes: SET_HEAD,
         })
     }
@@ -76,15 +77,15 @@ impl NodeMem {
 
     /// How many values there are.
     pub fn len(&self) -> usize
-        ensures exact { result ≡ length self.now.values }
+        ensures exact { result ≡ length self.now.entries }
         ensures sound { IsNode self.now }
     {
-        self.values.len()
+        self.entries.len()
     }
 
     /// How many bytes the node takes on disk as one set, or 2^32 - 1 where they are more.
     pub fn size(&self) -> u32
-        ensures exact { result ≡ size_of self.now.values }
+        ensures exact { result ≡ size_of self.now.entries }
         ensures sound { IsNode self.now }
     {
         u32::try_from(self.bytes).unwrap_or(u32::MAX)
@@ -92,60 +93,60 @@ impl NodeMem {
 
     /// The value at a position.
     pub fn get(&self, pos: &Pos) -> Option<&Value>
-        ensures { option_copied result ≡ value_at pos_cmp pos.now self.now.values }
+        ensures { option_copied result ≡ value_at pos_cmp pos.now self.now.entries }
     {
-        self.values.get(pos)
+        self.entries.get(pos)
     }
 
     /// The first value at this position or after it, with its position.
     pub fn next_from(&self, pos: &Pos) -> Option<(&Pos, &Value)>
-        ensures { option_map deref_pair result ≡ first_of (values_from pos.now self.now.values) }
+        ensures { option_map deref_pair result ≡ first_from pos.now self.now.entries }
     {
-        self.values.range(*pos..).next()
+        self.entries.range(*pos..).next()
     }
 
     /// The first value strictly after this position, with its position.
     pub fn next_after(&self, pos: &Pos) -> Option<(&Pos, &Value)>
-        ensures { option_map deref_pair result ≡ first_of (values_after pos.now self.now.values) }
+        ensures { option_map deref_pair result ≡ first_of (entries_after pos.now self.now.entries) }
     {
-        self.values.range((Bound::Excluded(*pos), Bound::Unbounded)).next()
+        self.entries.range((Bound::Excluded(*pos), Bound::Unbounded)).next()
     }
 
     /// The last value at this position or before it, with its position.
     pub fn last_up_to(&self, pos: &Pos) -> Option<(&Pos, &Value)>
-        ensures { option_map deref_pair result ≡ last_of (values_up_to pos.now self.now.values) }
+        ensures { option_map deref_pair result ≡ last_of (entries_up_to pos.now self.now.entries) }
     {
-        self.values.range(..=*pos).next_back()
+        self.entries.range(..=*pos).next_back()
     }
 
     /// All values, each with its position, in order.
     pub fn iter(&self) -> btree_map::Iter<'_, Pos, Value>
-        ensures { result ≡ self.now.values }
+        ensures { result ≡ self.now.entries }
     {
-        self.values.iter()
+        self.entries.iter()
     }
 
     /// The values from the first position to the last one, both included, in order. There are none where the first is
     /// after the last. A step costs no more than that of `iter`.
     pub fn range(&self, first: &Pos, last: &Pos) -> btree_map::Range<'_, Pos, Value>
-        ensures { result ≡ values_within first.now last.now self.now.values }
+        ensures { result ≡ entries_within first.now last.now self.now.entries }
     {
         if first > last {
-            return self.values.range(*first..*first);
+            return self.entries.range(*first..*first);
         }
-        self.values.range((Bound::Included(*first), Bound::Included(*last)))
+        self.entries.range((Bound::Included(*first), Bound::Included(*last)))
     }
 
     /// The middle one of the positions of two or more values, which is not the last: a split there halves their number.
     /// It goes over half of the values.
     pub fn middle(&self) -> Option<Pos>
-        ensures { result ≡ middle_of self.now.values }
+        ensures { result ≡ middle_of self.now.entries }
     {
-        let count = self.values.len();
+        let count = self.entries.len();
         if count < 2 {
             return None;
         }
-        self.values.keys().nth((count - 1) / 2).copied()
+        self.entries.keys().nth((count - 1) / 2).copied()
     }
 
     /// Puts a value at a position, whether or not there was one, or takes it away where none is given, and gives the
@@ -154,44 +155,44 @@ impl NodeMem {
     pub fn put(&mut self, pos: &Pos, value: Option<Value>) -> Result<Option<Value>, AllocError>
         requires covered { IsWithin self.old.least self.old.greatest pos.now }
         requires in_range { IsKeyValue value }
-        ensures before { IfOk result (λ before. before ≡ value_at pos_cmp pos.now self.old.values) }
-        ensures ok { OnOk result (self.new ≡ record { least = self.old.least; greatest = self.old.greatest; values = with_key pos.now value self.old.values }) }
+        ensures before { IfOk result (λ before. before ≡ value_at pos_cmp pos.now self.old.entries) }
+        ensures ok { OnOk result (self.new ≡ record { least = self.old.least; greatest = self.old.greatest; entries = put_at pos_cmp pos.now value self.old.entries }) }
         // After an `Err` the node is as before. It comes only where a value is put at a position that has none.
         ensures err { OnErr result (self.new ≡ self.old) }
         ensures put { OnErr result (IsSome value) }
-        ensures absent { OnErr result (value_at pos_cmp pos.now self.old.values ≡ None) }
+        ensures absent { OnErr result (value_at pos_cmp pos.now self.old.entries ≡ None) }
     {
         // So few keys of so few bytes each fit 128 bits together.
-        let count = self.values.len();
+        let count = self.entries.len();
         prove!(count < 1 << 63);
         let added = length(&value);
-        let before = exchange(&mut self.values, *pos, value)?;
+        let before = exchange(&mut self.entries, *pos, value)?;
         self.bytes = self.bytes + added as u128 - length(&before) as u128;
         Ok(before)
     }
 
     /// Takes the value at a position away, and gives it. It takes no memory.
     pub fn remove(&mut self, pos: &Pos) -> Option<Value>
-        ensures before { result ≡ value_at pos_cmp pos.now self.old.values }
-        ensures after { self.new ≡ record { least = self.old.least; greatest = self.old.greatest; values = with_key pos.now None self.old.values } }
+        ensures before { result ≡ value_at pos_cmp pos.now self.old.entries }
+        ensures after { self.new ≡ record { least = self.old.least; greatest = self.old.greatest; entries = put_at pos_cmp pos.now None self.old.entries } }
     {
-        let before = self.values.remove(pos);
+        let before = self.entries.remove(pos);
         self.bytes -= length(&before) as u128;
         before
     }
 
     /// All values as keys, in their order. It copies each value.
     pub fn keys(&self, alloc: Global) -> Result<Keys, AllocError>
-        ensures { IfOk result (λ keys. keys ≡ keys_in self.now.values) }
+        ensures { IfOk result (λ keys. keys ≡ keys_in self.now.entries) }
     {
-        copy_keys(alloc, &self.values)
+        copy_keys(alloc, &self.entries)
     }
 
     // Puts the key's value at its position, or takes the one there away.
     fn put_key(&mut self, key: Key) -> Result<(), AllocError>
         requires covered { IsWithin self.old.least self.old.greatest key.pos }
         requires in_range { IsKeyValue key.value }
-        ensures { OnOk result (self.new ≡ record { least = self.old.least; greatest = self.old.greatest; values = with_key key.pos key.value self.old.values }) }
+        ensures { OnOk result (self.new ≡ record { least = self.old.least; greatest = self.old.greatest; entries = put_at pos_cmp key.pos key.value self.old.entries }) }
     {
         let Key { pos, value } = key;
         self.put(&pos, value)?;
@@ -203,7 +204,7 @@ impl NodeMem {
     pub fn merged(mut self, keys: Keys) -> Result<NodeMem, AllocError>
         requires covered { All (λ key. IsWithin self.least self.greatest key.pos) keys }
         requires in_range { All (λ key. IsKeyValue key.value) keys }
-        ensures { IfOk result (λ node. node ≡ record { least = self.least; greatest = self.greatest; values = with_keys keys self.values }) }
+        ensures { IfOk result (λ node. node ≡ record { least = self.least; greatest = self.greatest; entries = with_keys keys self.entries }) }
     {
         for key in Vec::from(keys) {
             self.put_key(key)?;
@@ -217,7 +218,7 @@ impl Duplicate for NodeMem {
         Ok(NodeMem {
             least: self.least,
             greatest: self.greatest,
-            values: copy_map(alloc, &self.values)?,
+            entries: copy_map(alloc, &self.entries)?,
             bytes: self.bytes,
         })
     }

@@ -1,7 +1,7 @@
 ghost use Rattle.std.specs.Prelude.{◌≡◌, IsSome, IfOk, OnOk, OnErr};
-ghost use Rattle.vol_types.specs.Maps.{value_at, IsMap};
+ghost use Rattle.vol_types.specs.Maps.{value_at, put_at, IsMap};
 ghost use Rattle.vol_types.specs.Positions.{pos_cmp};
-ghost use Rattle.node_mem.specs.Nodes.{with_key, keys_in};
+ghost use Rattle.vol_types.specs.KeyMaps.{keys_in};
 
 use std::alloc::{AllocError, Global};
 use std::collections::BTreeMap;
@@ -15,7 +15,7 @@ pub(crate) fn exchange(
 ) -> Result<Option<Value>, AllocError>
     ensures before { IfOk result (λ before. before ≡ value_at pos_cmp pos values.old.entries) }
     ensures rises { IsMap pos_cmp values.new.entries }
-    ensures ok { OnOk result (values.new.entries ≡ with_key pos value values.old.entries) }
+    ensures ok { OnOk result (values.new.entries ≡ put_at pos_cmp pos value values.old.entries) }
     ensures err { OnErr result (values.new.entries ≡ values.old.entries) }
     ensures put { OnErr result (IsSome value) }
     ensures absent { OnErr result (value_at pos_cmp pos values.old.entries ≡ None) }

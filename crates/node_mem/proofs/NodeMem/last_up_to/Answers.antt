@@ -9,4 +9,4 @@ use Rattle.node_mem.proofs.NodeMem.last_up_to.Goals as goal
 pub returns : goal.returns
 returns c =
     rw (← c.self.view_is)
-    (last_taken (deref_pair {K = Pos} {X = Value}) c.range.result _ c.next_back.result c.next_back.ensures.steps ∙ ap last_of (c.range.ensures.between tt ∙ up_to-range c.args.pos.now c.self.inside.values.entries))
+    (last_taken (deref_pair {K = Pos} {X = Value}) c.range.result _ c.next_back.result c.next_back.ensures.steps ∙ ap last_of (c.range.ensures.between tt ∙ up_to-range c.args.pos.now c.self.inside.entries.entries))

@@ -1,5 +1,5 @@
 use Rattle.std.proofs.Common.{◌≡◌, ◌++◌}
-use Rattle.node_mem.specs.Nodes.{keys_in}
+use Rattle.vol_types.specs.KeyMaps.{keys_in}
 use Rattle.node_mem.proofs.values.copy_keys.Given as goal
 
 abbrev pub invariant-loop-pos : goal.invariant-loop-pos
