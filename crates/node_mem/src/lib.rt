@@ -1,7 +1,7 @@
 //! A node of a btree in memory: the values of a range of positions, and how many bytes they take on disk.
 #![tactic(auto)]
 
-ghost use Rattle.std.specs.Prelude.{◌≡◌, [], length, All, option_copied, option_map, IsSome, IfOk, OnOk, OnErr};
+ghost use Rattle.std.specs.Prelude.{◌≡◌, [], length, map, All, option_copied, option_map, IsSome, IfOk, OnOk, OnErr};
 ghost use Rattle.std.specs.Map.Iter.{deref_pair};
 ghost use Rattle.vol_types.specs.KeyMaps.{keys_in, first_from, entries_within};
 ghost use Rattle.vol_types.specs.Maps.{value_at, put_at};
@@ -10,13 +10,15 @@ ghost use Rattle.vol_types.specs.Ranges.{IsKeyValue};
 ghost use Rattle.node_mem.specs.Nodes.{IsNode, with_keys, entries_after, entries_up_to, first_of, last_of, middle_of, size_of};
 
 mod changes;
+mod entries;
 mod lengths;
-mod values;
+mod sizing;
 
 pub use changes::Change;
 
+use crate::entries::{copy_keys, copy_map, exchange};
 use crate::lengths::length;
-use crate::values::{copy_keys, copy_map, exchange};
+use crate::sizing::bytes_after;
 use std::alloc::{AllocError, Global};
 use std::collections::{BTreeMap, btree_map};
 use std::marker::Model;
@@ -186,6 +188,17 @@ impl NodeMem {
         ensures { IfOk result (λ keys. keys ≡ keys_in self.now.entries) }
     {
         copy_keys(alloc, &self.entries)
+    }
+
+    /// How many bytes the node would take on disk as one set after the changes, a later one of a position over an
+    /// earlier one, or 2^32 - 1 where they would be more. It makes none of them, and doesn't go over the node: it takes a
+    /// few steps for each change, times a logarithm, and memory for each position that is changed.
+    pub fn size_after<C: Change>(&self, alloc: Global, changes: &[C]) -> Result<u32, AllocError>
+        requires { All (λ change. IsKeyValue (C.key change).value) changes.now }
+        ensures { IfOk result (λ size. size ≡ size_of (with_keys (map C.key changes.now) self.now.entries)) }
+    {
+        let bytes = bytes_after(alloc, &self.entries, self.bytes, changes)?;
+        Ok(u32::try_from(bytes).unwrap_or(u32::MAX))
     }
 
     // Puts the key's value at its position, or takes the one there away.

@@ -19,7 +19,7 @@ overflow_sub-self c =
 pub invariant_of-self-2 : goal.invariant_of-self-2
 invariant_of-self-2 c =
     let added : c.length-added.result < 2 ^ 32 = omega (arith, c.length-added.type_inv) in (
-      node-put_at _ c.args.pos.now c.args.value c.exchange.new.values.entries c.self.invariant.0 (subst (λ (n : Node). IsWithin n.least n.greatest c.args.pos.now) (sym c.self.view_is) c.requires.covered) c.requires.in_range c.exchange.ensures.rises c.in_ok-before.ensures.ok,
-      counted-put_at c.args.pos.now c.args.value c.in_ok-before.before c.self.inside.entries.entries c.exchange.new.values.entries c.self.inside.bytes c.length-added.result c.length.result c.self.invariant.0.rises c.self.invariant.1 c.in_ok-before.ensures.ok
+      node-put_at _ c.args.pos.now c.args.value c.exchange.new.entries.entries c.self.invariant.0 (subst (λ (n : Node). IsWithin n.least n.greatest c.args.pos.now) (sym c.self.view_is) c.requires.covered) c.requires.in_range c.exchange.ensures.rises c.in_ok-before.ensures.ok,
+      counted-put_at c.args.pos.now c.args.value c.in_ok-before.before c.self.inside.entries.entries c.exchange.new.entries.entries c.self.inside.bytes c.length-added.result c.length.result c.self.invariant.0.rises c.self.invariant.1 c.in_ok-before.ensures.ok
           c.in_ok-before.ensures.before c.length-added.ensures added c.length.ensures,
     )

@@ -9,20 +9,20 @@ use vol_types::{Duplicate, Key, Keys, Pos, Value};
 
 /// Puts a value at a position or takes it away, and gives the one that was there. An `Err` changes nothing.
 pub(crate) fn exchange(
-    values: &mut BTreeMap<Pos, Value>,
+    entries: &mut BTreeMap<Pos, Value>,
     pos: Pos,
     value: Option<Value>,
 ) -> Result<Option<Value>, AllocError>
-    ensures before { IfOk result (λ before. before ≡ value_at pos_cmp pos values.old.entries) }
-    ensures rises { IsMap pos_cmp values.new.entries }
-    ensures ok { OnOk result (values.new.entries ≡ put_at pos_cmp pos value values.old.entries) }
-    ensures err { OnErr result (values.new.entries ≡ values.old.entries) }
+    ensures before { IfOk result (λ before. before ≡ value_at pos_cmp pos entries.old.entries) }
+    ensures rises { IsMap pos_cmp entries.new.entries }
+    ensures ok { OnOk result (entries.new.entries ≡ put_at pos_cmp pos value entries.old.entries) }
+    ensures err { OnErr result (entries.new.entries ≡ entries.old.entries) }
     ensures put { OnErr result (IsSome value) }
-    ensures absent { OnErr result (value_at pos_cmp pos values.old.entries ≡ None) }
+    ensures absent { OnErr result (value_at pos_cmp pos entries.old.entries ≡ None) }
 {
     match value {
-        None => Ok(values.remove(&pos)),
-        Some(value) => Ok(values.insert(pos, value)?),
+        None => Ok(entries.remove(&pos)),
+        Some(value) => Ok(entries.insert(pos, value)?),
     }
 }
 
@@ -41,12 +41,12 @@ pub(crate) fn copy_map<K: Ord + Duplicate, V: Duplicate>(
     Ok(copy)
 }
 
-/// The values as keys, in their order.
-pub(crate) fn copy_keys(alloc: Global, values: &BTreeMap<Pos, Value>) -> Result<Keys, AllocError>
-    ensures { IfOk result (λ keys. keys ≡ keys_in values.now.entries) }
+/// The entries as keys, in their order. It copies each value.
+pub(crate) fn copy_keys(alloc: Global, entries: &BTreeMap<Pos, Value>) -> Result<Keys, AllocError>
+    ensures { IfOk result (λ keys. keys ≡ keys_in entries.now.entries) }
 {
     let mut keys = Keys::new(alloc);
-    for (pos, value) in values.iter() {
+    for (pos, value) in entries.iter() {
         keys.push(Key {
             pos: *pos,
             value: Some(value.copy(alloc)?),
