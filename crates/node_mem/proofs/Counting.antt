@@ -44,8 +44,13 @@ values-put_at : (P : Value → Type 0) (pos : Pos) (value : Option Value) (entri
 values-put_at P pos None entries all put = All-map-remove_entry (is_at (pos_cmp pos)) (λ e. e.1) P entries all
 values-put_at P pos (Some value) entries all put = All-values-insert_entry pos_cmp pos value P entries all put
 
-keys-put_at : (P : Pos → Type 0) (pos : Pos) (value : Option Value) (entries : Entries) → All P (keys_of entries) → P pos → All P (keys_of (put_at pos_cmp pos value entries))
-keys-put_at P pos None entries all put = All-map-remove_entry (is_at (pos_cmp pos)) (λ e. e.0) P entries all
+-- what holds of each position still does
+pub keys-without : (P : Pos → Type 0) (pos : Pos) (entries : Entries) → All P (keys_of entries) → All P (keys_of (put_at pos_cmp pos None entries))
+keys-without P pos entries all = All-map-remove_entry (is_at (pos_cmp pos)) (λ e. e.0) P entries all
+
+-- and where it holds of the position that gets a value
+pub keys-put_at : (P : Pos → Type 0) (pos : Pos) (value : Option Value) (entries : Entries) → All P (keys_of entries) → P pos → All P (keys_of (put_at pos_cmp pos value entries))
+keys-put_at P pos None entries all put = keys-without P pos entries all
 keys-put_at P pos (Some value) entries all put = All-keys-insert_entry pos_cmp pos value P entries all put
 
 in_range : (value : Option Value) → IsKeyValue value → IfSome value IsValue
@@ -68,7 +73,7 @@ node-put_at node pos value new is covered range rises eq = record {
 pub node-without : (node : Node) (pos : Pos) (new : Entries) → IsNode node → IsMap pos_cmp new → new ≡ put_at pos_cmp pos None node.entries → IsNode (with_entries node new)
 node-without node pos new is rises eq = record {
   rises = rises;
-  covered = subst (λ es. All (IsWithin node.least node.greatest) (keys_of es)) (sym eq) (All-map-remove_entry (is_at (pos_cmp pos)) (λ e. e.0) (IsWithin node.least node.greatest) node.entries is.covered);
+  covered = subst (λ es. All (IsWithin node.least node.greatest) (keys_of es)) (sym eq) (keys-without (IsWithin node.least node.greatest) pos node.entries is.covered);
   in_range = subst (λ es. All IsValue (values_of es)) (sym eq) (values-put_at IsValue pos None node.entries is.in_range tt);
 }
 

@@ -1,11 +1,11 @@
 //! A node of a btree in memory: the values of a range of positions, and how many bytes they take on disk.
 #![tactic(auto)]
 
-ghost use Rattle.std.specs.Prelude.{◌≡◌, [], length, map, All, option_copied, option_map, IsSome, IfOk, OnOk, OnErr};
+ghost use Rattle.std.specs.Prelude.{◌≡◌, ◌++◌, [], length, map, All, option_copied, option_map, IsSome, IfOk, OnOk, OnErr};
 ghost use Rattle.std.specs.Map.Iter.{deref_pair};
 ghost use Rattle.vol_types.specs.KeyMaps.{keys_in, first_from, entries_within};
 ghost use Rattle.vol_types.specs.Maps.{value_at, put_at};
-ghost use Rattle.vol_types.specs.Positions.{pos_cmp, IsWithin};
+ghost use Rattle.vol_types.specs.Positions.{pos_cmp, next_pos, IsBefore, IsWithin};
 ghost use Rattle.vol_types.specs.Ranges.{IsKeyValue};
 ghost use Rattle.node_mem.specs.Nodes.{IsNode, with_keys, entries_after, entries_up_to, first_of, last_of, middle_of, size_of};
 
@@ -13,12 +13,14 @@ mod changes;
 mod entries;
 mod lengths;
 mod sizing;
+mod splitting;
 
 pub use changes::Change;
 
 use crate::entries::{copy_keys, copy_map, exchange};
-use crate::lengths::length;
+use crate::lengths::{length, total};
 use crate::sizing::bytes_after;
+use crate::splitting::{follower, wide};
 use std::alloc::{AllocError, Global};
 use std::collections::{BTreeMap, btree_map};
 use std::marker::Model;
@@ -40,6 +42,9 @@ pub struct NodeMem {
 }
 
 impl Model for NodeMem {
+    ghost use Rattle.std.specs.Prelude.{All};
+    ghost use Rattle.std.specs.Map.{keys_of};
+    ghost use Rattle.vol_types.specs.Widths.{PosFits};
     ghost use Rattle.node_mem.specs.Counts.{IsCounted};
     ghost use Rattle.node_mem.specs.Nodes.{Node, IsNode};
 
@@ -47,7 +52,7 @@ impl Model for NodeMem {
 
     ghost view = { λ node. record { least = node.least; greatest = node.greatest; entries = node.entries.entries } };
 
-    ghost invariant = { λ node. IsNode (record { least = node.least; greatest = node.greatest; entries = node.entries.entries }) × IsCounted node.entries.entries node.bytes };
+    ghost invariant = { λ node. IsNode (record { least = node.least; greatest = node.greatest; entries = node.entries.entries }) × IsCounted node.entries.entries node.bytes × All PosFits (keys_of node.entries.entries) };
 }
 
 impl NodeMem {
@@ -168,7 +173,8 @@ impl NodeMem {
         let count = self.entries.len();
         prove!(count < 1 << 63);
         let added = length(&value);
-        let before = exchange(&mut self.entries, *pos, value)?;
+        let pos = wide(pos);
+        let before = exchange(&mut self.entries, pos, value)?;
         self.bytes = self.bytes + added as u128 - length(&before) as u128;
         Ok(before)
     }
@@ -181,6 +187,34 @@ impl NodeMem {
         let before = self.entries.remove(pos);
         self.bytes -= length(&before) as u128;
         before
+    }
+
+    /// Splits the node after a position that it covers, which isn't its greatest one: what stands up to the position stays,
+    /// and what stands after it comes back as a node of its own, whose range begins with the next position. It goes over
+    /// the values that leave.
+    pub fn split_off(&mut self, at: &Pos) -> Result<NodeMem, AllocError>
+        requires covered { IsWithin self.old.least self.old.greatest at.now }
+        requires before { IsBefore at.now self.old.greatest }
+        ensures stays { OnOk result (self.new ≡ record { least = self.old.least; greatest = at.now; entries = entries_up_to at.now self.old.entries }) }
+        ensures follows { IfOk result (λ second. next_pos at.now ≡ Some second.least) }
+        ensures ends { IfOk result (λ second. second.greatest ≡ self.old.greatest) }
+        ensures goes { IfOk result (λ second. second.entries ≡ entries_after at.now self.old.entries) }
+        ensures whole { IfOk result (λ second. self.old.entries ≡ self.new.entries ++ second.entries) }
+        // After an `Err` the node is as before.
+        ensures err { OnErr result (self.new ≡ self.old) }
+    {
+        let next = follower(at, &self.greatest);
+        let entries = self.entries.split_off(&next)?;
+        let bytes = total(&entries);
+        let second = NodeMem {
+            least: next,
+            greatest: self.greatest,
+            entries,
+            bytes: SET_HEAD + bytes,
+        };
+        self.greatest = *at;
+        self.bytes -= bytes;
+        Ok(second)
     }
 
     /// All values as keys, in their order. It copies each value.
