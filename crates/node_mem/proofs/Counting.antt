@@ -1,5 +1,5 @@
 -- What stays true of a node when a value is put or taken away.
-use Rattle.std.proofs.Common.{◌≡◌, ℕ, ◌+◌, ◌-◌, ◌^◌, ◌<◌, ◌≤◌, Option, Some, None, List, [], ◌∷◌, length, refl, sym, ap, ◌∙◌, subst, arith, lit<, add-zero}
+use Rattle.std.proofs.Common.{◌≡◌, ℕ, ◌+◌, ◌-◌, ◌^◌, ◌<◌, ◌≤◌, Option, Some, None, [], ◌∷◌, length, refl, sym, ap, ◌∙◌, subst, arith, lit<, add-zero}
 use Rattle.std.specs.Prelude.{All, sum_by, unwrap_or, option_map, IfSome}
 use Rattle.std.specs.Map.{keys_of, values_of}
 use Rattle.std.specs.BTreeMap.{is_at}

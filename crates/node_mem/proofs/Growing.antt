@@ -1,5 +1,5 @@
 -- How many bytes a node would take after changes, change by change.
-use Rattle.std.proofs.Common.{◌≡◌, ℕ, ◌+◌, ◌-◌, ◌*◌, ◌^◌, ◌<◌, ◌≤◌, Bool, true, false, cond, Option, Some, None, List, [], ◌∷◌, ◌++◌, length, map, take, get_or, refl, sym, ap, ◌∙◌, subst, arith}
+use Rattle.std.proofs.Common.{◌≡◌, ℕ, ◌+◌, ◌-◌, ◌*◌, ◌^◌, ◌<◌, ◌≤◌, Bool, true, false, cond, Some, List, [], ◌∷◌, ◌++◌, length, map, take, get_or, refl, sym, ap, ◌∙◌, arith}
 use Rattle.std.specs.Prelude.{unwrap_or}
 use Rattle.std.specs.BTreeMap.{is_at}
 use Rattle.std.proofs.lemmas.List.{length-append, map-append, take_more}
@@ -11,8 +11,7 @@ use Rattle.vol_types.specs.PositionLaws.{pos_total}
 use Rattle.vol_types.specs.Sets.{set_length_of}
 use Rattle.vol_types.specs.declared.keys.Key.{Key}
 use Rattle.vol_types.specs.declared.positions.Pos.{Pos}
-use Rattle.vol_types.specs.declared.values.Value.{Value}
-use Rattle.node_mem.specs.Counts.{IsCounted, length_of}
+use Rattle.node_mem.specs.Counts.{length_of}
 use Rattle.node_mem.specs.Nodes.{with_keys}
 use Rattle.node_mem.proofs.Counting.{length-put_at}
 

@@ -1,13 +1,11 @@
 -- What a node is after each key of a list was put or taken away in turn.
-use Rattle.std.proofs.Common.{◌≡◌, ℕ, Option, Some, None, List, [], ◌∷◌, ◌++◌, refl, sym, ap, subst, ◌∙◌}
+use Rattle.std.proofs.Common.{◌≡◌, List, [], ◌∷◌, sym, ap, subst, ◌∙◌}
 use Rattle.std.specs.Prelude.{All}
 use Rattle.std.proofs.lemmas.List.Elements.{All-head, All-tail}
 use Rattle.vol_types.specs.Maps.{put_at}
 use Rattle.vol_types.specs.Positions.{pos_cmp, IsWithin}
 use Rattle.vol_types.specs.Ranges.{IsKeyValue}
 use Rattle.vol_types.specs.declared.keys.Key.{Key}
-use Rattle.vol_types.specs.declared.positions.Pos.{Pos}
-use Rattle.vol_types.specs.declared.values.Value.{Value}
 use Rattle.node_mem.specs.Nodes.{Node, with_keys}
 
 -- The node became another one by some of the keys, and the rest may still be put.

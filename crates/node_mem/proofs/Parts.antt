@@ -1,5 +1,5 @@
 -- The parts of a node's values, by what `BTreeMap` says of its ranges.
-use Rattle.std.proofs.Common.{◌≡◌, ℕ, ◌+◌, ◌-◌, ◌<◌, Bool, true, false, not, ◌&&◌, Option, Some, None, List, [], ◌∷◌, ◌++◌, length, refl, sym, ap, ◌∙◌, arith}
+use Rattle.std.proofs.Common.{◌≡◌, ◌-◌, true, false, not, ◌&&◌, Option, Some, None, List, [], ◌∷◌, ◌++◌, length, refl, sym, ap, ◌∙◌, arith}
 use Rattle.std.specs.Prelude.{option_map, slice_get}
 use Rattle.std.specs.List.{filter}
 use Rattle.std.specs.Map.Iter.{TakesLast}
@@ -16,8 +16,8 @@ use Rattle.vol_types.specs.Positions.{pos_cmp}
 use Rattle.vol_types.specs.declared.positions.Pos.{Pos}
 use Rattle.vol_types.specs.declared.values.Value.{Value}
 use Rattle.vol_types.proofs.PositionOrder.{pos_total}
-use Rattle.vol_types.specs.KeyMaps.{Entries, entries_within}
-use Rattle.node_mem.specs.Nodes.{entries_up_to, last_of}
+use Rattle.vol_types.specs.KeyMaps.{entries_within}
+use Rattle.node_mem.specs.Nodes.{entries_up_to}
 
 -- an order turned round
 turned : (o : Ordering) → not (is_lt (ordering_reverse o)) ≡ is_le o

@@ -1,5 +1,5 @@
 -- What a split gives: the entries up to a position, and those from the next one on.
-use Rattle.std.proofs.Common.{◌≡◌, ◌≢◌, ℕ, ◌+◌, ◌-◌, ◌^◌, ◌<◌, ◌≤◌, Bool, true, false, cond, Some, None, List, [], ◌∷◌, ◌++◌, refl, sym, ap, ◌∙◌, subst, arith}
+use Rattle.std.proofs.Common.{◌≡◌, ◌≢◌, ℕ, ◌+◌, ◌-◌, ◌^◌, ◌<◌, Bool, true, false, cond, Some, None, List, [], ◌∷◌, ◌++◌, refl, sym, ap, ◌∙◌, subst, arith}
 use Rattle.std.specs.Prelude.{All, MatchOption, map, sum_by}
 use Rattle.std.specs.List.{filter}
 use Rattle.std.specs.Map.{keys_of, values_of}
@@ -16,7 +16,7 @@ use Rattle.vol_types.specs.KeyMaps.{Entries}
 use Rattle.vol_types.specs.Lengths.{key_length_of}
 use Rattle.vol_types.specs.Maps.{IsMap}
 use Rattle.vol_types.specs.Positions.{pos_cmp, IsWithin, IsBefore, IsNext, next_pos, pos_number, greatest_pos}
-use Rattle.vol_types.specs.PositionLaws.{pos_total, pos_cmp-number, pos_number-fits, next_pos-number}
+use Rattle.vol_types.specs.PositionLaws.{pos_cmp-number, pos_number-fits, next_pos-number}
 use Rattle.vol_types.specs.Ranges.{IsValue}
 use Rattle.vol_types.specs.Widths.{PosFits}
 use Rattle.vol_types.specs.declared.positions.Pos.{Pos}

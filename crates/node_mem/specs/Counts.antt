@@ -1,5 +1,5 @@
 -- What a node in memory keeps beside its values: how many bytes they take.
-use Rattle.std.specs.Prelude.{◌≡◌, ℕ, ◌<◌, ◌^◌, Option, Some, None, List, All, sum_by}
+use Rattle.std.specs.Prelude.{◌≡◌, ℕ, ◌<◌, ◌^◌, Option, Some, None, All, sum_by}
 use Rattle.std.specs.Map.{values_of}
 use Rattle.vol_types.specs.KeyMaps.{Entries, keys_in}
 use Rattle.vol_types.specs.Lengths.{key_length_of}

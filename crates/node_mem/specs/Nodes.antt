@@ -1,5 +1,5 @@
 -- What a node means: the values of a range of positions, as a finite map, and what is looked up in it.
-use Rattle.std.specs.Prelude.{◌≡◌, ℕ, ◌-◌, ◌/◌, ◌^◌, min, Option, Some, None, List, [], ◌∷◌, length, All, slice_get, if◌then◌else◌, nat_lt}
+use Rattle.std.specs.Prelude.{ℕ, ◌-◌, ◌/◌, ◌^◌, min, Option, None, List, [], ◌∷◌, length, All, slice_get, if◌then◌else◌, nat_lt}
 use Rattle.std.specs.List.{filter}
 use Rattle.std.specs.Map.{keys_of, values_of}
 use Rattle.std.specs.Ordering.{is_le, is_lt}

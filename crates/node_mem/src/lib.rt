@@ -11,11 +11,13 @@ ghost use Rattle.node_mem.specs.Nodes.{IsNode, with_keys, entries_after, entries
 
 mod changes;
 mod entries;
+mod laws;
 mod lengths;
 mod sizing;
 mod splitting;
 
 pub use changes::Change;
+pub use laws::{keys_are_merged, middles_halve, nodes_are_sets};
 
 use crate::entries::{copy_keys, copy_map, exchange};
 use crate::lengths::{length, total};

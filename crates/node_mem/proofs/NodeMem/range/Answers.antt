@@ -1,4 +1,4 @@
-use Rattle.std.proofs.Common.{◌∙◌, ap, rules}
+use Rattle.std.proofs.Common.{◌∙◌, rules}
 use Rattle.node_mem.proofs.Parts.{within-range, crossed-range}
 use Rattle.node_mem.proofs.NodeMem.range.Goals as goal
 

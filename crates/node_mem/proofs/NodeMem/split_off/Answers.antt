@@ -1,4 +1,4 @@
-use Rattle.std.proofs.Common.{◌≡◌, ◌+◌, ap, sym, ◌∙◌, arith}
+use Rattle.std.proofs.Common.{ap, ◌∙◌, arith}
 use Rattle.node_mem.specs.Nodes.{Node, entries_after, entries_up_to}
 use Rattle.node_mem.proofs.Split.{second_in_range, bytes_split, first_is, second_is, first_kept, second_kept}
 use Rattle.node_mem.proofs.NodeMem.split_off.Goals as goal

@@ -1,4 +1,4 @@
-use Rattle.std.proofs.Common.{◌≡◌, ◌+◌, ◌≤◌, ◌*◌, ◌^◌, ◌<◌, length}
+use Rattle.std.proofs.Common.{◌≡◌, ◌+◌, ◌≤◌, ◌*◌, ◌^◌, length}
 use Rattle.std.specs.Prelude.{All, Some, sum_by}
 use Rattle.vol_types.specs.Lengths.{key_length_of}
 use Rattle.vol_types.specs.Ranges.{IsValue}
