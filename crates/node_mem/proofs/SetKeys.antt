@@ -78,5 +78,5 @@ pub node-with_keys : (keys : List Key) (node : Node) → IsNode node → All (λ
 node-with_keys [] node is covered range = is
 node-with_keys (key ∷ keys) node is covered range =
     let here = node-put_at node key.pos key.value (put_at pos_cmp key.pos key.value node.entries) is (All-head (λ key. IsWithin node.least node.greatest key.pos) key keys covered) (All-head (λ key. IsKeyValue key.value) key keys range)
-        (IsMap-put_at pos_total key.pos key.value node.entries is.rises) refl in
+    (IsMap-put_at pos_total key.pos key.value node.entries is.rises) refl in
     node-with_keys keys (with_entries node (put_at pos_cmp key.pos key.value node.entries)) here (All-tail (λ key. IsWithin node.least node.greatest key.pos) key keys covered) (All-tail (λ key. IsKeyValue key.value) key keys range)

@@ -16,13 +16,12 @@ mod lengths;
 mod sizing;
 mod splitting;
 
-pub use changes::Change;
-pub use laws::{keys_are_merged, middles_halve, nodes_are_sets};
-
 use crate::entries::{copy_keys, copy_map, exchange};
 use crate::lengths::{length, total};
 use crate::sizing::bytes_after;
 use crate::splitting::{follower, wide};
+pub use changes::Change;
+pub use laws::{keys_are_merged, middles_halve, nodes_are_sets};
 use std::alloc::{AllocError, Global};
 use std::collections::{BTreeMap, btree_map};
 use std::marker::Model;
@@ -118,7 +117,9 @@ impl NodeMem {
     pub fn next_after(&self, pos: &Pos) -> Option<(&Pos, &Value)>
         ensures { option_map deref_pair result ≡ first_of (entries_after pos.now self.now.entries) }
     {
-        self.entries.range((Bound::Excluded(*pos), Bound::Unbounded)).next()
+        self.entries
+            .range((Bound::Excluded(*pos), Bound::Unbounded))
+            .next()
     }
 
     /// The last value at this position or before it, with its position.
@@ -143,7 +144,8 @@ impl NodeMem {
         if first > last {
             return self.entries.range(*first..*first);
         }
-        self.entries.range((Bound::Included(*first), Bound::Included(*last)))
+        self.entries
+            .range((Bound::Included(*first), Bound::Included(*last)))
     }
 
     /// The middle one of the positions of two or more values, which is not the last: a split there halves their number.
@@ -272,7 +274,6 @@ impl Duplicate for NodeMem {
         })
     }
 }
-
 
 #[cfg(test)]
 mod tests;

@@ -12,9 +12,15 @@ pub overflow_add-after : goal.overflow_add-after
 overflow_add-after g c =
     let added : c.borrowed_length-added.result < 2 ^ 32 = omega (arith, c.borrowed_length-added.type_inv) in
     let few : length c.args.changes.now < 2 ^ 64 = omega arith in
-    omega
-    (arith, added, few, bytes-fit c.args.entries.now.entries c.args.bytes c.borrowed_length-added.result c.requires.counted (omega (arith, c.len-count.ensures.small, c.len-count.ensures.len)) added, c.loop-change.invariant.bound,
-    length-map (take c.loop-change.change-index c.args.changes.now) g.C.Change.key, length-take-le c.loop-change.change-index c.args.changes.now (omega (arith, c.loop-change-test.true)))
+    omega (
+      arith,
+      added,
+      few,
+      bytes-fit c.args.entries.now.entries c.args.bytes c.borrowed_length-added.result c.requires.counted (omega (arith, c.len-count.ensures.small, c.len-count.ensures.len)) added,
+      c.loop-change.invariant.bound,
+      length-map (take c.loop-change.change-index c.args.changes.now) g.C.Change.key,
+      length-take-le c.loop-change.change-index c.args.changes.now (omega (arith, c.loop-change-test.true)),
+    )
 
 pub overflow_sub-after : goal.overflow_sub-after
 overflow_sub-after g c =
