@@ -2,7 +2,7 @@
 //! sorted list.
 
 ghost use Rattle.std.specs.Prelude.{◌≡◌};
-ghost use Rattle.vol_types.specs.Ranges.{IsValue};
+ghost use Rattle.vol_types.specs.Ranges.{IsValue, IsKeyValue};
 
 use super::*;
 use std::test::Fail;
@@ -51,6 +51,53 @@ fn steps(rt: HostRuntime) -> Result<(), Fail> {
     Ok(())
 }
 
+fn key(offset: u64, value: Option<Value>) -> Key
+    requires { IsKeyValue value }
+    ensures place { result.pos ≡ record { inode = 0; offset = offset; snapshot = 7 } }
+    ensures in_range { IsKeyValue result.value }
+{
+    Key {
+        pos: at(offset),
+        value,
+    }
+}
+
+// A removal and a value at one position, the later of which counts, and the removal of another.
+#[test]
+fn merged_keys(rt: HostRuntime) -> Result<(), Fail> {
+    let alloc = rt.alloc();
+    let mut node = NodeMem::new(alloc, &Pos::LEAST, &Pos::GREATEST)?;
+    node.put(&at(2), Some(Value::White))?;
+    node.put(&at(5), Some(Value::Gone))?;
+    let mut keys = Keys::new(alloc);
+    keys.push(key(3, None))?;
+    keys.push(key(3, Some(Value::Counter { next: 4 })))?;
+    keys.push(key(2, None))?;
+    assert_eq!(rt; node.size_after(alloc, keys.as_slice())?, 106);
+    assert_eq!(rt; node.size(), 98);
+    let copy = node.copy(alloc)?;
+    let merged = node.merged(keys)?;
+    assert_eq!(rt; merged.size(), 106);
+    let keys = merged.keys(alloc)?;
+    assert!(rt;
+        matches!(
+            keys.as_slice(),
+            [
+                Key {
+                    value: Some(Value::Counter { next: 4 }),
+                    ..
+                },
+                Key {
+                    value: Some(Value::Gone),
+                    ..
+                }
+            ]
+        )
+    );
+    assert_eq!(rt; copy.middle(), Some(at(2)));
+    Ok(())
+}
+
 // What a plain sorted list has: an offset, and the number that its value is made of.
 type Plain = Vec<(u64, u64)>;
 
@@ -64,6 +111,24 @@ fn value_of(number: u64) -> Value
             blocks: (number % 4096) as u32 + 1,
         },
         _ => Value::Counter { next: number },
+    }
+}
+
+fn is_value_of(value: &Value, number: u64) -> bool {
+    match value {
+        Value::White => number % 3 == 0,
+        Value::Hole { blocks } => number % 3 == 1 && u64::from(*blocks) == number % 4096 + 1,
+        Value::Counter { next } => number % 3 == 2 && *next == number,
+        _ => false,
+    }
+}
+
+// Whether the value that was there is that of the number, if there was one.
+fn was(before: &Option<Value>, number: Option<u64>) -> bool {
+    match (before, number) {
+        (None, None) => true,
+        (Some(value), Some(number)) => is_value_of(value, number),
+        _ => false,
     }
 }
 
@@ -148,7 +213,7 @@ fn has_range(node: &NodeMem, plain: &[(u64, u64)], first: u64, last: u64) -> boo
         match found.next() {
             None => return false,
             Some((pos, value)) => {
-                if pos.offset != *place || *value != value_of(*number) {
+                if pos.offset != *place || !is_value_of(value, *number) {
                     return false;
                 }
             }
@@ -180,7 +245,7 @@ fn put_one(
         None => node.remove(&pos),
         Some(number) => node.put(&pos, Some(value_of(number)))?,
     };
-    Ok(before == plain_at(plain, offset).map(value_of))
+    Ok(was(&before, plain_at(plain, offset)))
 }
 
 // Whether both parts of a node, split after an offset, are those of the list.
