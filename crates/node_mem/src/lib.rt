@@ -13,11 +13,13 @@ mod changes;
 mod entries;
 mod laws;
 mod lengths;
+mod positions;
 mod sizing;
 mod splitting;
 
 use crate::entries::{copy_keys, copy_map, exchange};
 use crate::lengths::{length, total};
+use crate::positions::middle_after;
 use crate::sizing::bytes_after;
 use crate::splitting::{follower, wide};
 pub use changes::Change;
@@ -237,6 +239,18 @@ impl NodeMem {
     {
         let bytes = bytes_after(alloc, &self.entries, self.bytes, changes)?;
         Ok(u32::try_from(bytes).unwrap_or(u32::MAX))
+    }
+
+    /// The middle one of the positions that the node would hold after the changes, as `middle` says. It makes none of them,
+    /// and goes over the positions of the node, with memory for each.
+    pub fn middle_after<C: Change>(
+        &self,
+        alloc: Global,
+        changes: &[C],
+    ) -> Result<Option<Pos>, AllocError>
+        ensures { IfOk result (λ at. at ≡ middle_of (with_keys (map C.key changes.now) self.now.entries)) }
+    {
+        middle_after(alloc, &self.entries, changes)
     }
 
     // Puts the key's value at its position, or takes the one there away.

@@ -74,6 +74,7 @@ fn merged_keys(rt: HostRuntime) -> Result<(), Fail> {
     keys.push(key(3, Some(Value::Counter { next: 4 })))?;
     keys.push(key(2, None))?;
     assert_eq!(rt; node.size_after(alloc, keys.as_slice())?, 106);
+    assert_eq!(rt; node.middle_after(alloc, keys.as_slice())?, Some(at(3)));
     assert_eq!(rt; node.size(), 98);
     let copy = node.copy(alloc)?;
     let merged = node.merged(keys)?;
