@@ -5,11 +5,15 @@
 #![tactic(auto)]
 
 mod fault;
+mod links;
 mod split;
+mod steps;
 mod tree;
+mod update;
 
 pub use fault::SnapFault;
 pub use split::Split;
+pub use steps::Steps;
 pub use tree::SnapTree;
 
 #[cfg(test)]

@@ -1,0 +1,4 @@
+mod Places
+mod Walking
+mod Cursors
+mod Linking
