@@ -1,4 +1,3 @@
-mod Places
 mod Walking
 mod Cursors
 mod Linking

@@ -11,7 +11,7 @@ use Rattle.snap_tree.specs.Snaps.{Snaps, chain_of, chain_above}
 use Rattle.snap_tree.specs.ChainLaws.{chain_of-rises}
 use Rattle.snap_tree.specs.TreeLaws.{HasParent}
 use Rattle.snap_tree.specs.Links.{AllLinks, HasLinks, AllHaveLinks, link_in, link_at}
-use Rattle.snap_tree.proofs.Places.{chain_of_member, chain_begins, member_there, inside, leads_on}
+use Rattle.snap_tree.specs.Places.{chain_of_member, chain_begins, member_there, inside, leads_on}
 
 pub twice : (k : ℕ) → 2 ^ (k + 1) ≡ 2 ^ k + 2 ^ k
 twice k = let p : 2 ^ (k + 1) ≡ 2 ^ k * 2 = ap (λ n. 2 ^ n) (omega arith) ∙ pow-suc 2 k in omega (arith, p)

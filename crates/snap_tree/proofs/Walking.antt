@@ -1,26 +1,16 @@
 -- A search for an ancestor goes up a chain by links that halve, and ends at the last member that isn't past what it looks for.
 use Rattle.std.proofs.Common.{◌≡◌, ℕ, zero, suc, ◌+◌, ◌-◌, ◌*◌, ◌^◌, ◌<◌, ◌≤◌, Bool, true, false, List, [], ◌∷◌, refl, sym, ap, ◌∙◌, subst, arith, ⊎_elim, inl, inr, length, drop, get_or}
 use Rattle.std.specs.Prelude.{◌⊎◌, ◌==◌, ◌||◌, nat_eq}
-use Rattle.std.specs.List.{AllByRecursion, list_any}
+use Rattle.std.specs.List.{list_any}
 use Rattle.std.specs.List.Sorted.{IsStrictlySortedBy}
 use Rattle.std.specs.Ordering.{nat_cmp}
-use Rattle.std.specs.declared.cmp.Ordering.TheVariants.{Less}
 use Rattle.std.proofs.Math.Nat.{pow-suc}
 use Rattle.std.proofs.lemmas.Nat.{pow_pos, mul-le}
 use Rattle.std.proofs.lemmas.Bool.{eq-eqb, ne_eqb, cases_lt, cases_eq}
-use Rattle.std.proofs.lemmas.Cmp.{ranked}
 use Rattle.std.proofs.lemmas.List.{get_or-drop}
-use Rattle.std.proofs.lemmas.Map.Keys.{sorted_head, sorted_tail, below_from_sorted}
-use Rattle.snap_tree.proofs.Places.{past_end, inside}
-
--- nothing is among numbers above it
-none_among : (a x : ℕ) (ids : List ℕ) → a < x → AllByRecursion (λ y. nat_cmp x y ≡ Less) ids → list_any (nat_eq a) ids ≡ false
-none_among a x [] lt all = refl
-none_among a x (y ∷ ids) lt all = ap (λ b. b || list_any (nat_eq a) ids) (ne_eqb a y (omega (arith, lt, ranked x y Less (sym all.0)))) ∙ none_among a x ids lt all.1
-
--- nothing is among rising numbers of which the first is above it
-pub none_above : (a x : ℕ) (ids : List ℕ) → IsStrictlySortedBy nat_cmp (x ∷ ids) → a < x → list_any (nat_eq a) (x ∷ ids) ≡ false
-none_above a x ids rises lt = ap (λ b. b || list_any (nat_eq a) ids) (ne_eqb a x (omega (arith, lt))) ∙ none_among a x ids lt (sorted_head nat_cmp x ids rises)
+use Rattle.std.proofs.lemmas.Map.Keys.{sorted_tail, below_from_sorted}
+use Rattle.snap_tree.specs.Rising.{none_above}
+use Rattle.snap_tree.specs.Places.{past_end, inside}
 
 -- nothing is among rising numbers that stands between two neighbours, or after the last one
 none_between : (a : ℕ) (ids : List ℕ) (p : ℕ) → IsStrictlySortedBy nat_cmp ids → p < length ids → get_or ids p 0 < a → (length ids ≤ suc p) ⊎ (a < get_or ids (suc p) 0) → list_any (nat_eq a) ids ≡ false

@@ -7,7 +7,7 @@ use Rattle.vol_types.specs.Maps.{value_at}
 use Rattle.snap_tree.specs.Snaps.{Snaps, chain_of}
 use Rattle.snap_tree.specs.ChainLaws.{chain_of-rises, none_in_chain}
 use Rattle.snap_tree.specs.Walks.{ancestors}
-use Rattle.snap_tree.proofs.Places.{chain_begins}
+use Rattle.snap_tree.specs.Places.{chain_begins}
 use Rattle.snap_tree.proofs.Linking.{twice, member_leads}
 use Rattle.snap_tree.proofs.Walking.{begin, follow, stay, tells, few_steps, none_below}
 use Rattle.snap_tree.proofs.tree.SnapTree.search.Goals as goal

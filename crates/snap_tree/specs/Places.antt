@@ -1,7 +1,7 @@
 -- The members of a chain by their places: the first is the id, each has what follows it as its own chain, and all are there.
 use Rattle.std.proofs.Common.{◌≡◌, ℕ, zero, suc, ◌+◌, ◌<◌, ◌≤◌, Bool, true, false, cond, Option, Some, None, List, [], ◌∷◌, refl, sym, ap, ◌∙◌, subst, arith, ⊎_elim, inl, inr, length, drop, get_or}
-use Rattle.std.specs.Prelude.{◌⊎◌, ◌==◌, IsSome}
-use Rattle.std.specs.List.{AllByRecursion}
+use Rattle.std.specs.Prelude.{◌⊎◌, ◌==◌, nat_eq, is_some, IsSome}
+use Rattle.std.specs.List.{AllByRecursion, list_any}
 use Rattle.std.specs.Ordering.{nat_cmp}
 use Rattle.std.specs.declared.cmp.Ordering.TheVariants.{Less}
 use Rattle.std.specs.List.Sorted.{IsStrictlySortedBy}
@@ -11,7 +11,8 @@ use Rattle.std.proofs.lemmas.List.{get_or_past, get_or-drop, length-drop}
 use Rattle.std.proofs.lemmas.Map.Keys.{below_from_sorted}
 use Rattle.vol_types.specs.Maps.{IsMap, value_at}
 use Rattle.vol_types.specs.declared.values.Snap.{Snap}
-use Rattle.snap_tree.specs.Snaps.{Snaps, chain_of, chain_above}
+use Rattle.snap_tree.specs.Snaps.{Snaps, chain_of, chain_above, is_ancestor_of}
+use Rattle.snap_tree.specs.Rising.{none_above}
 use Rattle.snap_tree.specs.ChainLaws.{same_test, first_least, others_rise, past, chain_of-none, chain_above_all, chain_of-rises}
 
 -- what holds of all members holds of the one at a place
@@ -94,3 +95,15 @@ chain_fits snaps id parent most is lt (inl none) =
 chain_fits snaps id parent most is lt (inr up) =
     let goes : chain_above snaps parent ≡ chain_of snaps parent = ap (λ b. cond b [] (chain_of snaps parent)) (ne_eqb parent 0 (λ none. omega (arith, up.0, none))) in
     omega (arith, up.0, up.1, ap length is, ap length goes)
+
+-- an ancestor isn't below the id
+pub ancestor_above : (snaps : Snaps) (ancestor id : ℕ) → IsMap nat_cmp snaps → is_ancestor_of snaps ancestor id ≡ true → id ≤ ancestor
+ancestor_above snaps ancestor id rises is = ⊎_elim (λ (lt : ancestor < id). absurd (here (value_at nat_cmp id snaps) refl lt)) (λ (le : id ≤ ancestor). le) (cases_lt ancestor id)
+  where
+    first : (ids : List ℕ) → IsStrictlySortedBy nat_cmp ids → (0 < length ids) × (get_or ids 0 0 ≡ id) → ancestor < id → list_any (nat_eq ancestor) ids ≡ false
+    first [] up begins lt = refl
+    first (x ∷ ids) up begins lt = none_above ancestor x ids up (omega (arith, lt, begins.1))
+
+    here : (o : Option Snap) → value_at nat_cmp id snaps ≡ o → ancestor < id → ⊥
+    here None none lt = cc (is, ap (list_any (nat_eq ancestor)) (chain_of-none snaps id none))
+    here (Some snap) found lt = cc (is, first (chain_of snaps id) (chain_of-rises snaps id rises) (chain_begins snaps id (ap is_some found)) lt)
