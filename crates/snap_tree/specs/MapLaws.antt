@@ -21,7 +21,7 @@ pub value_at-cons : (e : ℕ × Snap) (snaps : Snaps) (x : ℕ) → value_at nat
 value_at-cons e snaps x = ap (λ b. cond b (Some e.1) (value_at nat_cmp x snaps)) (same_test x e.0)
 
 -- what no id is above is not found
-not_above : (k x : ℕ) (snaps : Snaps) → AllAbove k snaps → (x ≡ k) ⊎ (x < k) → value_at nat_cmp x snaps ≡ None
+pub not_above : (k x : ℕ) (snaps : Snaps) → AllAbove k snaps → (x ≡ k) ⊎ (x < k) → value_at nat_cmp x snaps ≡ None
 not_above k x [] all low = refl
 not_above k x (e ∷ snaps) all low = value_at-cons e snaps x ∙ ap (λ b. cond b (Some e.1) (value_at nat_cmp x snaps)) (ne_eqb e.0 x (λ same. apart low same)) ∙ not_above k x snaps all.1 low
   where

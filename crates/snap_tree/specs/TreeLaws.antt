@@ -11,7 +11,7 @@ use Rattle.snap_tree.specs.Snaps.{Snaps, is_there, is_joined, are_trees}
 use Rattle.snap_tree.specs.ChainLaws.{same_test}
 use Rattle.snap_tree.specs.MapLaws.{trees_from_found}
 
-both : (a b : Bool) → (a && b) ≡ true → (a ≡ true) × (b ≡ true)
+pub both : (a b : Bool) → (a && b) ≡ true → (a ≡ true) × (b ≡ true)
 both true b is = (refl, is)
 both false b is = absurd (cc)
 

@@ -56,23 +56,36 @@ fn links_of(snaps: &BTreeMap<u32, Snap>, links: &BTreeMap<u32, Links>, id: u32) 
     Links { above }
 }
 
-/// Makes the links of this id and of all smaller ones, where all greater ids have theirs. Each costs a few logarithms of
-/// the number of all ids.
+/// Makes the links of this id and of all smaller ones, where all greater ids have theirs, and all ids have room for them.
+/// Each costs a few logarithms of the number of all ids. It takes no memory.
 pub(crate) fn relink(
     snaps: &BTreeMap<u32, Snap>,
     links: &mut BTreeMap<u32, Links>,
     greatest: Option<u32>,
-) -> Result<(), AllocError>
+)
     requires tree { IsSnapTree snaps.now.entries }
     requires there { IfSome greatest (λ id. IsSome (value_at nat_cmp id snaps.now.entries)) }
     requires above { (id : ℕ) → IsPast greatest id → IsSome (value_at nat_cmp id snaps.now.entries) → HasLinks snaps.now.entries links.old.entries id }
-    ensures { OnOk result (AllHaveLinks snaps.now.entries links.new.entries) }
+    requires roomy { (id : ℕ) → IsSome (value_at nat_cmp id snaps.now.entries) → IsSome (value_at nat_cmp id links.old.entries) }
+    ensures { AllHaveLinks snaps.now.entries links.new.entries }
 {
     let mut next = greatest;
     while let Some(id) = next {
         let own = links_of(snaps, links, id);
-        links.insert(id, own)?;
+        if links.insert(id, own).is_err() {
+            unreachable!()
+        }
         next = last_below(snaps, id);
+    }
+}
+
+/// Makes room for the links of an id.
+pub(crate) fn make_room(links: &mut BTreeMap<u32, Links>, id: u32) -> Result<(), AllocError>
+    ensures ok { OnOk result (IsSome (value_at nat_cmp id links.new.entries)) }
+    ensures kept { (other : ℕ) → IsSome (value_at nat_cmp other links.old.entries) → value_at nat_cmp other links.new.entries ≡ value_at nat_cmp other links.old.entries }
+{
+    if !links.contains_key(&id) {
+        links.insert(id, Links { above: [0; 32] })?;
     }
     Ok(())
 }

@@ -8,7 +8,7 @@ ghost use Rattle.vol_types.specs.declared.values.Snap.{Snap as ASnap};
 ghost use Rattle.snap_tree.specs.TreeLaws.{HasParent};
 ghost use Rattle.snap_tree.specs.Walks.{FollowsFew, ancestors};
 
-use crate::links::{LEVELS, Links, last, link, relink};
+use crate::links::{LEVELS, Links, last, link, make_room, relink};
 use crate::split::{interior_over, leaf_under, snap_update};
 use crate::{SnapFault, Split, Steps};
 use std::alloc::{AllocError, Global};
@@ -58,17 +58,20 @@ impl SnapTree {
         ensures fault { IfErr result (TreesFail (snaps_in keys.now)) }
     {
         let mut snaps = BTreeMap::new(alloc);
+        let mut links = BTreeMap::new(alloc);
         for key in keys.as_slice() {
             let Some(Value::Snap(snap)) = &key.value else {
                 unreachable!()
             };
-            snaps.insert(key.pos.offset as u32, *snap)?;
+            let id = key.pos.offset as u32;
+            make_room(&mut links, id)?;
+            snaps.insert(id, *snap)?;
         }
         if !are_trees(&snaps) {
             return Err(SnapFault::NoNode);
         }
-        let mut links = BTreeMap::new(alloc);
-        relink(&snaps, &mut links, last(&snaps))?;
+        let greatest = last(&snaps);
+        relink(&snaps, &mut links, greatest);
         let live = count_live(&snaps);
         Ok(SnapTree {
             snaps,
@@ -278,7 +281,7 @@ pub(crate) fn are_trees(snaps: &BTreeMap<u32, Snap>) -> bool
 }
 
 // Whether the parent and the children of an id are there, and the parent is above it.
-fn is_joined(snaps: &BTreeMap<u32, Snap>, id: u32, snap: &Snap) -> bool
+pub(crate) fn is_joined(snaps: &BTreeMap<u32, Snap>, id: u32, snap: &Snap) -> bool
     ensures { result ≡ is_joined snaps.now.entries id snap.now }
 {
     is_there(snaps, snap.parent)

@@ -8,7 +8,7 @@ use Rattle.snap_tree.proofs.links.relink.Given as goal
 
 abbrev pub invariant-loop-next : goal.invariant-loop-next
 invariant-loop-next l =
-    ((id : ℕ) → IsPast l.next id → IsSome (value_at nat_cmp id l.snaps.entries) → HasLinks l.snaps.entries l.links.entries id) × IfSome l.next (λ id. IsSome (value_at nat_cmp id l.snaps.entries))
+    ((id : ℕ) → IsPast l.next id → IsSome (value_at nat_cmp id l.snaps.entries) → HasLinks l.snaps.entries l.links.entries id) × ((id : ℕ) → IsSome (value_at nat_cmp id l.snaps.entries) → IsSome (value_at nat_cmp id l.links.entries)) × IfSome l.next (λ id. IsSome (value_at nat_cmp id l.snaps.entries))
 
 abbrev pub decreases-loop-next : goal.decreases-loop-next
 decreases-loop-next l = left l.next
