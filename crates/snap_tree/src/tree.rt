@@ -6,6 +6,7 @@ ghost use Rattle.snap_tree.specs.Snaps.{IsSnapKey, IsSnapTree, snaps_in, is_ther
 ghost use Rattle.snap_tree.specs.Splits.{IsSplit, SplitFails, ChainFails, TreesFail};
 ghost use Rattle.vol_types.specs.declared.values.Snap.{Snap as ASnap};
 ghost use Rattle.snap_tree.specs.TreeLaws.{HasParent};
+ghost use Rattle.snap_tree.specs.Updates.{IsFitting};
 ghost use Rattle.snap_tree.specs.Walks.{FollowsFew, ancestors};
 
 use crate::links::{LEVELS, Links, last, link, make_room, relink};
@@ -206,6 +207,7 @@ impl SnapTree {
     /// Splits a live leaf for a snapshot, where `next` is the next id to be drawn, and the one below it is drawn too.
     pub fn split_leaf(&self, id: u32, next: u32) -> Result<Split, SnapFault>
         ensures ok { IfOk result (IsSplit self.now id next) }
+        ensures fitting { IfOk result (λ split. All IsFitting split.updates) }
         ensures fault { IfErr result (SplitFails self.now id next) }
     {
         if next < 2 {

@@ -4,7 +4,7 @@ ghost use Rattle.std.specs.Ordering.{nat_cmp};
 ghost use Rattle.vol_types.specs.Maps.{IsMap, value_at};
 ghost use Rattle.snap_tree.specs.Snaps.{IsSnapTree, live_leaves};
 ghost use Rattle.snap_tree.specs.Splits.{TreesFail};
-ghost use Rattle.snap_tree.specs.Links.{IsPast};
+ghost use Rattle.snap_tree.specs.Links.{AllHaveLinks, IsPast};
 ghost use Rattle.snap_tree.specs.Changes.{AreChanged, AreLinksKept, changed_id, record_of, restored, live_of, is_fine, are_fine, is_put};
 ghost use Rattle.snap_tree.specs.Updates.{IsFitting, snaps_after, with_update};
 
@@ -18,6 +18,10 @@ use vol_types::{Btree, Snap, Update, Updates, Value};
 impl SnapTree {
     /// Makes the updates of a commit to the records of ids, and passes over those of other btrees. An `Err` changes
     /// nothing. `NoNode` means that the records would make no trees.
+    ///
+    /// Each update costs a few logarithms of the number of ids. The links of an id that is new or gets another parent, and
+    /// those of all ids with smaller numbers, are made anew, each at the cost of 32 logarithms; the ids of a snapshot are
+    /// the smallest ones. Where an update takes a record away, all records are copied and tested once.
     pub fn apply(&mut self, updates: &Updates) -> Result<(), SnapFault>
         requires { All IsFitting updates.now }
         ensures ok { OnOk result (self.new ≡ snaps_after self.old updates.now) }
@@ -29,11 +33,34 @@ impl SnapTree {
             top: None,
             live: self.live,
         };
-        let after = change(&mut self.snaps, &mut self.links, before, updates)?;
-        let greatest = first_to_link(&self.snaps, after.top);
-        relink(&self.snaps, &mut self.links, greatest);
-        self.live = after.live;
-        Ok(())
+        match change(&mut self.snaps, &mut self.links, before, updates) {
+            Ok(after) => {
+                let greatest = first_to_link(&self.snaps, after.top);
+                relink(&self.snaps, &mut self.links, greatest);
+                forget(&self.snaps, &mut self.links, updates);
+                self.live = after.live;
+                Ok(())
+            }
+            Err(fault) => {
+                forget(&self.snaps, &mut self.links, updates);
+                Err(fault)
+            }
+        }
+    }
+}
+
+// Drops the links of the ids that updates change and that aren't there.
+fn forget(snaps: &BTreeMap<u32, Snap>, links: &mut BTreeMap<u32, Links>, updates: &Updates)
+    requires fitting { All IsFitting updates.now }
+    requires linked { AllHaveLinks snaps.now.entries links.old.entries }
+    ensures { AllHaveLinks snaps.now.entries links.new.entries }
+{
+    for update in updates.as_slice() {
+        if let Some(id) = changed_id(update) {
+            if !snaps.contains_key(&id) {
+                links.remove(&id);
+            }
+        }
     }
 }
 
