@@ -32,7 +32,7 @@ roomed old was now top rises roomy kept = record {
   rises = rises;
   roomy = λ id there. kept_room was now kept id (roomy id there);
   kept = kept;
-  same = λ id snap past is. record { snap = snap; found = is; same = refl }
+  same = λ id snap past is. record { snap = snap; found = is; same = refl };
 }
 
 -- a record that is put keeps its parent, or is none of those that do
@@ -42,7 +42,7 @@ put old was now top id snap rises roomy kept room had = record {
   rises = rises-with old id snap rises;
   roomy = λ other there. roomy_at other (id == other) refl (subst IsSome (value_at-with old id other snap) there);
   kept = kept;
-  same = λ other found past is. same_at other found past (id == other) refl (sym (value_at-with old id other snap) ∙ is)
+  same = λ other found past is. same_at other found past (id == other) refl (sym (value_at-with old id other snap) ∙ is);
 }
   where
     roomy_at : (other : ℕ) (b : Bool) → (id == other) ≡ b → IsSome (cond b (Some snap) (value_at nat_cmp other old)) → IsSome (value_at nat_cmp other now)
@@ -61,7 +61,7 @@ taken old links top id rises roomy = record {
   rises = rises-without old id rises;
   roomy = λ other there. roomy other (was_at other (id == other) (subst IsSome (value_at-without old id other rises) there));
   kept = λ other room. refl;
-  same = λ other found past is. record { snap = found; found = found_at other found (id == other) (sym (value_at-without old id other rises) ∙ is); same = refl }
+  same = λ other found past is. record { snap = found; found = found_at other found (id == other) (sym (value_at-without old id other rises) ∙ is); same = refl };
 }
   where
     was_at : (other : ℕ) (b : Bool) → IsSome (cond b None (value_at nat_cmp other old)) → IsSome (value_at nat_cmp other old)
@@ -78,7 +78,7 @@ changed_then old middle new was then now top later one two grows = record {
   rises = two.rises;
   roomy = two.roomy;
   kept = λ id room. two.kept id (kept_room was then one.kept id room) ∙ one.kept id room;
-  same = λ id snap past is. had id snap past (two.same id snap past is)
+  same = λ id snap past is. had id snap past (two.same id snap past is);
 }
   where
     had : (id : ℕ) (snap : Snap) → IsPast later id → HadParent middle id snap.parent → HadParent old id snap.parent

@@ -190,7 +190,7 @@ put_trees snaps updates tree puts fine =
     let rises = rises_after snaps updates tree.rises in
     record {
       rises = rises;
-      trees = trees_more snaps new (still_there snaps updates puts) rises tree.trees (λ x snap is. ⊎_elim (λ (was : value_at nat_cmp x snaps ≡ Some snap). inl was) (λ (joined : is_joined_maybe new x (value_at nat_cmp x new) ≡ true). inr (subst (λ o. is_joined_maybe new x o ≡ true) is joined)) (left_or_changed new snaps updates puts fine x snap is))
+      trees = trees_more snaps new (still_there snaps updates puts) rises tree.trees (λ x snap is. ⊎_elim (λ (was : value_at nat_cmp x snaps ≡ Some snap). inl was) (λ (joined : is_joined_maybe new x (value_at nat_cmp x new) ≡ true). inr (subst (λ o. is_joined_maybe new x o ≡ true) is joined)) (left_or_changed new snaps updates puts fine x snap is));
     }
 
 -- each of several updates takes no record away

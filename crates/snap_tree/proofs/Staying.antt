@@ -19,9 +19,10 @@ module _ (old new : Snaps) (was now : AllLinks) (top : Option ℕ) (before : IsS
   -- the chain goes on as it did
   step : (id : ℕ) (snap : Snap) → IsPast top id → value_at nat_cmp id new ≡ Some snap → (chain_of new id ≡ id ∷ chain_above new snap.parent) × (chain_of old id ≡ id ∷ chain_above old snap.parent)
   step id snap past found =
-      let had = changed.same id snap past found in
-      (chain_of-step new id snap after.rises found (is_above new id snap.parent (parent_joined new id snap after.trees found)),
-      chain_of-step old id had.snap before.rises had.found (is_above old id had.snap.parent (parent_joined old id had.snap before.trees had.found)) ∙ ap (λ n. id ∷ chain_above old n) had.same)
+      let had = changed.same id snap past found in (
+        chain_of-step new id snap after.rises found (is_above new id snap.parent (parent_joined new id snap after.trees found)),
+        chain_of-step old id had.snap before.rises had.found (is_above old id had.snap.parent (parent_joined old id had.snap before.trees had.found)) ∙ ap (λ n. id ∷ chain_above old n) had.same,
+      )
 
   same_chain : (n id : ℕ) (snap : Snap) → length (chain_of new id) ≤ n → IsPast top id → value_at nat_cmp id new ≡ Some snap → chain_of new id ≡ chain_of old id
   same_chain zero id snap few past found = absurd (omega (arith, few, ap length (step id snap past found).0))
@@ -57,5 +58,5 @@ module _ (old new : Snaps) (was now : AllLinks) (top : Option ℕ) (before : IsS
             own = links.own;
             found = changed.kept id (ap is_some links.found) ∙ links.found;
             lead = subst (λ ids. AreLinks ids links.own.above) (sym chain) links.lead;
-            fits = subst (λ ids. id + length ids ≤ 2 ^ 32) (sym chain) links.fits
+            fits = subst (λ ids. id + length ids ≤ 2 ^ 32) (sym chain) links.fits;
           }

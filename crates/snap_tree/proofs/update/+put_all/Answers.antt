@@ -60,5 +60,5 @@ pub returns-in-Err-clause-fault : goal.returns-in-Err-clause-fault
 returns-in-Err-clause-fault t c =
     let next = c.args.at + 1 in
     let same : snaps_after c.make_counted.new.snaps.entries (drop next c.args.updates.now) ≡ snaps_after c.args.snaps.now.entries (drop c.args.at c.args.updates.now) =
-      ap (λ (s : Snaps). snaps_after s (drop next c.args.updates.now)) c.in_ok-next.ensures.ok ∙ sym (ap (snaps_after c.args.snaps.now.entries) (rest_at c.args.updates.now c.args.at c.in-Some.update.now (sym c.in-Some.ensures))) in
+    ap (λ (s : Snaps). snaps_after s (drop next c.args.updates.now)) c.in_ok-next.ensures.ok ∙ sym (ap (snaps_after c.args.snaps.now.entries) (rest_at c.args.updates.now c.args.at c.in-Some.update.now (sym c.in-Some.ensures))) in
     subst (λ (s : Snaps). TreesFail s c.in-Err.fault) same c.in-Err.ensures.fault
