@@ -3,3 +3,4 @@ pub mod Prefixes
 pub mod Standings
 pub mod Turns
 pub mod Passing
+pub mod Drawing

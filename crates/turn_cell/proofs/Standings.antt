@@ -17,7 +17,7 @@ module _ {N : Type 0} where
   in_list (x ∷ xs) zero e = omega arith
   in_list (x ∷ xs) (suc i) e = let h = in_list xs i e in omega arith
 
-  all_same : (x : Standing N) (n i : ℕ) → get_or (replicate n x) i x ≡ x
+  pub all_same : (x : Standing N) (n i : ℕ) → get_or (replicate n x) i x ≡ x
   all_same x zero i = refl
   all_same x (suc n) zero = refl
   all_same x (suc n) (suc i) = all_same x n i

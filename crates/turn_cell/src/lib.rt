@@ -18,3 +18,6 @@ pub use cell::TurnCell;
 pub use machine::Machine;
 pub use pass::Pass;
 pub use view::{Ledger, Standing, View};
+
+#[cfg(test)]
+mod tests;

@@ -15,12 +15,3 @@ pub struct Pass<M: Machine> {
     ghost named: { seat.me.0.actor ≡ actor },
     ghost within: { (actor < M.actors) × ForSome seat.me.0.ledger (λ l. length l.standings ≤ M.actors) },
 }
-
-impl<M: Machine> Pass<M> {
-    /// The actor whose events it makes.
-    pub fn actor(&self) -> u8
-        ensures { result ≡ self.now.seat.me.0.actor }
-    {
-        self.actor
-    }
-}
