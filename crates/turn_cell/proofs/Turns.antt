@@ -57,12 +57,12 @@ module _ {M N : Type 0} (mine_of : M → ℕ → N) where
   stands_on opening m m' actor InUse same h = tt
   stands_on opening m m' actor (Joined kept) same h = same ∙ h
 
-module _ {M E N : Type 0} (trace_of : M → List E) (mine_of : M → ℕ → N) where
+module _ {M E N : Type 0} (actors : ℕ) (trace_of : M → List E) (mine_of : M → ℕ → N) where
   abbrev pub Rule : State (Option M) (View M E N) → Type 0
-  Rule = IsKept trace_of mine_of
+  Rule = IsKept actors trace_of mine_of
 
   abbrev pub Known : M → Option ℕ → Ledger M N → ℕ → View M E N → N → Type 0
-  Known = Knows trace_of mine_of
+  Known = Knows actors trace_of mine_of
 
   -- A step of one seat, whose new view has its old actor and has seen the whole trace.
   pub moves : (s : State (Option M) (View M E N)) (k : Rule s) (id : ℕ) (v w : View M E N) (x y : N) (m : M) (holder : Option ℕ) (words : List ℕ) (homes : List (maybe.Option (Option M)))
@@ -80,6 +80,7 @@ module _ {M E N : Type 0} (trace_of : M → List E) (mine_of : M → ℕ → N) 
         machine = m;
         holder = holder;
         ledger = k.ledger;
+        few = k.few;
         words = word_is;
         homes = home_is;
         turn = λ seat e. (w, y, subst (λ (j : ℕ). get_elem? (set s.views id w) j ≡ some w) (sym (turns seat e).0) here, is_y, (turns seat e).1);
@@ -99,6 +100,7 @@ module _ {M E N : Type 0} (trace_of : M → List E) (mine_of : M → ℕ → N) 
   stays m m' held holder ledger id j u z grows same other whose k = record {
     prefix = prefix_trans u.prefix (trace_of m) (trace_of m') k.prefix grows;
     mine = k.mine ∙ sym same;
+    below = k.below;
     in_use = k.in_use;
     turn = λ x e. let h = (k.turn x e).0 in absurd (⊎_elim (λ (p : held ≡ None). none_some j held p h) (λ (p : held ≡ Some id). other (some_some j id held h p)) whose);
     first = k.first;
@@ -109,7 +111,7 @@ module _ {M E N : Type 0} (trace_of : M → List E) (mine_of : M → ℕ → N) 
     abbrev TakesHere : List ℕ → List (maybe.Option (Option M)) → Type 0
     TakesHere words homes = (w : View M E N) × (a : Act (Option M)) × Valid homes c a
         × Rule (stepped record { words = words; homes = homes; views = s.views } 0 (either (get_or words 0 0 == 0) 1 (get_or words 0 0)) id c w a)
-        × rule.takes trace_of mine_of (step slots 0 0 1 none) (v, c) (get_or words 0 0) (w, carried_after c a)
+        × rule.takes actors trace_of mine_of (step slots 0 0 1 none) (v, c) (get_or words 0 0) (w, carried_after c a)
 
     takes_by : (holder : Option ℕ) → k.holder ≡ holder → TakesHere (turn_word holder ∷ length (trace_of k.machine) ∷ []) (slot_of holder k.machine ∷ [])
     takes_by None free =
@@ -119,10 +121,10 @@ module _ {M E N : Type 0} (trace_of : M → List E) (mine_of : M → ℕ → N) 
           refl,
           moves s k id v w x x m (Some id) (1 ∷ length (trace_of m) ∷ []) (none ∷ []) at is is refl refl refl refl
               (λ seat e. (some_some seat id (Some id) e refl, refl))
-              record { prefix = prefix_refl (trace_of m); mine = known.mine; in_use = known.in_use; turn = λ y e. (refl, some_some y m (Some m) e refl); first = known.first }
+              record { prefix = prefix_refl (trace_of m); mine = known.mine; below = known.below; in_use = known.in_use; turn = λ y e. (refl, some_some y m (Some m) e refl); first = known.first }
               (λ j u z other _ q. stays m m k.holder (Some id) k.ledger id j u z (prefix_refl (trace_of m)) refl other (inl free) q)
               k.standing,
-          ((λ _. record { machine = m; prefix = known.prefix; mine = subst (λ (o : Option N). IfSome o (λ kept. kept ≡ mine_of m v.actor)) (sym is) known.mine; view = refl; slot = refl }), λ ne. absurd (ne refl)),
+          ((λ _. record { machine = m; below = known.below; prefix = known.prefix; mine = subst (λ (o : Option N). IfSome o (λ kept. kept ≡ mine_of m v.actor)) (sym is) known.mine; view = refl; slot = refl }), λ ne. absurd (ne refl)),
         )
     takes_by (Some seat) held = (
       v,
@@ -134,7 +136,7 @@ module _ {M E N : Type 0} (trace_of : M → List E) (mine_of : M → ℕ → N) 
     )
 
   -- taking the turn
-  pub takes_turn : (slots id : ℕ) (v : View M E N) (c : List (ℕ × Option M)) (x : N) → v.mine ≡ Some x → Allows Rule slots id (v, c) 0 (λ n. either (n == 0) 1 n) (rule.takes trace_of mine_of (step slots 0 0 1 none) (v, c))
+  pub takes_turn : (slots id : ℕ) (v : View M E N) (c : List (ℕ × Option M)) (x : N) → v.mine ≡ Some x → Allows Rule slots id (v, c) 0 (λ n. either (n == 0) 1 n) (rule.takes actors trace_of mine_of (step slots 0 0 1 none) (v, c))
   takes_turn slots id v c x is s k deep at bound =
       subst (λ (z : List ℕ × List (maybe.Option (Option M))). TakesHere s k id v x at is slots c z.0 z.1) (λ i. (sym k.words i, sym k.homes i)) (takes_by s k id v x at is slots c k.holder refl)
 
@@ -162,7 +164,7 @@ module _ {M E N : Type 0} (trace_of : M → List E) (mine_of : M → ℕ → N) 
             (ap (λ (ws : List ℕ). set ws 1 n) (k.words ∙ ap (λ (h : Option ℕ). turn_word h ∷ length (trace_of k.machine) ∷ []) held) ∙ ap (λ (z : ℕ). 1 ∷ z ∷ []) count)
             (k.homes ∙ ap (λ (h : Option ℕ). slot_of h k.machine ∷ []) held)
             (λ seat e. (some_some seat id (Some id) e refl, refl))
-            record { prefix = prefix_refl (trace_of m'); mine = refl; in_use = known.in_use; turn = λ y e. (refl, some_some y m' (Some m') e refl); first = known.first }
+            record { prefix = prefix_refl (trace_of m'); mine = refl; below = known.below; in_use = known.in_use; turn = λ y e. (refl, some_some y m' (Some m') e refl); first = known.first }
             (λ j u z other apart q. stays k.machine m' k.holder (Some id) k.ledger id j u z (subst (λ (c : M). IsPrefix (trace_of c) (trace_of m')) same grows)
             (others u.actor apart ∙ ap (λ (c : M). mine_of c u.actor) same) other (inr held) q)
             (λ a. dite (ℕ_discrete a v.actor)
@@ -189,6 +191,7 @@ module _ {M E N : Type 0} (trace_of : M → List E) (mine_of : M → ℕ → N) 
             record {
               prefix = subst (λ (t : List E). IsPrefix t (trace_of m)) (sym whole) (prefix_refl (trace_of m));
               mine = known.mine ∙ ap (λ (c : M). mine_of c v.actor) (sym same);
+              below = known.below;
               in_use = known.in_use;
               turn = λ y e. absurd (none_some y None refl e);
               first = known.first;

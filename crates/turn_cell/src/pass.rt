@@ -1,17 +1,22 @@
 // What a thread steps with.
-ghost use Rattle.std.specs.Prelude.{◌≡◌, ◌<◌, ◌≤◌, [], length, None, IsSome};
-ghost use Rattle.std.specs.Option.{ForSome};
+ghost use Rattle.turn_cell.specs.Rule.{IsIdle, IsLive, IsActorOf};
 
 use crate::machine::Machine;
-use crate::view::Place;
+use crate::view::View;
+use atomic_table::Seat;
+
+// The seat of a pass, and its actor. It names no bound, so that closures may return it at any machine.
+#[derive(Drop)]
+pub(crate) struct Ticket<M, E, N> {
+    pub(crate) seat: Seat<Option<M>, View<M, E, N>>,
+    pub(crate) actor: u8,
+    ghost idle: { IsIdle seat },
+    ghost live: { IsLive seat },
+    ghost named: { IsActorOf seat actor },
+}
 
 /// The right to make the events of one actor, with what is known of the machine. It may go to another thread.
 #[derive(Drop)]
 pub struct Pass<M: Machine> {
-    pub(crate) seat: Place<M>,
-    pub(crate) actor: u8,
-    ghost idle: { (seat.me.1 ≡ []) × (seat.me.0.turn ≡ None) },
-    ghost live: { IsSome seat.me.0.mine },
-    ghost named: { seat.me.0.actor ≡ actor },
-    ghost within: { (actor < M.actors) × ForSome seat.me.0.ledger (λ l. length l.standings ≤ M.actors) },
+    pub(crate) ticket: Ticket<M, M::Entry, M::Mine>,
 }

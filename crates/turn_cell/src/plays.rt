@@ -11,7 +11,7 @@ pub(crate) struct Take;
 impl<M: Machine> Play<Option<M>, View<M, M::Entry, M::Mine>> for Take {
     ghost use Rattle.turn_cell.specs.Rule.{takes};
 
-    ghost then = { takes M.trace M.mine };
+    ghost then = { takes M.actors M.trace M.mine };
 }
 
 pub(crate) struct Count;

@@ -115,6 +115,7 @@ fn draw_beside<R: Threads + Wait + Sync>(
 ) -> (Pass<Counter>, Option<Vec<Vec<u64>>>)
     requires cell { IsPassOf cell.now first }
     requires actor { (view first).actor ≡ 0 }
+    requires few { actors ≤ 16 }
     requires rest { IsReady next actors (view first) }
     ensures cell { IsPassOf cell.now result.0 }
     ensures actor { (view result.0).actor ≡ 0 }
@@ -132,7 +133,7 @@ fn draw_beside<R: Threads + Wait + Sync>(
             ensures { IsPassOf cell.entry.now result.pass × ((view result.pass).actor ≡ (view other).actor) }
         { draw(rt, alloc, cell, other, count) },
         || -> (Pass<Counter>, Option<Vec<Vec<u64>>>)
-            requires { IsSync R.row × IsPassOf cell.now first × ((view first).actor ≡ 0) × IsReady (next + 1) actors (view first) × (next < actors) }
+            requires { IsSync R.row × IsPassOf cell.now first × ((view first).actor ≡ 0) × IsReady (next + 1) actors (view first) × (next < actors) × (actors ≤ 16) }
             ensures { IsPassOf cell.entry.now result.0 × ((view result.0).actor ≡ 0) × IsBack (view first) (view result.0) }
         { draw_beside(rt, alloc, cell, first, next + 1, actors, count) },
     );

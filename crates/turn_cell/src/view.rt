@@ -49,7 +49,7 @@ impl<M: Machine> TableRule<Option<M>, View<M, M::Entry, M::Mine>, Opening<M>> fo
     ghost use Rattle.turn_cell.specs.Passes.{first_view};
     ghost use Rattle.turn_cell.specs.Rule.{IsKept};
 
-    ghost holds = { λ _. IsKept M.trace M.mine };
+    ghost holds = { λ _. IsKept M.actors M.trace M.mine };
 
     ghost first = { λ about. first_view M.trace M.mine about.machine.value about.passes };
 }

@@ -5,7 +5,7 @@ ghost use Rattle.turn_cell.specs.Handles.{view, IsPassOf};
 
 use super::{SLOT, TurnCell};
 use crate::machine::Machine;
-use crate::pass::Pass;
+use crate::pass::{Pass, Ticket};
 use crate::view::Opening;
 use atomic_table::{Refused, Table};
 use std::alloc::Global;
@@ -30,7 +30,10 @@ impl<M: Machine> TurnCell<M> {
         }
         slots.push_reserved(Some(machine));
         match Table::new(alloc, &words, slots, &about) {
-            Ok((table, seat)) => Ok((TurnCell { table }, Pass { seat, actor: 0 })),
+            Ok((table, seat)) => {
+                let ticket = Ticket { seat, actor: 0 };
+                Ok((TurnCell { table }, Pass { ticket }))
+            }
             Err(Refused { slots }) => Err(only(slots, &about.machine)),
         }
     }
@@ -41,7 +44,7 @@ impl<M: Machine> TurnCell<M> {
         requires alone { IsAlone (view pass) }
         ensures { Closes M.trace M.mine (view pass) result }
     {
-        let Pass { seat, actor: _ } = pass;
+        let Ticket { seat, actor: _ } = pass.ticket;
         let TurnCell { table } = self;
         let mut closed = table.close_with(seat);
         let slot = closed.take(SLOT);

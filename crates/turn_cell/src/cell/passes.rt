@@ -5,7 +5,7 @@ ghost use Rattle.turn_cell.specs.Handles.{view, IsPassOf};
 
 use super::TurnCell;
 use crate::machine::Machine;
-use crate::pass::Pass;
+use crate::pass::{Pass, Ticket};
 use crate::plays::{Give, Merge, Named};
 use crate::view::Place;
 use std::marker::Brand;
@@ -19,8 +19,9 @@ impl<M: Machine> TurnCell<M> {
         ensures old { view pass.new ≡ gave actor (view pass.old) }
         ensures new { view result ≡ given M.mine actor (view pass.old) }
     {
-        let seat = self.split_as::<Brand>(&mut pass.seat, actor);
-        Pass { seat, actor }
+        let seat = self.split_as::<Brand>(&mut pass.ticket.seat, actor);
+        let ticket = Ticket { seat, actor };
+        Pass { ticket }
     }
 
     // A `Split` takes no argument, so a type names the actor.
@@ -45,7 +46,9 @@ impl<M: Machine> TurnCell<M> {
         ensures cell { IsPassOf self.now pass.new }
         ensures view { view pass.new ≡ joined (view pass.old) (view other) }
     {
-        let Pass { seat, actor: _ } = other;
-        self.table.shared.join_seat::<Merge>(&mut pass.seat, seat);
+        let Ticket { seat, actor: _ } = other.ticket;
+        self.table
+            .shared
+            .join_seat::<Merge>(&mut pass.ticket.seat, seat);
     }
 }

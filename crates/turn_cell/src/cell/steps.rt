@@ -1,5 +1,5 @@
 // How a pass makes an event.
-ghost use Rattle.std.specs.Prelude.{◌≡◌, ◌≢◌, ℕ, ◌<◌, [], ◌∷◌, Some, None, IsSome, IfSome};
+ghost use Rattle.std.specs.Prelude.{◌≡◌, ◌≢◌, ℕ, [], ◌∷◌, Some, None, IsSome, IfSome};
 ghost use mathlib.Core.List.{IsPrefix};
 ghost use Rattle.turn_cell.specs.Passes.{Steps, caught_up};
 ghost use Rattle.turn_cell.specs.Rule.{Takes};
@@ -21,13 +21,13 @@ impl<M: Machine> TurnCell<M> {
         ensures cell { IsPassOf self.now pass.new }
         ensures step { Steps M.trace M.mine M.gives (view pass.old) event result (view pass.new) }
     {
-        let actor = pass.actor;
-        self.step_at(rt, &mut pass.seat, actor, event)
+        let actor = pass.ticket.actor;
+        self.step_at(rt, &mut pass.ticket.seat, actor, event)
     }
 
     fn step_at<R: Wait>(&self, rt: &R, seat: &mut Place<M>, actor: u8, event: M::Event) -> M::Answer
         requires cell { seat.old.table_id ≡ self.now.table.shared.table_id }
-        requires actor { (seat.old.me.0.actor ≡ actor) × (actor < M.actors) }
+        requires actor { seat.old.me.0.actor ≡ actor }
         requires idle { (seat.old.me.1 ≡ []) × (seat.old.me.0.turn ≡ None) }
         requires live { IsSome seat.old.me.0.mine }
         requires event { IfSome seat.old.me.0.mine (λ kept. M.fits kept event) }
@@ -49,7 +49,7 @@ impl<M: Machine> TurnCell<M> {
         requires cell { seat.old.table_id ≡ self.now.table.shared.table_id }
         requires live { IsSome seat.old.me.0.mine }
         ensures cell { seat.new.table_id ≡ seat.old.table_id }
-        ensures taken { Takes M.trace M.mine seat.old.me seat.new.me }
+        ensures taken { Takes M.actors M.trace M.mine seat.old.me seat.new.me }
     {
         let shared = &self.table.shared;
         for _ in rt.forever() {

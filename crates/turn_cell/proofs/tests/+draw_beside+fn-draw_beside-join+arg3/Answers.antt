@@ -18,4 +18,4 @@ join-done-requires-after_bounds g t c κs within =
 pub returns-clause-ledger : goal.returns-clause-ledger
 returns-clause-ledger g t c =
     back_joined c.args.next c.args.actors (view c.args.first) (view c.split-other.new.pass) _ (view c.join-done.result.0.pass) _ c.requires.rest c.split-other.ensures.old c.join-done.ensures.second.2
-    (c.join-done.ensures.first.1 ∙ ap (λ v. v.actor) c.split-other.ensures.new) c.join-done.result.0.pass.live c.join.ensures.view
+    (c.join-done.ensures.first.1 ∙ ap (λ v. v.actor) c.split-other.ensures.new) c.join-done.result.0.pass.ticket.live c.join.ensures.view

@@ -6,4 +6,4 @@ pub new-requires : goal.new-requires
 new-requires g c =
     let same : c.of.result.value ≡ c.args.machine = search rules in
     let count : c.length.result ≡ length (g.M.Machine.trace c.of.result.value) = search rules in
-    starts g.M.Machine.trace g.M.Machine.mine _ _ _ _ count (search rules)
+    starts g.M.Machine.actors g.M.Machine.trace g.M.Machine.mine _ _ _ _ c.requires.0 c.requires.1 count (search rules)
