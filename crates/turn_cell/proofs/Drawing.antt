@@ -1,5 +1,5 @@
 -- How the tests' first pass stands after it gave a pass and joined it again.
-use Rattle.std.proofs.Common.{◌≡◌, ◌≢◌, ℕ, zero, suc, List, ◌+◌, ◌-◌, ◌<◌, ◌≤◌, length, set, sym, refl, ap, ◌∙◌, subst, arith, Option, Some, None, IsSome, length-set}
+use Rattle.std.proofs.Common.{◌≡◌, ◌≢◌, ℕ, zero, suc, ◌+◌, ◌-◌, ◌<◌, ◌≤◌, length, sym, refl, ap, ◌∙◌, subst, arith, Some, IsSome, length-set}
 use Rattle.std.specs.Prelude.{option_map}
 use lib.ListN.{length-replicate}
 use mathlib.Core.Logic.{dite}

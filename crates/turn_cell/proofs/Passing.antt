@@ -3,20 +3,19 @@ use Rattle.std.proofs.Common.{◌≡◌, ◌≢◌, ◌⊎◌, ℕ, zero, suc, �
 use Rattle.std.specs.Prelude.{option_map}
 use mathlib.Core.Option as maybe
 use mathlib.Core.Option.{some, none, some-injective, some-ne-none}
-use mathlib.Core.List.{IsPrefix}
 use mathlib.Core.Logic.{dite}
 use native.Mathlib.Decide.{ℕ_discrete}
 use lib.ListN.{get_elem?, length-replicate}
-use base.Growing.{prefix_refl, prefix_trans}
+use base.Growing.{prefix_refl}
 use Rattle.atomic_table.specs.Table.{State, Splits, Joins, opening, Final, Seen}
-use Rattle.atomic_table.proofs.Lists.{at_set, set_here, set_else, at_longer, at_last}
+use Rattle.atomic_table.proofs.Lists.{at_set, set_here, set_else, at_longer}
 use Rattle.turn_cell.specs.declared.view.View.{View}
 use Rattle.turn_cell.specs.declared.view.Ledger.{Ledger}
 use Rattle.turn_cell.specs.declared.view.Standing.{Standing}
 use Rattle.turn_cell.specs.declared.view.Standing.TheVariants.{Unused, InUse, Joined}
-use Rattle.turn_cell.specs.Passes.{longer, standing_in, with_standing, first_ledger, first_view, gave, given, joined, ledger_joined, standing_joined, Stands, AllStand, MayGive, IsAlone, Closes}
-use Rattle.turn_cell.specs.Rule.{turn_word, slot_of, spent, Knows, HasView, IsKept}
-use Rattle.turn_cell.proofs.Views.{at_below, at_end, one_at, Apart, Back, apart_back, back_set, apart_push}
+use Rattle.turn_cell.specs.Passes.{standing_in, with_standing, first_ledger, first_view, gave, given, joined, ledger_joined, standing_joined, Stands, AllStand, MayGive, IsAlone, Closes}
+use Rattle.turn_cell.specs.Rule.{slot_of, spent}
+use Rattle.turn_cell.proofs.Views.{at_below, at_end, one_at, Back, apart_back, back_set, apart_push}
 use Rattle.turn_cell.proofs.Prefixes.{longer_prefix, longer_first, longer_second}
 use Rattle.turn_cell.proofs.Standings.{unused_in_use, in_ledger, standing_here, standing_else, stand_with, stand_first}
 use Rattle.turn_cell.proofs.Turns.{some_of, some_some, none_some, Rule, Known}

@@ -1,10 +1,10 @@
 -- Ledgers after one standing has changed.
-use Rattle.std.proofs.Common.{◌≡◌, ◌≢◌, ℕ, zero, suc, ◌+◌, ◌-◌, ◌<◌, List, [], ◌∷◌, length, get_or, set, replicate, sym, refl, ap, ◌∙◌, subst, arith, get_or-set_other, get_or-set_same}
+use Rattle.std.proofs.Common.{◌≡◌, ◌≢◌, ℕ, zero, suc, ◌-◌, ◌<◌, List, [], ◌∷◌, length, get_or, replicate, sym, refl, subst, arith, get_or-set_other, get_or-set_same}
 use mathlib.Core.Logic.{dite}
 use native.Mathlib.Decide.{ℕ_discrete}
 use Rattle.turn_cell.specs.declared.view.Ledger.{Ledger}
 use Rattle.turn_cell.specs.declared.view.Standing.{Standing}
-use Rattle.turn_cell.specs.declared.view.Standing.TheVariants.{Unused, InUse, Joined}
+use Rattle.turn_cell.specs.declared.view.Standing.TheVariants.{Unused, InUse}
 use Rattle.turn_cell.specs.Passes.{standing_in, with_standing, first_ledger, Stands, AllStand}
 
 module _ {N : Type 0} where

@@ -9,7 +9,7 @@ use lib.ListN.{get_elem?}
 use prog.Atomic.{either}
 use base.Growing.{prefix_refl, prefix_trans}
 use Rattle.atomic_table.specs.Table.{State, Me, step, Act, keeps, takes, gives, stepped, carried_after, rest, Allows, Valid}
-use Rattle.atomic_table.proofs.Lists.{at_set, set_here, set_else, set_again}
+use Rattle.atomic_table.proofs.Lists.{at_set, set_here, set_again}
 use Rattle.turn_cell.specs.declared.view.View.{View}
 use Rattle.turn_cell.specs.declared.view.Ledger.{Ledger}
 use Rattle.turn_cell.specs.declared.view.Standing.{Standing}
@@ -17,7 +17,7 @@ use Rattle.turn_cell.specs.declared.view.Standing.TheVariants.{Unused, InUse, Jo
 use Rattle.turn_cell.specs.Passes.{standing_in, Stands, AllStand}
 use Rattle.turn_cell.specs.Rule as rule
 use Rattle.turn_cell.specs.Rule.{turn_word, slot_of, with_turn, counted, Knows, HasView, IsKept, Takes, counts, frees}
-use Rattle.turn_cell.proofs.Views.{at_below, Apart, Back, apart_back, back_set}
+use Rattle.turn_cell.proofs.Views.{at_below, Back, apart_back, back_set}
 
 pub some_some : {A : Type 0} (a b : A) (o : Option A) → o ≡ Some a → o ≡ Some b → a ≡ b
 some_some a b o p q = cc

@@ -55,6 +55,7 @@ module _ {M E N : Type 0} (actors : ℕ) (trace_of : M → List E) (mine_of : M 
     pub ledger : Ledger M N
     pub words : s.words ≡ turn_word holder ∷ length (trace_of machine) ∷ []
     pub homes : s.homes ≡ slot_of holder machine ∷ []
+    -- passes are for actors that the machine has
     pub few : length ledger.standings ≤ actors
     -- who has the turn knows the machine
     pub turn : (seat : ℕ) → holder ≡ Some seat → HasView s.views seat (λ v. v.turn ≡ Some machine)

@@ -1,4 +1,4 @@
-use Rattle.std.proofs.Common.{rules, ap, ◌∷◌, [], ◌≡◌, length, Some}
+use Rattle.std.proofs.Common.{rules, ◌≡◌, length}
 use Rattle.turn_cell.proofs.Passing.{starts}
 use Rattle.turn_cell.proofs.cell.TurnCell.new.Goals as goal
 

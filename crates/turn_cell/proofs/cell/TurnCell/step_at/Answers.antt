@@ -1,5 +1,5 @@
-use Rattle.std.proofs.Common.{rules, ◌≡◌, ap, sym, subst}
-use Rattle.turn_cell.proofs.Turns.{in_hand, found_machine, some_of, of_some}
+use Rattle.std.proofs.Common.{rules}
+use Rattle.turn_cell.proofs.Turns.{in_hand}
 use Rattle.turn_cell.proofs.cell.TurnCell.step_at.Goals as goal
 
 pub exchange-requires : goal.exchange-requires

@@ -1,4 +1,4 @@
-use Rattle.std.proofs.Common.{rules, IsSome, ap, sym, subst}
+use Rattle.std.proofs.Common.{rules, IsSome, sym, subst}
 use Rattle.turn_cell.proofs.Turns.{takes_turn, some_of}
 use Rattle.turn_cell.proofs.cell.TurnCell.take.Goals as goal
 
