@@ -61,7 +61,7 @@ pub fn open_devices<R: Files>(
     }
     Ok(FileDevices {
         images,
-        counts: CallCounts::default(),
+        counts: CallCounts::none(),
     })
 }
 
@@ -81,23 +81,19 @@ impl FileDevices<File> {
 }
 
 impl<F: FileExt + OpenFile + Drop> Devices for FileDevices<F> {
-    ghost use Rattle.dev_model.specs.Devices.{DevicesState};
+    ghost use Rattle.dev_model.specs.Tallies.{faults_in};
 
     ghost tells = { ⊥ };
 
-    ghost sizes = { λ d. map (λ image. image.blocks) d.images.items };
-
-    ghost history = { λ d. record { moment = d.counts.calls; disks = λ _. [] } };
-
-    ghost faults = { λ d. d.counts.faults };
-
-    ghost write_faults = { λ d. d.counts.write_faults };
+    ghost state = { λ d. record { sizes = map (λ image. image.blocks) d.images.items; moment = d.counts.calls; disks = λ _. []; faults = faults_in d.counts.faults } };
 
     ghost agree = { λ told _. absurd told };
 
     ghost sound = { λ told _. absurd told };
 
     ghost steady = { λ told _ _ _. absurd told };
+
+    ghost counted = { λ d. record { calls = d.counts.faults.calls_counted; writes = d.counts.faults.writes_counted } };
 
     fn count(&self) -> u8 {
         self.images.len() as u8
@@ -113,21 +109,21 @@ impl<F: FileExt + OpenFile + Drop> Devices for FileDevices<F> {
 
     fn extend(&mut self, dev: u8, blocks: u32) -> Result<(), Failed> {
         let answer = self.images[dev as usize].extend(blocks);
-        self.counts.count(answer)
+        self.counts.count(dev, answer)
     }
 
     fn read(&mut self, dev: u8, block: u32, into: &mut [u8]) -> Result<(), Failed> {
         let answer = self.images[dev as usize].read(block, into);
-        self.counts.count(answer)
+        self.counts.count(dev, answer)
     }
 
     fn write(&mut self, dev: u8, block: u32, from: &[u8]) -> Result<(), Failed> {
         let answer = self.images[dev as usize].write(block, from);
-        self.counts.count_write(answer)
+        self.counts.count_write(dev, answer)
     }
 
     fn flush(&mut self, dev: u8) -> Result<(), Failed> {
         let answer = self.images[dev as usize].sync();
-        self.counts.count_write(answer)
+        self.counts.count_write(dev, answer)
     }
 }

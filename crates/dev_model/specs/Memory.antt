@@ -22,9 +22,10 @@ plan_of devices = devices.plan
 
 -- how many calls were out of memory
 abbrev pub shortages_of : MemDevices → ℕ
-shortages_of devices = devices.faults.shortages
+shortages_of devices = devices.shortages.count
 
 -- only the plan may be another
 pub record ChangesPlan (old new : MemDevices) : Type 0 where
   pub recording : new.recording ≡ old.recording
   pub faults : new.faults ≡ old.faults
+  pub shortages : new.shortages ≡ old.shortages

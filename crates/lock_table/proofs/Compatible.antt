@@ -1,11 +1,10 @@
 -- Every call leaves compatible modes, where it finds them.
-use Rattle.std.proofs.Common.{◌≡◌, ◌≢◌, ℕ, Bool, true, false, IsTrue, List, [], ◌∷◌, refl, sym, subst, inl, ⊎_elim, ◌∙◌}
+use Rattle.std.proofs.Common.{◌≡◌, ◌≢◌, ℕ, Bool, true, false, IsTrue, refl, sym, subst, inl, ⊎_elim, ◌∙◌}
 use Rattle.six_lock.specs.Modes.{Mode, go_together}
 use Rattle.six_lock.specs.Modes.Mode.{Shared, Intent, Exclusive}
 use Rattle.lock_table.specs.Tables.{Table, HoldsAt, IsCompatible, IsInTheWay}
 use Rattle.lock_table.specs.Calls.{mode_of, Gains, Asks, Upgrades}
-use Rattle.lock_table.specs.Runs.{Call, May, Steps, Runs, fresh}
-use Rattle.lock_table.specs.Runs.Call.{Ask, Upgrade, Lower, Drop_all}
+use Rattle.lock_table.specs.Runs.{fresh}
 use Rattle.lock_table.specs.declared.name.NodeName.{NodeName}
 use Rattle.lock_table.specs.declared.table.Mode.{Mode as Wanted}
 use Rattle.lock_table.specs.declared.table.Mode.TheVariants as wanted
@@ -74,24 +73,6 @@ upgrade old new actor birth Granted compatible intent upgrades = gained old new 
 upgrade old new actor birth (Wait node holder) compatible intent upgrades = absurd upgrades
 upgrade old new actor birth (Restart node holder) compatible intent upgrades = subst IsCompatible (sym upgrades.3) compatible
 
-step : (call : Call) (old new : Table) → IsCompatible old → May old call → Steps old call new → IsCompatible new
-step (Ask actor name mode) old new compatible may steps = ask old new actor name mode steps.0 compatible steps.1
-step (Upgrade actor birth) old new compatible may steps = upgrade old new actor birth steps.0 compatible may steps.1
-step (Lower actor birth) old new compatible may steps =
-    lost old new compatible (λ b a m h. ((steps.holds b a m).0 h).0)
-    (λ b a h. let before = (steps.holds b a Exclusive).0 h in (steps.holds b a Intent).1 (compatible.has_intent b a before.0, λ here e. before.1 here refl))
-step (Drop_all actor) old new compatible may steps =
-    lost old new compatible (λ b a m h. ((steps.holds b a m).0 h).0)
-    (λ b a h. let before = (steps.holds b a Exclusive).0 h in (steps.holds b a Intent).1 (compatible.has_intent b a before.0, before.1))
-
--- after every list of calls, from a table that is compatible
-run : (calls : List Call) (old new : Table) → IsCompatible old → Runs old calls new → IsCompatible new
-run [] old new compatible runs = subst IsCompatible (sym runs) compatible
-run (call ∷ calls) old new compatible runs = run calls runs.1.0 new (step call old runs.1.0 compatible runs.0 runs.1.1) runs.1.2
-
 -- of a fresh table nobody holds anything
-none_held : (count : ℕ) → IsCompatible (fresh count)
+pub none_held : (count : ℕ) → IsCompatible (fresh count)
 none_held count = record { together = λ b x y m n other first second. absurd first; has_intent = λ b a h. absurd h }
-
-pub compatible_after : (count : ℕ) (calls : List Call) (table : Table) → Runs (fresh count) calls table → IsCompatible table
-compatible_after count calls table runs = run calls (fresh count) table (none_held count) runs

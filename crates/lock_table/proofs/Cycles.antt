@@ -1,13 +1,10 @@
 -- Nobody waits for itself where each actor's wait is above all that it holds.
-use Rattle.std.proofs.Common.{◌≡◌, ℕ, ◌⊎◌, List, [], ◌∷◌, Some, sym, subst, inl, inr, ⊎_elim, ◌∙◌}
+use Rattle.std.proofs.Common.{◌≡◌, ℕ, ◌⊎◌, List, [], ◌∷◌, Some, refl, sym, subst, inl, inr, ⊎_elim}
 use Rattle.six_lock.specs.Modes.{Mode}
 use Rattle.lock_table.specs.Names.{IsBelow}
-use Rattle.lock_table.specs.Tables.{Table, HoldsAt, name_at, StandsAbove, WaitsFor, WaitsAlong, HasNoCycle}
-use Rattle.lock_table.specs.Runs.{Call, Runs, IsAskedFor, HasOneName, fresh}
+use Rattle.lock_table.specs.Tables.{Table, HoldsAt, name_at, IsSound, StandsAbove, WaitsFor, WaitsAlong, HasNoCycle}
 use Rattle.lock_table.specs.declared.name.NodeName.{NodeName}
 use Rattle.lock_table.proofs.Order.{below_trans, not_below_itself}
-use Rattle.lock_table.proofs.Held.{held_name}
-use Rattle.lock_table.proofs.Upward.{IsUpward, upward_after}
 
 -- the actor holds a node that is this one or stands above it
 record HoldsFrom (table : Table) (actor : ℕ) (name : NodeName) : Type 0 where
@@ -25,18 +22,14 @@ record Rises (table : Table) (first last : ℕ) : Type 0 where
   above : StandsAbove table first name
   reached : HoldsFrom table last name
 
-module _ (IsName : NodeName → Type 0) (one : (n m : NodeName) → IsName n → IsName m → n.birth ≡ m.birth → n ≡ m) (table : Table) (upward : IsUpward IsName table) where
+module _ (table : Table) (sound : IsSound table) where
   -- along one wait
   rises_one : (first last : ℕ) → WaitsFor table first last → Rises table first last
-  rises_one first last waits =
-      let awaited = upward.waits first _ waits.asked in
-      let held = held_name table waits.birth last waits.mode waits.holds in
-      let known = upward.named waits.birth held.0 held.1 in
-      record {
-        name = awaited.name;
-        above = awaited.above;
-        reached = record { birth = waits.birth; mode = waits.mode; held = held.0; holds = waits.holds; named = held.1; from = inl (one awaited.name held.0 awaited.known known.0 (awaited.born ∙ sym known.1)) };
-      }
+  rises_one first last waits = record {
+    name = waits.node;
+    above = sound.upward first _ waits.asked;
+    reached = record { birth = waits.node.birth; mode = waits.mode; held = waits.node; holds = waits.holds; named = waits.named; from = inl refl };
+  }
 
   -- from one wait to the next
   further : (name held next : NodeName) → (name ≡ held) ⊎ IsBelow name held → IsBelow held next → IsBelow name next
@@ -65,9 +58,3 @@ module _ (IsName : NodeName → Type 0) (one : (n m : NodeName) → IsName n →
   no_cycle actor between waits =
       let around = rises actor between actor waits in
       not_below_itself around.name (further around.name around.reached.held around.name around.reached.from (around.above around.reached.birth around.reached.mode around.reached.held around.reached.holds around.reached.named))
-
--- after every list of calls in which each birth is asked for by one name
-pub no_cycle_after : (count : ℕ) (calls : List Call) (table : Table) → Runs (fresh count) calls table → HasOneName calls → HasNoCycle table
-no_cycle_after count calls table runs one =
-    let IsName : NodeName → Type 0 = λ n. IsAskedFor n calls in
-    no_cycle IsName one table (upward_after IsName count calls table (λ n asked. asked) runs)

@@ -9,7 +9,7 @@ use Rattle.six_lock.specs.Modes.Mode.{Shared, Intent, Exclusive}
 use Rattle.six_lock.specs.Locks.{Lock, Holds, Asks, Lowers, HoldsSome, IsFree, IsOther, actors}
 use Rattle.six_lock.specs.declared.lock.Ask.{Ask}
 use Rattle.six_lock.specs.declared.lock.Ask.TheVariants.{Granted, Held}
-use Rattle.lock_table.specs.Tables.{node_at, HoldsOf}
+use Rattle.lock_table.specs.Tables.{node_at, HoldsOf, sequence_of}
 use Rattle.lock_table.specs.Nodes.{IsInUse, EachInUse, AsksNode, UpgradesNode, name_of}
 use Rattle.lock_table.specs.declared.name.NodeName.{NodeName}
 use Rattle.lock_table.specs.declared.node.Node.{Node}
@@ -51,18 +51,19 @@ same_node : (n m : Node) → n.name ≡ m.name → n.lock ≡ m.lock → n ≡ m
 same_node n m names locks = λ i. record { name = names i; lock = locks i }
 
 -- an ask of a node that is held
-pub asks_here : (old new : List (ℕ × Node)) (actor : ℕ) (name : NodeName) (mode : Mode) (answer : Ask) (was now : Node) → node_at old name.birth ≡ Some was → now.name ≡ was.name
-    → Changes old name.birth (Some now) new → (now ≡ was → new ≡ old) → Asks was.lock actor mode answer now.lock → AsksNode old actor name mode answer new
-asks_here old new actor name mode Granted was now is same_name change unchanged asks = (
+pub asks_here : (sequence : ℕ) (old new : List (ℕ × Node)) (actor : ℕ) (name : NodeName) (mode : Mode) (answer : Ask) (was now : Node) → node_at old name.birth ≡ Some was → now.name ≡ was.name
+    → Changes old name.birth (Some now) new → (now ≡ was → new ≡ old) → Asks was.lock actor mode answer now.lock → AsksNode sequence old actor name mode answer new
+asks_here sequence old new actor name mode Granted was now is same_name change unchanged asks = (
   (λ holder way. asks.0 holder (record { held = way.held; is_other = record { other = way.other; holds = held_of _ was holder way.held is way.holds }; clash = way.clash })),
   change.elsewhere,
   record {
     holds = λ a m. subst (λ (o : Option Node). HoldsOf o a m ↔ (HoldsOf (node_at old name.birth) a m ⊎ ((a ≡ actor) × (m ≡ mode)))) (sym change.here)
         (subst (λ (o : Option Node). Holds now.lock a m ↔ (HoldsOf o a m ⊎ ((a ≡ actor) × (m ≡ mode)))) (sym is) (asks.1.holds a m));
     called = ap name_of change.here ∙ ap Some same_name ∙ ap (λ o. Some (unwrap_or (name_of o) name)) (sym is);
+    sequence_same = ap (sequence_of sequence) change.here ∙ asks.1.sequence ∙ ap (sequence_of sequence) (sym is);
   },
 )
-asks_here old new actor name mode (Held holder) was now is same_name change unchanged asks = (
+asks_here sequence old new actor name mode (Held holder) was now is same_name change unchanged asks = (
   record { other = asks.0.is_other.other; held = asks.0.held; holds = subst (λ (o : Option Node). HoldsOf o holder asks.0.held) (sym is) asks.0.is_other.holds; clash = asks.0.clash },
   unchanged (same_node now was same_name asks.1),
 )
@@ -77,6 +78,7 @@ upgrades_here old new birth actor Granted was now is same_name change unchanged 
   ap name_of change.here ∙ ap Some same_name ∙ ap name_of (sym is),
   (λ a m. subst (λ (o : Option Node). HoldsOf o a m ↔ (HoldsOf (node_at old birth) a m ⊎ ((a ≡ actor) × (m ≡ Exclusive)))) (sym change.here)
       (subst (λ (o : Option Node). Holds now.lock a m ↔ (HoldsOf o a m ⊎ ((a ≡ actor) × (m ≡ Exclusive)))) (sym is) (asks.1.holds a m))),
+  (λ s. ap (sequence_of s) change.here ∙ asks.1.sequence ∙ ap (sequence_of s) (sym is)),
 )
 upgrades_here old new birth actor (Held holder) was now is same_name change unchanged asks reader =
     let other = reader holder refl in

@@ -1,7 +1,9 @@
 -- What a table keeps stays so after each call.
-use Rattle.std.proofs.Common.{◌≡◌, ◌≢◌, ℕ, ◌<◌, List, length, slice_get, slice_set, Option, Some, None, Result, Ok, Err, IfOk, OnErr, refl, sym, subst, inl, ⊎_elim, ◌∙◌, ap}
+use Rattle.std.proofs.Common.{◌≡◌, ◌≢◌, ℕ, ◌<◌, ◌^◌, List, [], length, slice_get, slice_set, Option, Some, None, Result, Ok, Err, IfOk, OnErr, refl, sym, subst, inl, ⊎_elim, ◌∙◌, ap}
 use Rattle.std.proofs.lemmas.Bool.{cases_eq}
+use Rattle.std.specs.List.{All}
 use Rattle.std.proofs.lemmas.List.{length-set}
+use Rattle.std.proofs.lemmas.Option.{none-some as none_some, get_or_from_slice_get, slice_get_within}
 use Rattle.std.specs.Option.{unwrap_or}
 use Rattle.six_lock.specs.Modes.{Mode}
 use Rattle.six_lock.specs.Modes.Mode.{Shared, Intent, Exclusive}
@@ -10,18 +12,14 @@ use Rattle.six_lock.specs.declared.lock.Ask.TheVariants.{Granted, Held}
 use Rattle.lock_table.specs.Tables.{node_at, HoldsOf}
 use Rattle.lock_table.specs.Nodes.{EachInUse, IsSameBut, NodeGains, AsksNode, UpgradesNode, LowersNode, ReleasesAll, name_of}
 use Rattle.lock_table.specs.Holdings.{IsHolding, IsKept}
-use Rattle.lock_table.specs.Tables.{IsCompatible}
 use Rattle.lock_table.specs.Calls.{mode_of}
 use Rattle.lock_table.specs.declared.table.Mode.{Mode as Wanted}
-use Rattle.lock_table.specs.declared.table.Ruling.TheVariants as rulings
-use Rattle.lock_table.specs.declared.wait.Waiting.{Waiting}
 use Rattle.lock_table.specs.declared.name.NodeName.{NodeName}
 use Rattle.lock_table.specs.declared.node.Node.{Node}
 use Rattle.lock_table.specs.declared.holding.Holding.{Holding}
-use Rattle.lock_table.proofs.Answered.{granted_at, upgraded_at, intent_of}
-use Rattle.lock_table.proofs.Compatible.{ask, upgrade, lost}
+use Rattle.lock_table.proofs.Answered.{intent_of}
 use Rattle.lock_table.proofs.Noted.{KeepsFor, holding_kept}
-use Rattle.lock_table.proofs.Upward.{placed}
+use Rattle.lock_table.proofs.Sound.{placed}
 
 -- the same nodes
 pub keeps_same : (actor : ℕ) (old new : List (ℕ × Node)) → new ≡ old → KeepsFor actor old new
@@ -53,45 +51,21 @@ keeps_but actor birth old new same no_more no_less names = record {
 }
 
 -- another gains a mode
-keeps_beside : (actor other : ℕ) (old new : List (ℕ × Node)) (name : NodeName) (mode : Mode) → other ≢ actor → IsSameBut name.birth old new → NodeGains (node_at old name.birth) actor name mode (node_at new name.birth) → KeepsFor other old new
-keeps_beside actor other old new name mode differs same gains =
+keeps_beside : (sequence actor other : ℕ) (old new : List (ℕ × Node)) (name : NodeName) (mode : Mode) → other ≢ actor → IsSameBut name.birth old new → NodeGains sequence (node_at old name.birth) actor name mode (node_at new name.birth) → KeepsFor other old new
+keeps_beside sequence actor other old new name mode differs same gains =
     keeps_but other name.birth old new same
     (λ m h. ⊎_elim (λ was. (m, was)) (λ own. absurd (differs own.0)) ((gains.holds other m).0 h))
     (λ m h. (m, (gains.holds other m).1 (inl h)))
     (λ m h. let named = name_held (node_at old name.birth) other m h in gains.called ∙ ap (λ o. Some (unwrap_or o name)) named.1 ∙ sym named.1)
 
--- The modes that are held are compatible, whoever waits.
-abbrev AreCompatible : List (ℕ × Node) → Type 0
-AreCompatible nodes = (waits : List (Option Waiting)) → IsCompatible (record { nodes = nodes; waits = waits })
-
--- after an ask
-compatible_asked : (old new : List (ℕ × Node)) (actor : ℕ) (name : NodeName) (mode : Wanted) (answer : Ask) → AreCompatible old → AsksNode old actor name (mode_of mode) answer new → AreCompatible new
-compatible_asked old new actor name mode Granted compatible asks waits =
-    let grants = granted_at (record { nodes = old; waits = waits }) new actor name (mode_of mode) asks in
-    let after = ask (record { nodes = old; waits = waits }) (record { nodes = new; waits = slice_set waits actor None }) actor name mode rulings.Granted (compatible waits) grants in
-    record { together = after.together; has_intent = after.has_intent }
-compatible_asked old new actor name mode (Held holder) compatible asks waits = subst (λ ns. IsCompatible (record { nodes = ns; waits = waits })) (sym asks.1) (compatible waits)
-
--- after an upgrade
-compatible_upgraded : (old new : List (ℕ × Node)) (birth actor : ℕ) (answer : Ask) → AreCompatible old → HoldsOf (node_at old birth) actor Intent → UpgradesNode old birth actor answer new → AreCompatible new
-compatible_upgraded old new birth actor Granted compatible intent upgrades waits =
-    upgrade (record { nodes = old; waits = waits }) (record { nodes = new; waits = waits }) actor birth rulings.Granted (compatible waits) intent (upgraded_at (record { nodes = old; waits = waits }) new birth actor upgrades)
-compatible_upgraded old new birth actor (Held holder) compatible intent upgrades waits = subst (λ ns. IsCompatible (record { nodes = ns; waits = waits })) (sym upgrades.2) (compatible waits)
-
--- where nobody gains anything, and nobody loses intent and keeps exclusive
-compatible_less : (old new : List (ℕ × Node)) → AreCompatible old → ((b a : ℕ) (m : Mode) → HoldsOf (node_at new b) a m → HoldsOf (node_at old b) a m) → AreCompatible new
-compatible_less old new compatible less waits =
-    lost (record { nodes = old; waits = waits }) (record { nodes = new; waits = waits }) (compatible waits) less (λ b a h. intent_of (node_at new b) a h)
-
 -- what is kept after one actor's part was written anew
-pub kept_set : (old new : List (ℕ × Node)) (before after : List Holding) (count actor : ℕ) (holding : Holding) → IsKept old before count → after ≡ slice_set before actor holding → EachInUse count new → AreCompatible new
+pub kept_set : (old new : List (ℕ × Node)) (before after : List Holding) (count actor : ℕ) (holding : Holding) → IsKept old before count → after ≡ slice_set before actor holding → EachInUse count new
     → ((b a : ℕ) (m : Mode) → HoldsOf (node_at new b) a m → a < count) → ((a : ℕ) → a ≢ actor → KeepsFor a old new) → IsHolding new actor holding → IsKept new after count
-kept_set old new before after count actor holding kept is in_use compatible known others own = record {
+kept_set old new before after count actor holding kept is in_use known others own = record {
   few = kept.few;
   counted = ap length is ∙ length-set before actor holding ∙ kept.counted;
   in_use = in_use;
   known = known;
-  compatible = compatible;
   each = λ a h at.
       ⊎_elim (λ here. subst (λ k. IsHolding new k h) (sym here.0) (subst (IsHolding new actor) here.1 own))
       (λ other. holding_kept a old new h (others a other.0) (kept.each a h other.1))
@@ -99,66 +73,60 @@ kept_set old new before after count actor holding kept is in_use compatible know
 }
 
 -- what is kept where every actor holds as much or as little as it did
-pub kept_all : (old new : List (ℕ × Node)) (holdings : List Holding) (count : ℕ) → IsKept old holdings count → EachInUse count new → AreCompatible new → ((a : ℕ) → KeepsFor a old new) → IsKept new holdings count
-kept_all old new holdings count kept in_use compatible keeps = record {
+pub kept_all : (old new : List (ℕ × Node)) (holdings : List Holding) (count : ℕ) → IsKept old holdings count → EachInUse count new → ((a : ℕ) → KeepsFor a old new) → IsKept new holdings count
+kept_all old new holdings count kept in_use keeps = record {
   few = kept.few;
   counted = kept.counted;
   in_use = in_use;
   known = λ b a m h. let before = (keeps a).no_more b m h in kept.known b a before.0 before.1;
-  compatible = compatible;
   each = λ a h at. holding_kept a old new h (keeps a) (kept.each a h at);
 }
 
 -- after an ask
-pub kept_asked : (old new : List (ℕ × Node)) (before after : List Holding) (count actor : ℕ) (name : NodeName) (mode : Wanted) (answer : Ask) (holding : Holding) → actor < count → IsKept old before count
-    → after ≡ slice_set before actor holding → EachInUse count new → AsksNode old actor name (mode_of mode) answer new → IsHolding new actor holding → IsKept new after count
-kept_asked old new before after count actor name mode Granted holding lt kept is in_use asks own =
-    kept_set old new before after count actor holding kept is in_use (compatible_asked old new actor name mode Granted kept.compatible asks) known (λ a other. keeps_beside actor a old new name (mode_of mode) other asks.1 asks.2) own
+pub kept_asked : (sequence : ℕ) (old new : List (ℕ × Node)) (before after : List Holding) (count actor : ℕ) (name : NodeName) (mode : Wanted) (answer : Ask) (holding : Holding) → actor < count → IsKept old before count
+    → after ≡ slice_set before actor holding → EachInUse count new → AsksNode sequence old actor name (mode_of mode) answer new → IsHolding new actor holding → IsKept new after count
+kept_asked sequence old new before after count actor name mode Granted holding lt kept is in_use asks own =
+    kept_set old new before after count actor holding kept is in_use known (λ a other. keeps_beside sequence actor a old new name (mode_of mode) other asks.1 asks.2) own
   where
     known_here : (a : ℕ) (m : Mode) → HoldsOf (node_at new name.birth) a m → a < count
     known_here a m h = ⊎_elim (λ was. kept.known name.birth a m was) (λ gained. subst (λ (k : ℕ). k < count) (sym gained.0) lt) ((asks.2.holds a m).0 h)
 
     known : (b a : ℕ) (m : Mode) → HoldsOf (node_at new b) a m → a < count
     known b a m h = ⊎_elim (λ here. known_here a m (subst (λ k. HoldsOf (node_at new k) a m) here h)) (λ other. kept.known b a m (subst (λ (o : Option Node). HoldsOf o a m) (asks.1 b other) h)) (cases_eq b name.birth)
-kept_asked old new before after count actor name mode (Held holder) holding lt kept is in_use asks own =
-    kept_set old new before after count actor holding kept is in_use (compatible_asked old new actor name mode (Held holder) kept.compatible asks) (λ b a m h. kept.known b a m (subst (λ ns. HoldsOf (node_at ns b) a m) asks.1 h)) (λ a other. keeps_same a old new asks.1) own
+kept_asked sequence old new before after count actor name mode (Held holder) holding lt kept is in_use asks own =
+    kept_set old new before after count actor holding kept is in_use (λ b a m h. kept.known b a m (subst (λ ns. HoldsOf (node_at ns b) a m) asks.1 h)) (λ a other. keeps_same a old new asks.1) own
 
 -- where nothing became of an ask
 pub kept_failed : (old new : List (ℕ × Node)) (before after : List Holding) (count actor : ℕ) (holding : Holding) → IsKept old before count → after ≡ slice_set before actor holding → EachInUse count new → new ≡ old
     → IsHolding new actor holding → IsKept new after count
 kept_failed old new before after count actor holding kept is in_use same own =
-    kept_set old new before after count actor holding kept is in_use (λ waits. subst (λ ns. IsCompatible (record { nodes = ns; waits = waits })) (sym same) (kept.compatible waits)) (λ b a m h. kept.known b a m (subst (λ ns. HoldsOf (node_at ns b) a m) same h)) (λ a other. keeps_same a old new same) own
+    kept_set old new before after count actor holding kept is in_use (λ b a m h. kept.known b a m (subst (λ ns. HoldsOf (node_at ns b) a m) same h)) (λ a other. keeps_same a old new same) own
 
 -- after an upgrade
 pub kept_upgraded : (old new : List (ℕ × Node)) (holdings : List Holding) (count birth actor : ℕ) (answer : Ask) → IsKept old holdings count → EachInUse count new → HoldsOf (node_at old birth) actor Intent
     → UpgradesNode old birth actor answer new → IsKept new holdings count
 kept_upgraded old new holdings count birth actor Granted kept in_use intent upgrades =
-    kept_all old new holdings count kept in_use (compatible_upgraded old new birth actor Granted kept.compatible intent upgrades) (λ a. keeps_but a birth old new upgrades.1
+    kept_all old new holdings count kept in_use (λ a. keeps_but a birth old new upgrades.1
     (λ m h. ⊎_elim (λ was. (m, was)) (λ gained. (Intent, subst (λ k. HoldsOf (node_at old birth) k Intent) (sym gained.0) intent)) ((upgrades.3 a m).0 h))
     (λ m h. (m, (upgrades.3 a m).1 (inl h))) (λ m h. upgrades.2))
-kept_upgraded old new holdings count birth actor (Held holder) kept in_use intent upgrades = kept_all old new holdings count kept in_use (compatible_upgraded old new birth actor (Held holder) kept.compatible intent upgrades) (λ a. keeps_same a old new upgrades.2)
+kept_upgraded old new holdings count birth actor (Held holder) kept in_use intent upgrades = kept_all old new holdings count kept in_use (λ a. keeps_same a old new upgrades.2)
 
 -- after an exclusive use has ended
 pub kept_lowered : (old new : List (ℕ × Node)) (holdings : List Holding) (count birth : ℕ) → IsKept old holdings count → EachInUse count new
     → LowersNode old birth new → IsKept new holdings count
 kept_lowered old new holdings count birth kept in_use lowers =
-    kept_all old new holdings count kept in_use (compatible_less old new kept.compatible less) (λ a. keeps_but a birth old new lowers.same (λ m h. (m, ((lowers.holds a m).0 h).0)) (λ m h. stays a m h) (λ m h. lowers.name))
+    kept_all old new holdings count kept in_use (λ a. keeps_but a birth old new lowers.same (λ m h. (m, ((lowers.holds a m).0 h).0)) (λ m h. stays a m h) (λ m h. lowers.name))
   where
     stays : (a : ℕ) (m : Mode) → HoldsOf (node_at old birth) a m → (k : Mode) × HoldsOf (node_at new birth) a k
     stays a Shared h = (Shared, (lowers.holds a Shared).1 (h, λ e. let f : Shared ≡ Exclusive = e in cc))
     stays a Intent h = (Intent, (lowers.holds a Intent).1 (h, λ e. let f : Intent ≡ Exclusive = e in cc))
     stays a Exclusive h = (Intent, (lowers.holds a Intent).1 (intent_of (node_at old birth) a h, λ e. let f : Intent ≡ Exclusive = e in cc))
 
-    less : (b a : ℕ) (m : Mode) → HoldsOf (node_at new b) a m → HoldsOf (node_at old b) a m
-    less b a m h = ⊎_elim
-        (λ here. subst (λ k. HoldsOf (node_at old k) a m) (sym here) ((lowers.holds a m).0 (subst (λ k. HoldsOf (node_at new k) a m) here h)).0)
-        (λ other. subst (λ (o : Option Node). HoldsOf o a m) (lowers.same b other) h) (cases_eq b birth)
-
 -- after an actor has let go of all
-pub kept_released : (old new : List (ℕ × Node)) (before after : List Holding) (count actor : ℕ) (holding : Holding) → IsKept old before count → after ≡ slice_set before actor holding → EachInUse count new
-    → ReleasesAll old actor new → IsHolding new actor holding → IsKept new after count
-kept_released old new before after count actor holding kept is in_use releases own =
-    kept_set old new before after count actor holding kept is in_use (compatible_less old new kept.compatible (λ b a m h. ((releases.holds b a m).0 h).0)) (λ b a m h. kept.known b a m ((releases.holds b a m).0 h).0) (λ a other. record {
+pub kept_released : (sequence last : ℕ) (old new : List (ℕ × Node)) (before after : List Holding) (count actor : ℕ) (holding : Holding) → IsKept old before count → after ≡ slice_set before actor holding → EachInUse count new
+    → ReleasesAll sequence old actor last new → IsHolding new actor holding → IsKept new after count
+kept_released sequence last old new before after count actor holding kept is in_use releases own =
+    kept_set old new before after count actor holding kept is in_use (λ b a m h. kept.known b a m ((releases.holds b a m).0 h).0) (λ a other. record {
       no_more = λ b m h. (m, ((releases.holds b a m).0 h).0);
       no_less = λ b m h. (m, (releases.holds b a m).1 (h, other));
       names = λ b m h. ⊎_elim (λ gone. absurd (not_gone b a m gone ((releases.holds b a m).1 (h, other)))) (λ named. named) (releases.names b);
@@ -168,7 +136,27 @@ kept_released old new before after count actor holding kept is in_use releases o
     not_gone b a m gone h = let none : HoldsOf None a m = subst (λ (o : Option Node). HoldsOf o a m) gone h in none
 
 -- after an ask, or where it failed
-pub kept_either : {E : Type 0} (old new : List (ℕ × Node)) (before after : List Holding) (count actor : ℕ) (name : NodeName) (mode : Wanted) (result : Result Ask E) (holding : Holding) → actor < count → IsKept old before count
-    → after ≡ slice_set before actor holding → EachInUse count new → IfOk result (λ answer. AsksNode old actor name (mode_of mode) answer new) → OnErr result (new ≡ old) → IsHolding new actor holding → IsKept new after count
-kept_either old new before after count actor name mode (Ok answer) holding lt kept is in_use asks same own = kept_asked old new before after count actor name mode answer holding lt kept is in_use asks own
-kept_either old new before after count actor name mode (Err e) holding lt kept is in_use asks same own = kept_failed old new before after count actor holding kept is in_use same own
+pub kept_either : {E : Type 0} (sequence : ℕ) (old new : List (ℕ × Node)) (before after : List Holding) (count actor : ℕ) (name : NodeName) (mode : Wanted) (result : Result Ask E) (holding : Holding) → actor < count → IsKept old before count
+    → after ≡ slice_set before actor holding → EachInUse count new → IfOk result (λ answer. AsksNode sequence old actor name (mode_of mode) answer new) → OnErr result (new ≡ old) → IsHolding new actor holding → IsKept new after count
+kept_either sequence old new before after count actor name mode (Ok answer) holding lt kept is in_use asks same own = kept_asked sequence old new before after count actor name mode answer holding lt kept is in_use asks own
+kept_either sequence old new before after count actor name mode (Err e) holding lt kept is in_use asks same own = kept_failed old new before after count actor holding kept is in_use same own
+
+-- before any ask
+pub kept_fresh : (nodes : List (ℕ × Node)) (holdings : List Holding) (count : ℕ) → nodes ≡ [] → count < 2 ^ 8 → length holdings ≡ count → All (λ holding. holding.highest ≡ None) holdings → IsKept nodes holdings count
+kept_fresh nodes holdings count empty few counted free = record {
+  few = few;
+  counted = counted;
+  in_use = λ b n is. absurd (none_some n (sym (none b) ∙ is));
+  known = λ b a m h. absurd (nobody b a m h);
+  each = λ a h at. record {
+    listed = λ b m holds. absurd (nobody b a m holds);
+    up_to = λ b m name holds named. absurd (nobody b a m holds);
+    reached = λ top is. absurd (none_some top (sym (subst (λ (k : Holding). k.highest ≡ None) (get_or_from_slice_get holdings a h h at) (free a h (slice_get_within holdings a h at))) ∙ is));
+  };
+}
+  where
+    none : (b : ℕ) → node_at nodes b ≡ None
+    none b = ap (λ ns. node_at ns b) empty
+
+    nobody : (b a : ℕ) (m : Mode) → HoldsOf (node_at nodes b) a m → ⊥
+    nobody b a m h = subst (λ (o : Option Node). HoldsOf o a m) (none b) h

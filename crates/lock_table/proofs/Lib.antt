@@ -1,10 +1,13 @@
 pub mod Order
 pub mod Held
 pub mod Compatible
-pub mod Upward
+pub mod Sound
 pub mod Cycles
+pub mod Known
+pub mod Sequences
 pub mod InUse
 pub mod Noted
+pub mod After
 pub mod Released
 pub mod Kept
 pub mod Answered

@@ -111,11 +111,11 @@ noted_last true births birth at = at refl
 noted_last false births birth at = listed_last births birth
 
 -- after the actor has gained a mode of a node, and it was noted
-pub holding_gains : (old new : List (ℕ × Node)) (actor : ℕ) (name : NodeName) (mode : Mode) (before after : Holding) (births : List ℕ) (called : NodeName) (held : Bool)
-    → IsSameBut name.birth old new → NodeGains (node_at old name.birth) actor name mode (node_at new name.birth) → called ≡ unwrap_or (name_of (node_at old name.birth)) name
+pub holding_gains : (sequence : ℕ) (old new : List (ℕ × Node)) (actor : ℕ) (name : NodeName) (mode : Mode) (before after : Holding) (births : List ℕ) (called : NodeName) (held : Bool)
+    → IsSameBut name.birth old new → NodeGains sequence (node_at old name.birth) actor name mode (node_at new name.birth) → called ≡ unwrap_or (name_of (node_at old name.birth)) name
     → (IsTrue held → (m : Mode) × HoldsOf (node_at old name.birth) actor m) → births ≡ before.births.items → after.births.items ≡ cond (not held) (births ++ name.birth ∷ []) births
     → after.highest ≡ highest_with before.highest called → IsHolding old actor before → IsHolding new actor after
-holding_gains old new actor name mode before after births called held same gains called_is was_held births_is after_births after_highest is = record {
+holding_gains sequence old new actor name mode before after births called held same gains called_is was_held births_is after_births after_highest is = record {
   listed = λ b m holds.
       subst (λ bs. IsListed bs b) (sym after_births) (⊎_elim
       (λ here. subst (IsListed (cond (not held) (births ++ name.birth ∷ []) births)) (sym here) (noted_last held births name.birth (λ yes_held. let at = was_held yes_held in listed_old name.birth at.0 at.1)))

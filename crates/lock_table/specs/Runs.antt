@@ -1,5 +1,6 @@
 -- What a list of calls by any actors may leave of a table.
-use Rattle.std.specs.Prelude.{◌≡◌, ℕ, ◌<◌, ◌⊎◌, List, [], ◌∷◌, replicate, None}
+use Rattle.std.specs.Prelude.{◌≡◌, ℕ, ◌<◌, ◌⊎◌, List, [], ◌∷◌, replicate, slice_get, Some, None}
+use Rattle.six_lock.specs.Modes.{Mode as SixMode}
 use Rattle.six_lock.specs.Modes.Mode.{Intent, Exclusive}
 use Rattle.lock_table.specs.Tables.{Table, HoldsAt, actors}
 use Rattle.lock_table.specs.Calls.{mode_of, Asks, Upgrades, Lowers, Drops}
@@ -33,9 +34,9 @@ abbrev pub Runs : Table → List Call → Table → Type 0
 Runs old [] new = new ≡ old
 Runs old (call ∷ calls) new = May old call × ((mid : Table) × Steps old call mid × Runs mid calls new)
 
--- a table for so many actors, of which nobody holds anything and nobody waits
+-- a table for so many actors, of which nobody holds anything and nobody waits, and all sequences are 0
 abbrev pub fresh : ℕ → Table
-fresh count = record { nodes = []; waits = replicate count None }
+fresh count = record { nodes = []; waits = replicate count None; sequence = 0 }
 
 -- One of the calls asks for the node by this name.
 abbrev pub IsAskedFor : NodeName → List Call → Type 0
@@ -48,3 +49,10 @@ IsAskedFor name (Drop_all actor ∷ calls) = IsAskedFor name calls
 -- The calls ask for each birth by one name.
 abbrev pub HasOneName : List Call → Type 0
 HasOneName calls = (n m : NodeName) → IsAskedFor n calls → IsAskedFor m calls → n.birth ≡ m.birth → n ≡ m
+
+-- The one actor's last ask was answered that it waits for the other, which still holds a node of that birth.
+pub record WaitsByBirth (table : Table) (actor holder : ℕ) : Type 0 where
+  pub node : NodeName
+  pub asked : slice_get table.waits actor ≡ Some (Some (record { node = node; holder = holder }))
+  pub mode : SixMode
+  pub holds : HoldsAt table node.birth holder mode

@@ -3,7 +3,7 @@ ghost use Rattle.std.specs.List.{All};
 ghost use Rattle.six_lock.specs.Modes.{Mode as SixMode};
 ghost use Rattle.lock_table.specs.Tables.{HoldsOf, node_at};
 ghost use Rattle.lock_table.specs.Nodes.{EachInUse, AsksNode, ReleasesAll};
-ghost use Rattle.lock_table.specs.Holdings.{IsListed, IsOver, IsHolding, IsKept, highest_with};
+ghost use Rattle.lock_table.specs.Holdings.{IsListed, IsOver, IsHolding, IsKept, highest_with, raised_by};
 ghost use Rattle.lock_table.specs.Calls.{mode_of};
 
 use crate::node::{Node, ask_node, called, is_held, release_node};
@@ -61,6 +61,7 @@ fn ask_noted(
     alloc: Global,
     nodes: &mut BTreeMap<u64, Node>,
     holding: &mut Holding,
+    sequence: u64,
     count: u8,
     actor: u8,
     name: &NodeName,
@@ -69,7 +70,7 @@ fn ask_noted(
     requires actor { actor < count }
     requires in_use { EachInUse count nodes.old.entries }
     requires holding { IsHolding nodes.old.entries actor holding.old }
-    ensures ok { IfOk result (λ answer. AsksNode nodes.old.entries actor name.now (mode_of mode) answer nodes.new.entries) }
+    ensures ok { IfOk result (λ answer. AsksNode sequence nodes.old.entries actor name.now (mode_of mode) answer nodes.new.entries) }
     ensures in_use { EachInUse count nodes.new.entries }
     ensures holding { IsHolding nodes.new.entries actor holding.new }
     ensures err { OnErr result (nodes.new.entries ≡ nodes.old.entries) }
@@ -77,7 +78,7 @@ fn ask_noted(
     let called = called(nodes, name);
     let is_new = !is_held(nodes, name.birth, actor);
     holding.births.reserve(1)?;
-    match ask_node(alloc, nodes, count, actor, name, mode)? {
+    match ask_node(alloc, nodes, sequence, count, actor, name, mode)? {
         Ask::Granted => {
             holding.add(name.birth, &called, is_new);
             Ok(Ask::Granted)
@@ -90,31 +91,49 @@ fn ask_noted(
 pub(crate) fn release_noted(
     nodes: &mut BTreeMap<u64, Node>,
     holding: &mut Holding,
+    sequence: &mut u64,
     count: u8,
     actor: u8,
 )
     requires actor { actor < count }
     requires in_use { EachInUse count nodes.old.entries }
     requires holding { IsHolding nodes.old.entries actor holding.old }
-    ensures releases { ReleasesAll nodes.old.entries actor nodes.new.entries }
+    ensures releases { ReleasesAll sequence.old nodes.old.entries actor sequence.new nodes.new.entries }
     ensures in_use { EachInUse count nodes.new.entries }
     ensures holding { IsHolding nodes.new.entries actor holding.new }
 {
-    release_all(nodes, &holding.births, count, actor);
+    release_all(nodes, &holding.births, sequence, count, actor);
     holding.births.clear();
     holding.highest = None;
 }
 
 // Lets go of these nodes, among which is each that the actor holds.
-fn release_all(nodes: &mut BTreeMap<u64, Node>, births: &[u64], count: u8, actor: u8)
+fn release_all(
+    nodes: &mut BTreeMap<u64, Node>,
+    births: &[u64],
+    sequence: &mut u64,
+    count: u8,
+    actor: u8,
+)
     requires actor { actor < count }
     requires in_use { EachInUse count nodes.old.entries }
     requires listed { (b : ℕ) (m : SixMode) → HoldsOf (node_at nodes.old.entries b) actor m → IsListed births.now b }
-    ensures releases { ReleasesAll nodes.old.entries actor nodes.new.entries }
+    ensures releases { ReleasesAll sequence.old nodes.old.entries actor sequence.new nodes.new.entries }
     ensures in_use { EachInUse count nodes.new.entries }
 {
     for birth in births {
-        release_node(nodes, *birth, actor);
+        let gone = release_node(nodes, *birth, actor);
+        *sequence = raised(*sequence, gone);
+    }
+}
+
+// The sequence, or the one with which a node is gone where that is greater.
+fn raised(sequence: u64, gone: Option<u64>) -> u64
+    ensures { result ≡ raised_by sequence gone }
+{
+    match gone {
+        Some(last) => last.max(sequence),
+        None => sequence,
     }
 }
 
@@ -123,6 +142,7 @@ pub(crate) fn ask_kept(
     alloc: Global,
     nodes: &mut BTreeMap<u64, Node>,
     holdings: &mut Vec<Holding>,
+    sequence: u64,
     count: u8,
     actor: u8,
     name: &NodeName,
@@ -130,28 +150,29 @@ pub(crate) fn ask_kept(
 ) -> Result<Ask, AllocError>
     requires actor { actor < count }
     requires kept { IsKept nodes.old.entries holdings.old.items count }
-    ensures ok { IfOk result (λ answer. AsksNode nodes.old.entries actor name.now (mode_of mode) answer nodes.new.entries) }
+    ensures ok { IfOk result (λ answer. AsksNode sequence nodes.old.entries actor name.now (mode_of mode) answer nodes.new.entries) }
     ensures kept { IsKept nodes.new.entries holdings.new.items count }
     ensures err { OnErr result (nodes.new.entries ≡ nodes.old.entries) }
 {
     let holding = &mut holdings[actor as usize];
-    ask_noted(alloc, nodes, holding, count, actor, name, mode)
+    ask_noted(alloc, nodes, holding, sequence, count, actor, name, mode)
 }
 
 // Lets go of all that the actor holds, which is all that is kept of it.
 pub(crate) fn release_kept(
     nodes: &mut BTreeMap<u64, Node>,
     holdings: &mut Vec<Holding>,
+    sequence: &mut u64,
     count: u8,
     actor: u8,
 )
     requires actor { actor < count }
     requires kept { IsKept nodes.old.entries holdings.old.items count }
-    ensures releases { ReleasesAll nodes.old.entries actor nodes.new.entries }
+    ensures releases { ReleasesAll sequence.old nodes.old.entries actor sequence.new nodes.new.entries }
     ensures kept { IsKept nodes.new.entries holdings.new.items count }
 {
     let holding = &mut holdings[actor as usize];
-    release_noted(nodes, holding, count, actor);
+    release_noted(nodes, holding, sequence, count, actor);
 }
 
 // What is kept of so many actors before any ask.

@@ -3,7 +3,10 @@
 //! An actor that is refused a lock waits only for a node that stands above all that it holds, in one order of all nodes;
 //! else it drops all its locks and begins again. So nobody ever waits for itself, over no matter how many others: each
 //! waits for a node above all that it holds, and the holder of that node waits, if it does, for one higher still.
-//! [`waits_have_no_cycle`] says so of every list of calls.
+//! [`sound_has_no_cycle`] says so of every table.
+//!
+//! A node that nobody holds takes no room here. Its sequence is then one number of the table, from which its next lock goes
+//! on, so that no sequence which was seen with a node comes again after an exclusive use.
 //!
 //! `specs/Tables` says what a table of locks says, `specs/Calls` what each call answers and leaves, and `specs/Runs` what
 //! lists of calls may lead to.
@@ -16,7 +19,9 @@ mod node;
 mod table;
 mod wait;
 
-pub use laws::{granted_locks_are_compatible, waits_have_no_cycle};
+pub use laws::{
+    calls_keep_sound, one_name_is_awaited, runs_are_sound, sequences_rise, sound_has_no_cycle,
+};
 pub use name::NodeName;
 pub use table::{LockTable, Mode, Ruling};
 

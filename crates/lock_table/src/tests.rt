@@ -1,7 +1,7 @@
 //! The order of nodes, and calls by several actors in turn, with ample memory.
 
 use super::*;
-use std::alloc::{AllocError, Global};
+use std::alloc::AllocError;
 use std::test::Fail;
 use vol_types::{Btree, Pos};
 
@@ -27,17 +27,12 @@ fn name(btree: Btree, level: u8, offset: u64, birth: u64) -> NodeName {
 }
 
 // Makes the call where its condition holds. None where it doesn't, or where the call answers nothing.
-fn make(
-    alloc: Global,
-    table: &mut LockTable,
-    actor: u8,
-    call: Call,
-) -> Result<Option<Ruling>, AllocError> {
+fn make(table: &mut LockTable, actor: u8, call: Call) -> Result<Option<Ruling>, AllocError> {
     if actor >= table.count() {
         return Ok(None);
     }
     match call {
-        Call::Ask(name, mode) => Ok(Some(table.ask(alloc, actor, &name, mode)?)),
+        Call::Ask(name, mode) => Ok(Some(table.ask(actor, &name, mode)?)),
         Call::Upgrade(birth) if table.has_intent(actor, birth) => {
             Ok(Some(table.upgrade(actor, birth)))
         }
@@ -113,7 +108,19 @@ fn calls_in_turn(rt: HostRuntime) -> Result<(), Fail> {
     ];
     let mut table = LockTable::new(rt.alloc(), 3)?;
     for (actor, call, answer) in &rows {
-        assert!(rt; make(rt.alloc(), &mut table, *actor, *call)? == *answer);
+        assert!(rt; make(&mut table, *actor, *call)? == *answer);
     }
+    assert_eq!(rt; table.other_holder(0, 11), Some(2));
+    assert_eq!(rt; table.other_reader(0, 11), None);
+    assert_eq!(rt; table.seq(11), 1);
+    assert_eq!(rt; make(&mut table, 2, Call::DropAll)?, None);
+    assert!(rt; !table.is_held(11));
+    assert_eq!(rt; table.seq(11), 2);
+    // the next lock of a node goes on from there
+    assert_eq!(rt;
+        make(&mut table, 1, Call::Ask(right, Mode::Shared))?,
+        granted
+    );
+    assert_eq!(rt; table.seq(12), 2);
     Ok(())
 }

@@ -1,6 +1,8 @@
-/// What an actor waits for: a node, by its birth, and who was in the way.
+use crate::NodeName;
+
+/// What an actor waits for: a node, by the name by which it was held, and who was in the way.
 #[derive(Clone, Copy, Debug, PartialEq, Eq)]
 pub struct Waiting {
-    pub node: u64,
+    pub node: NodeName,
     pub holder: u8,
 }

@@ -1,7 +1,7 @@
 -- What pins mean: each pinned node holds back the journal from one sequence number on.
-use Rattle.std.specs.Prelude.{ℕ, min, Option, Some, None, List, [], ◌∷◌}
+use Rattle.std.specs.Prelude.{◌≡◌, ℕ, ◌<◌, ◌≤◌, length, slice_get, min, Option, Some, None, List, [], ◌∷◌}
 use Rattle.std.specs.Ordering.{nat_cmp}
-use Rattle.vol_types.specs.Maps.{value_at, with_value}
+use Rattle.vol_types.specs.Maps.{IsMap, value_at, with_value}
 
 -- the pinned nodes in rising order, each with the number that it pins, and for how many more nodes there is room
 pub record Pins : Type 0 where
@@ -21,3 +21,30 @@ with_pin node seq numbers = with_value nat_cmp node (smaller seq (value_at nat_c
 abbrev pub least_pin : List (ℕ × ℕ) → Option ℕ
 least_pin [] = None
 least_pin (pin ∷ pins) = Some (smaller pin.1 (least_pin pins))
+
+-- The number is the oldest pin: a node pins it, and none pins a smaller one.
+pub record IsOldest (numbers : List (ℕ × ℕ)) (oldest : ℕ) : Type 0 where
+  pub node : ℕ
+  pub pinned : value_at nat_cmp node numbers ≡ Some oldest
+  pub least : (n seq : ℕ) → value_at nat_cmp n numbers ≡ Some seq → oldest ≤ seq
+
+-- What a list of pins keeps: its nodes rise, and it knows the least number.
+pub record IsKept (numbers : List (ℕ × ℕ)) (oldest : Option ℕ) : Type 0 where
+  pub rises : IsMap nat_cmp numbers
+  pub knows : oldest ≡ least_pin numbers
+
+-- The pins before the place have smaller nodes.
+abbrev pub AreSmallerBefore : List (ℕ × ℕ) → ℕ → ℕ → Type 0
+AreSmallerBefore pins place node = (k : ℕ) (pin : ℕ × ℕ) → k < place → slice_get pins k ≡ Some pin → pin.0 < node
+
+-- The node's pin stands at the place, behind all smaller nodes.
+pub record IsPinAt (pins : List (ℕ × ℕ)) (node place : ℕ) : Type 0 where
+  pub seq : ℕ
+  pub here : slice_get pins place ≡ Some (node, seq)
+  pub before : AreSmallerBefore pins place node
+
+-- The node has no pin, and the place is that of the first greater node.
+pub record IsGapAt (pins : List (ℕ × ℕ)) (node place : ℕ) : Type 0 where
+  pub within : place ≤ length pins
+  pub before : AreSmallerBefore pins place node
+  pub after : (pin : ℕ × ℕ) → slice_get pins place ≡ Some pin → node < pin.0

@@ -1,12 +1,12 @@
 -- What the actors hold of a lock, and what each call answers and leaves.
-use Rattle.std.specs.Prelude.{◌≡◌, ◌≢◌, ℕ, ◌<◌, ◌+◌, ◌%◌, ◌^◌, ◌⊎◌, ◌↔◌, Bool, true, false, IsTrue, IsSome, List, length, slice_get, Option, Some}
+use Rattle.std.specs.Prelude.{◌≡◌, ◌≢◌, ℕ, ◌<◌, ◌+◌, ◌^◌, nat_lt, if◌then◌else◌, ◌⊎◌, ◌↔◌, Bool, true, false, IsTrue, IsSome, List, length, slice_get, Option, Some}
 use Rattle.six_lock.specs.Modes.{Mode, go_together}
 use Rattle.six_lock.specs.Modes.Mode.{Shared, Intent, Exclusive}
 use Rattle.six_lock.specs.declared.lock.Ask.{Ask}
 use Rattle.six_lock.specs.declared.lock.Ask.TheVariants.{Granted, Held}
 
--- for each actor whether it holds shared, who holds intent, whether that one holds exclusive too, and how many exclusive
--- uses have ended, modulo 2^64
+-- for each actor whether it holds shared, who holds intent, whether that one holds exclusive too, and a number that rises
+-- as an exclusive use ends
 pub record Lock : Type 0 where
   pub shared : List Bool
   pub intent : Option ℕ
@@ -58,21 +58,21 @@ abbrev pub Asks : Lock → ℕ → Mode → Ask → Lock → Type 0
 Asks old actor mode Granted new = ((holder : ℕ) → IsInTheWay old actor mode holder → ⊥) × Gains old actor mode new
 Asks old actor mode (Held holder) new = IsInTheWay old actor mode holder × (new ≡ old)
 
--- the sequence after one more exclusive use
-abbrev pub next_sequence : Lock → ℕ
-next_sequence lock = (lock.sequence + 1) % 2 ^ 64
+-- the sequence after one more exclusive use: one more, where that fits 64 bits
+abbrev pub next_sequence : ℕ → ℕ
+next_sequence sequence = if nat_lt (sequence + 1) (2 ^ 64) then sequence + 1 else sequence
 
 -- Nobody holds exclusive any more, and the sequence has risen; nothing else changes.
 pub record Lowers (old new : Lock) : Type 0 where
   pub holds : (a : ℕ) (m : Mode) → Holds new a m ↔ (Holds old a m × (m ≢ Exclusive))
   pub actors : actors new ≡ actors old
-  pub sequence : new.sequence ≡ next_sequence old
+  pub sequence : new.sequence ≡ next_sequence old.sequence
 
 -- The actor holds nothing any more; the sequence rises exactly where it held exclusive. Nothing else changes.
 pub record Releases (old : Lock) (actor : ℕ) (new : Lock) : Type 0 where
   pub holds : (a : ℕ) (m : Mode) → Holds new a m ↔ (Holds old a m × (a ≢ actor))
   pub actors : actors new ≡ actors old
-  pub ended : Holds old actor Exclusive → new.sequence ≡ next_sequence old
+  pub ended : Holds old actor Exclusive → new.sequence ≡ next_sequence old.sequence
   pub same : (Holds old actor Exclusive → ⊥) → new.sequence ≡ old.sequence
 
 -- What every lock keeps: it is for fewer than 256 actors; exclusive is somebody's, and then nobody else holds shared.

@@ -1,5 +1,6 @@
 ghost use Rattle.std.specs.Prelude.{ℕ, ◌≡◌, ◌≢◌, ◌<◌, ◌^◌, ◌↔◌, IfOk, IfSome, IfNone, IsTrue, true, false, length, slice_get};
 ghost use Rattle.six_lock.specs.Locks.{Asks, Holds, HoldsSome, IsOther, IsCompatible, IsFree, Lowers, Releases, actors};
+ghost use Rattle.six_lock.specs.Modes.{Mode};
 ghost use Rattle.six_lock.specs.Modes.Mode.{Shared, Intent, Exclusive};
 
 use std::alloc::{AllocError, Global};
@@ -23,7 +24,7 @@ pub struct Six {
     intent: Option<u8>,
     // whether the holder of intent holds exclusive too
     exclusive: bool,
-    // how many exclusive uses have ended, modulo 2^64
+    // rises by one as an exclusive use ends, and stands still at 2^64 - 1
     sequence: u64,
 }
 
@@ -42,11 +43,19 @@ impl Six {
     pub fn new(alloc: Global, count: u8) -> Result<Self, AllocError>
         ensures { IfOk result (λ lock. IsFree lock × (actors lock ≡ count) × (lock.sequence ≡ 0)) }
     {
+        Six::from_sequence(alloc, count, 0)
+    }
+
+    /// A lock as `new` makes it, whose sequence goes on from a number: for a node whose lock was forgotten while nobody
+    /// held it.
+    pub fn from_sequence(alloc: Global, count: u8, sequence: u64) -> Result<Self, AllocError>
+        ensures { IfOk result (λ lock. IsFree lock × (actors lock ≡ count) × (lock.sequence ≡ sequence)) }
+    {
         Ok(Six {
             shared: vec![in alloc; false; count as usize]?,
             intent: None,
             exclusive: false,
-            sequence: 0,
+            sequence,
         })
     }
 
@@ -100,7 +109,7 @@ impl Six {
         ensures { Lowers self.old self.new }
     {
         self.exclusive = false;
-        self.sequence = self.sequence.wrapping_add(1);
+        self.sequence = self.sequence.saturating_add(1);
     }
 
     /// The actor holds nothing from now on. Where it held exclusive, the sequence rises.
@@ -113,12 +122,12 @@ impl Six {
             return;
         }
         self.intent = None;
-        self.sequence = self.sequence.wrapping_add(self.exclusive as u64);
+        self.sequence = self.sequence.saturating_add(self.exclusive as u64);
         self.exclusive = false;
     }
 
-    /// How many exclusive uses have ended, modulo 2^64. Who finds it changed knows that what it read before may be
-    /// stale.
+    /// A number that rises as an exclusive use ends. Who finds it as it was before knows that what it read then still
+    /// holds. At 2^64 - 1, which no volume lives to see, it stands still.
     pub fn seq(&self) -> u64
         ensures { result ≡ self.now.sequence }
     {
@@ -165,6 +174,25 @@ impl Six {
         }
     }
 
+    /// Another actor that holds shared, if there is one. The cost grows with the number of actors.
+    pub fn other_reader(&self, actor: u8) -> Option<u8>
+        ensures some { IfSome result (λ holder. IsOther self.now actor Shared holder) }
+        ensures none { IfNone result ((holder : ℕ) → IsOther self.now actor Shared holder → ⊥) }
+    {
+        other_flag(&self.shared, actor)
+    }
+
+    /// Another actor that holds any mode, if there is one. The cost grows with the number of actors.
+    pub fn other_holder(&self, actor: u8) -> Option<u8>
+        ensures some { IfSome result (λ holder. (holder ≢ actor) × HoldsSome self.now holder) }
+        ensures none { IfNone result ((holder : ℕ) (mode : Mode) → IsOther self.now actor mode holder → ⊥) }
+    {
+        match self.other_owner(actor) {
+            Some(holder) => Some(holder),
+            None => self.other_reader(actor),
+        }
+    }
+
     /// A law of every lock, whatever was called before: the modes that are granted are compatible.
     pub fn is_compatible(&self)
         ensures { IsCompatible self.now }
@@ -181,14 +209,6 @@ impl Six {
             Some(holder) if holder != actor => Some(holder),
             _ => None,
         }
-    }
-
-    // Another actor that holds shared.
-    fn other_reader(&self, actor: u8) -> Option<u8>
-        ensures some { IfSome result (λ holder. IsOther self.now actor Shared holder) }
-        ensures none { IfNone result ((holder : ℕ) → IsOther self.now actor Shared holder → ⊥) }
-    {
-        other_flag(&self.shared, actor)
     }
 }
 

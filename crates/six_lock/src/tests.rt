@@ -65,5 +65,10 @@ fn calls_in_turn(rt: HostRuntime) -> Result<(), Fail> {
         assert!(rt; lock.seq() == *sequence);
     }
     assert!(rt; !lock.is_free());
+    assert_eq!(rt; lock.other_reader(1), Some(0));
+    assert_eq!(rt; lock.other_holder(1), Some(0));
+    assert_eq!(rt; lock.other_holder(0), None);
+    let later = Six::from_sequence(rt.alloc(), 2, lock.seq())?;
+    assert_eq!(rt; later.seq(), 2);
     Ok(())
 }

@@ -104,3 +104,26 @@ fn cuts(rt: HostRuntime) -> Result<(), Fail> {
     assert!(rt; bytes.is_empty());
     Ok(())
 }
+
+#[test]
+fn reserves(rt: HostRuntime) -> Result<(), Fail> {
+    let alloc = rt.alloc();
+    let mut room = SpareList::new(alloc);
+    room.reserve(1)?;
+    room.push(b'a');
+    let mut room = Bytes::from(room).reserve(1)?;
+    room.push(b'b');
+    assert!(rt; room.as_slice() == b"ab".as_slice());
+    Ok(())
+}
+
+#[test]
+fn joins(rt: HostRuntime) -> Result<(), Fail> {
+    let alloc = rt.alloc();
+    let mut bytes = Bytes::from_slice(alloc, b"ab")?;
+    let mut others = Bytes::from_slice(alloc, b"c")?;
+    bytes.append(&mut others)?;
+    assert!(rt; bytes.as_slice() == b"abc".as_slice());
+    assert!(rt; others.is_empty());
+    Ok(())
+}

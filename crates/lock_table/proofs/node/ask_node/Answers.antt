@@ -20,7 +20,7 @@ returns-in-Some-clause-ok c =
     let at = is_at (nat_cmp c.args.name.now.birth) in
     let written = c.get_mut.follows.holds now in
     let update = written.3 (subst IsSome c.in-Some.ensures.value refl) in
-    asks_here c.args.nodes.now.entries _ c.args.actor c.args.name.now (mode_of c.args.mode) c.ask_lock.result was now is refl (changes _ _ _ _ update.1 update.2)
+    asks_here c.args.sequence c.args.nodes.now.entries _ c.args.actor c.args.name.now (mode_of c.args.mode) c.ask_lock.result was now is refl (changes _ _ _ _ update.1 update.2)
     (λ same. written.0 ∙ ap (set_value at c.args.nodes.now.entries) same ∙ set_value_same at c.args.nodes.now.entries was is)
     c.ask_lock.ensures
 

@@ -5,26 +5,23 @@ use Rattle.lock_table.specs.declared.node.Node.{Node}
 use Rattle.lock_table.proofs.InUse.{changes, changes_again, in_use_changed}
 use Rattle.lock_table.proofs.node.release_node.Goals as goal
 
-pub release-requires : goal.release-requires
-release-requires c = c.requires c.in-Some.node.now (sym c.in-Some.ensures.value)
-
 pub returns-in-None-clause-in_use : goal.returns-in-None-clause-in_use
 returns-in-None-clause-in_use c = λ count each. subst (EachInUse count) (ap (λ m. m.entries) (sym c.get_mut.follows.holds-at-none)) each
 
-pub returns-else-is_free-clause-in_use : goal.returns-else-is_free-clause-in_use
-returns-else-is_free-clause-in_use c = λ count each.
+pub returns-in-None-gone-clause-in_use : goal.returns-in-None-gone-clause-in_use
+returns-in-None-gone-clause-in_use c = λ count each.
     let was : Node = c.in-Some.node.now in
-    let now : Node = record { name = was.name; lock = c.release.new.self } in
+    let now : Node = record { name = was.name; lock = c.release_lock-gone.new.lock } in
     let update = (c.get_mut.follows.holds now).3 (subst IsSome c.in-Some.ensures.value refl) in
     let use_of = each c.args.birth was (sym c.in-Some.ensures.value) in
-    let holder = c.if-is_free.ensures.held refl in
+    let holder = c.in-None-gone.ensures.held in
     in_use_changed count c.args.nodes.now.entries _ c.args.birth (Some now) each (changes _ _ _ _ update.1 update.2)
-    (λ n same. subst (IsInUse count) (same_Some now n same) (record { sized = c.release.ensures.actors ∙ use_of.sized; holder = holder.0; holds = holder.1 }))
+    (λ n same. subst (IsInUse count) (same_Some now n same) (record { sized = c.release_lock-gone.ensures.releases.actors ∙ use_of.sized; holder = holder.0; holds = holder.1 }))
 
-pub returns-then-is_free-clause-in_use : goal.returns-then-is_free-clause-in_use
-returns-then-is_free-clause-in_use c = λ count each.
+pub returns-in-Some-gone-clause-in_use : goal.returns-in-Some-gone-clause-in_use
+returns-in-Some-gone-clause-in_use c = λ count each.
     let was : Node = c.in-Some.node.now in
-    let now : Node = record { name = was.name; lock = c.release.new.self } in
+    let now : Node = record { name = was.name; lock = c.release_lock-gone.new.lock } in
     let update = (c.get_mut.follows.holds now).3 (subst IsSome c.in-Some.ensures.value refl) in
     let removed = c.remove.ensures.updates in
     in_use_changed count c.args.nodes.now.entries _ c.args.birth None each

@@ -1,14 +1,9 @@
-use Rattle.std.proofs.Common.{subst, sym}
-use Rattle.pin_list.specs.Trees.{IsTree}
-use Rattle.pin_list.proofs.Rising.{rises-with_value}
-use Rattle.pin_list.proofs.Forks.{tree_of, rises-lowered}
+use Rattle.std.proofs.Common.{Some, ℕ, sym, subst}
+use Rattle.pin_list.specs.Pins.{IsKept, with_pin}
+use Rattle.pin_list.proofs.Least.{kept_with}
 use Rattle.pin_list.proofs.PinList.pin.Goals as goal
 
 pub invariant_of-self : goal.invariant_of-self
-invariant_of-self c = tree_of _ _ (rises-lowered c.lower.result c.args.node c.args.seq _ c.self.invariant.rises) c.lower.ensures.numbers c.lower.ensures.least
-
-pub invariant_of-self-in-Some-2 : goal.invariant_of-self-in-Some-2
-invariant_of-self-in-Some-2 c =
-    let same = tree_of _ _ (rises-lowered c.lower.result c.args.node c.args.seq _ c.self.invariant.rises) c.lower.ensures.numbers c.lower.ensures.least in
-    let before : IsTree c.replace-tree.result = subst IsTree (sym c.replace-tree.ensures.value) same in
-    tree_of _ _ (rises-with_value c.set.new.self.node c.set.new.self.seq _ before.rises) c.with.ensures.numbers c.with.ensures.least
+invariant_of-self c =
+    subst (λ pins. IsKept pins (Some c.smaller_of.result)) (sym c.put.ensures.numbers)
+    (subst (λ (n : ℕ). IsKept (with_pin c.args.node c.args.seq c.self.inside.pins.items) (Some n)) (sym c.smaller_of.ensures) (kept_with c.self.inside.pins.items c.self.inside.oldest c.args.node c.args.seq c.self.invariant))

@@ -1,10 +1,13 @@
-use Rattle.std.proofs.Common.{subst, sym}
-use Rattle.pin_list.specs.Trees.{IsTree}
-use Rattle.pin_list.proofs.Rising.{rises-without}
-use Rattle.pin_list.proofs.Forks.{tree_of}
+use Rattle.std.proofs.Common.{sym, subst, ap, ◌∙◌}
+use Rattle.std.specs.Ordering.{nat_cmp}
+use Rattle.vol_types.specs.Maps.{IsMap}
+use Rattle.pin_list.specs.Pins.{least_pin}
+use Rattle.std.proofs.lemmas.Cmp.{nat_cmp_total}
+use Rattle.vol_types.specs.MapLaws.{IsMap-without}
 use Rattle.pin_list.proofs.PinList.release.Goals as goal
 
 pub invariant_of-self : goal.invariant_of-self
-invariant_of-self c =
-    let before : IsTree c.replace-tree.result = subst IsTree (sym c.replace-tree.ensures.value) c.self.invariant in
-    tree_of _ _ (rises-without c.args.node _ before.rises) c.without.ensures.numbers c.without.ensures.least
+invariant_of-self c = record {
+  rises = subst (IsMap nat_cmp) (sym c.take_out.ensures.numbers) (IsMap-without nat_cmp_total c.args.node c.self.inside.pins.items c.self.invariant.rises);
+  knows = c.least_of-self-inside.ensures ∙ ap least_pin c.deref.ensures.value;
+}

@@ -1,0 +1,69 @@
+-- The parts of a node's values, by what `BTreeMap` says of its ranges.
+use Rattle.std.proofs.Common.{◌≡◌, ◌-◌, true, false, not, ◌&&◌, Option, Some, None, List, [], ◌∷◌, ◌++◌, length, refl, sym, ap, ◌∙◌, arith}
+use Rattle.std.specs.Prelude.{option_map, slice_get}
+use Rattle.std.specs.List.{filter}
+use Rattle.std.specs.Map.Iter.{TakesLast}
+use Rattle.std.specs.Ordering.{is_le, is_lt, is_gt, ordering_reverse}
+use Rattle.std.specs.declared.cmp.Ordering.{Ordering}
+use Rattle.std.specs.declared.cmp.Ordering.TheVariants.{Less, Equal, Greater}
+use Rattle.std.proofs.Math.Seq.{get_or-append_seam}
+use Rattle.std.proofs.lemmas.Bool.{false≢true}
+use Rattle.std.proofs.lemmas.Cmp.{upto}
+use Rattle.std.proofs.lemmas.List.{length-append}
+use Rattle.std.proofs.lemmas.Option.{slice_get_read}
+use Rattle.std.proofs.lemmas.List.Elements.{filter_agree}
+use Rattle.vol_types.specs.Positions.{pos_cmp}
+use Rattle.vol_types.specs.declared.positions.Pos.{Pos}
+use Rattle.vol_types.specs.declared.values.Value.{Value}
+use Rattle.vol_types.proofs.PositionOrder.{pos_total}
+use Rattle.vol_types.specs.KeyMaps.{entries_within}
+use Rattle.node_mem.specs.Nodes.{entries_up_to}
+
+-- an order turned round
+turned : (o : Ordering) → not (is_lt (ordering_reverse o)) ≡ is_le o
+turned Less = refl
+turned Equal = refl
+turned Greater = refl
+
+-- a position is at or before another exactly where that one isn't before it
+pub le_turned : (p q : Pos) → not (is_lt (pos_cmp p q)) ≡ is_le (pos_cmp q p)
+le_turned p q = ap (λ o. not (is_lt o)) (pos_total.antisymm p q) ∙ turned (pos_cmp q p)
+
+-- the values that aren't after a position are those up to it
+pub up_to-range : (pos : Pos) (values : List (Pos × Value)) → filter (λ entry. not (is_lt (pos_cmp pos entry.0))) values ≡ entries_up_to pos values
+up_to-range pos values = filter_agree (λ entry. not (is_lt (pos_cmp pos entry.0))) (λ entry. is_le (pos_cmp entry.0 pos)) (λ entry. le_turned pos entry.0) values
+
+-- the same between two positions
+pub within-range : (first last : Pos) (values : List (Pos × Value)) → filter (λ entry. is_le (pos_cmp first entry.0) && not (is_lt (pos_cmp last entry.0))) values ≡ entries_within first last values
+within-range first last values =
+    filter_agree (λ entry. is_le (pos_cmp first entry.0) && not (is_lt (pos_cmp last entry.0))) (λ entry. is_le (pos_cmp first entry.0) && is_le (pos_cmp entry.0 last))
+    (λ entry. ap (λ b. is_le (pos_cmp first entry.0) && b) (le_turned last entry.0)) values
+
+-- nothing is both after one bound and before another that is before the first
+crossed : (a b : Ordering) → (is_gt a ≡ false → is_gt b ≡ false → ⊥) → (is_le a && not (is_le a)) ≡ (is_le a && is_le b)
+crossed Greater b apart = refl
+crossed Less Greater apart = refl
+crossed Equal Greater apart = refl
+crossed Less Less apart = absurd (apart refl refl)
+crossed Less Equal apart = absurd (apart refl refl)
+crossed Equal Less apart = absurd (apart refl refl)
+crossed Equal Equal apart = absurd (apart refl refl)
+
+-- where the first position is after the last one, there are no values between them
+pub crossed-range : (first last : Pos) (values : List (Pos × Value)) → is_gt (pos_cmp first last) ≡ true
+    → filter (λ entry. is_le (pos_cmp first entry.0) && not (is_le (pos_cmp first entry.0))) values ≡ entries_within first last values
+crossed-range first last values after =
+    filter_agree (λ entry. is_le (pos_cmp first entry.0) && not (is_le (pos_cmp first entry.0))) (λ entry. is_le (pos_cmp first entry.0) && is_le (pos_cmp entry.0 last))
+    (λ entry. crossed (pos_cmp first entry.0) (pos_cmp entry.0 last) (λ le up. false≢true (sym (upto pos_total first entry.0 last le up) ∙ after))) values
+
+-- the last of a list that was pushed to
+last_pushed : {X : Type 0} (xs : List X) (x : X) → slice_get (xs ++ x ∷ []) (length (xs ++ x ∷ []) - 1) ≡ Some x
+last_pushed xs x =
+    let at : length (xs ++ x ∷ []) - 1 ≡ length xs = omega (arith, length-append xs (x ∷ [])) in
+    ap (λ i. slice_get (xs ++ x ∷ []) i) at
+    ∙ slice_get_read (xs ++ x ∷ []) (length (xs ++ x ∷ [])) (length xs) x refl (omega (arith, length-append xs (x ∷ []))) (sym (get_or-append_seam xs x [] x))
+
+-- the item that is taken from the end is the last one
+pub last_taken : {A X : Type 0} (shows : A → X) (values rest : List X) (taken : Option A) → TakesLast shows values taken rest → option_map shows taken ≡ slice_get values (length values - 1)
+last_taken shows values rest None none = sym (ap (λ xs. slice_get xs (length xs - 1)) none.0)
+last_taken shows values rest (Some x) some = sym (ap (λ xs. slice_get xs (length xs - 1)) some ∙ last_pushed rest (shows x))
