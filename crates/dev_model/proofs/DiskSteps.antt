@@ -1,6 +1,6 @@
 -- What a step leaves of the disks, and what is read of one of them.
-use Rattle.std.proofs.Common.{◌≡◌, ℕ, zero, suc, ◌<◌, List, [], ◌∷◌, ◌++◌, length, map, get_or, set, slice_get, Some, refl, ap, ◌∙◌, sym, subst, arith}
-use Rattle.std.proofs.lemmas.List.{length-replicate, length-set}
+use Rattle.std.proofs.Common.{◌≡◌, ℕ, zero, suc, ◌<◌, List, [], ◌∷◌, length, map, get_or, slice_get, Some, refl, ap, ◌∙◌, sym, subst, arith}
+use Rattle.std.proofs.lemmas.List.{length-set}
 use Rattle.std.proofs.lemmas.List.Elements.{All-head, All-tail, All-cons, All-nil}
 use Rattle.dev_model.specs.Disk.{Disk, IsAtRest, NothingPending, sizes_of, as_read, block_at, blocks_of, changed, blank, patched}
 use Rattle.dev_model.specs.Replay.{after_step}
@@ -53,6 +53,15 @@ pub blocks_read : (devices : List Disk) (dev : ℕ) (d : Disk) → dev < length 
 blocks_read [] dev d in_range read = absurd (omega (arith, in_range))
 blocks_read (disk ∷ devices) zero d in_range read = ap (λ (s : Disk). s.blocks) (sym read)
 blocks_read (disk ∷ devices) (suc dev) d in_range read = blocks_read devices dev d (omega (arith, in_range)) read
+
+-- what is read there, or nothing
+pub block_read_or : (devices : List Disk) (dev block : ℕ) (d : Disk) (bytes : List ℕ) → dev < length devices → d ≡ get_or devices dev d → slice_get d.blocks block ≡ Some bytes → get_or (blocks_of (as_read devices) dev) block [] ≡ bytes
+block_read_or devices dev block d bytes in_range read is = ap (λ (blocks : List (List ℕ)). get_or blocks block []) (blocks_read devices dev d in_range read) ∙ there d.blocks block bytes is
+  where
+    there : (blocks : List (List ℕ)) (b : ℕ) (x : List ℕ) → slice_get blocks b ≡ Some x → get_or blocks b [] ≡ x
+    there [] b x is = cc
+    there (first ∷ blocks) zero x is = cc
+    there (first ∷ blocks) (suc b) x is = there blocks b x is
 
 -- nothing of a device is pending where nothing is
 pub pending_of : (devices : List Disk) (dev : ℕ) (d : Disk) → dev < length devices → d ≡ get_or devices dev d → NothingPending devices → IsAtRest d

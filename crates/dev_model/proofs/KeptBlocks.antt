@@ -1,11 +1,11 @@
 -- How a device in memory changes, by the blocks that it keeps and what was overwritten of them.
-use Rattle.std.proofs.Common.{◌≡◌, ℕ, ◌-◌, ◌<◌, ◌≤◌, ◌^◌, List, [], ◌∷◌, ◌++◌, length, map, replicate, get_or, set, ap, ◌∙◌, sym, subst, arith, All}
+use Rattle.std.proofs.Common.{◌≡◌, ℕ, ◌-◌, ◌<◌, ◌≤◌, ◌^◌, List, [], ◌∷◌, ◌++◌, length, map, replicate, get_or, set, ap, ◌∙◌, sym, subst, arith}
 use Rattle.std.proofs.lemmas.List.{length-append, length-replicate, length-set, map_push}
-use Rattle.std.proofs.lemmas.List.Elements.{All-replicate, All-same, All-nil, All-push, All-weaker}
-use Rattle.dev_model.specs.Disk.{Asked, Disk, IsBlock, IsDisk, at_rest, after_write, extended, zeros}
+use Rattle.std.proofs.lemmas.List.Elements.{All-replicate, All-same, All-set, All-nil, All-push, All-weaker}
+use Rattle.dev_model.specs.Disk.{Asked, Disk, IsAtRest, IsBlock, IsDisk, at_rest, after_write, extended, zeros}
 use Rattle.dev_model.specs.MemDisks.{IsKept, asked_of, disk_by, restored}
 use Rattle.dev_model.specs.declared.disk.Overwritten.{Overwritten}
-use Rattle.dev_model.proofs.Overwriting.{restored_write, restored-append}
+use Rattle.dev_model.proofs.Overwriting.{none_overwritten, restored_write, restored-append}
 use Rattle.dev_model.proofs.SoundDisks.{zeros_are_block, at_rest_is_disk, written_is_disk, extended_is_disk}
 
 -- the disk of which nothing was overwritten is at rest
@@ -58,3 +58,12 @@ module _ (blocks : List (List ℕ)) (overwritten : List Overwritten) (shortest :
             (All-weaker (λ (o : Overwritten). o.block < length blocks) (λ (o : Overwritten). o.block < length (set blocks one.block left)) (λ o there. omega (arith, there, long)) overwritten is.places)
             (omega (arith, within, long));
       }
+
+-- a block that is set while nothing is pending
+pub patched_is_kept : (blocks : List (List ℕ)) (overwritten : List Overwritten) (shortest block : ℕ) (bytes : List ℕ) → IsKept blocks overwritten shortest → IsAtRest (disk_by blocks overwritten shortest) → IsBlock bytes → IsKept (set blocks block bytes) overwritten shortest
+patched_is_kept blocks overwritten shortest block bytes is rest is_block =
+    let long : length (set blocks block bytes) ≡ length blocks = length-set blocks block bytes in
+    at_rest_is_kept (set blocks block bytes) overwritten shortest
+    (at_rest_is_disk (set blocks block bytes) (omega (arith, long, is.disk.size)) (All-set IsBlock blocks block bytes is_block is.disk.blocks))
+    (none_overwritten overwritten rest.writes)
+    (rest.extension ∙ sym long)

@@ -1,5 +1,5 @@
 -- What is left of one device.
-use Rattle.std.proofs.Common.{◌≡◌, ℕ, zero, suc, ◌+◌, ◌<◌, ◌^◌, List, [], ◌∷◌, ◌++◌, length, map, take, drop, get_or, slice_get, refl, ap, ◌∙◌, sym, subst, arith, All, Some}
+use Rattle.std.proofs.Common.{◌≡◌, ℕ, zero, suc, ◌+◌, ◌<◌, List, [], ◌∷◌, ◌++◌, length, map, take, drop, get_or, slice_get, refl, ap, ◌∙◌, sym, subst, arith, All, Some, Result, Ok, Err, IfOk}
 use Rattle.std.specs.List.{zip}
 use Rattle.std.proofs.lemmas.List.{length-take-le, length-append, length-drop, take-append-drop, take_more}
 use Rattle.std.proofs.lemmas.List.Elements.{All-take, All-drop, All-append, All-cons, All-nil, All-head, All-tail}
@@ -100,3 +100,8 @@ module _ (blocks : List (List ℕ)) (overwritten : List Overwritten) (shortest :
   pick_is_disk pick left exact =
       let may = pick_may_be_left pick in
       at_rest_is_disk left (omega (arith, ap length exact, may.no_longer, is.disk.size)) (subst (λ bs. All IsBlock bs) (sym exact) may.blocks)
+
+-- a torn block is one, if there was memory for it
+pub torn_if_ok : {E : Type 0} (result : Result (List ℕ) E) (first second : List ℕ) → IsBlock first → IsBlock second → IfOk result (λ bytes. bytes ≡ torn first second) → IfOk result (λ bytes. IsBlock bytes)
+torn_if_ok (Ok bytes) first second one two is = subst IsBlock (sym is) (torn_is_block first second one two)
+torn_if_ok (Err e) first second one two is = tt

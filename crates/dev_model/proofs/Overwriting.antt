@@ -1,9 +1,9 @@
 -- What was overwritten, put back.
-use Rattle.std.proofs.Common.{◌≡◌, ℕ, zero, suc, ◌<◌, List, [], ◌∷◌, ◌++◌, length, map, get_or, set, drop, slice_get, refl, ap, ◌∙◌, sym, arith, All, Contains}
+use Rattle.std.proofs.Common.{◌≡◌, ℕ, zero, suc, ◌<◌, List, [], ◌∷◌, ◌++◌, length, map, get_or, set, drop, slice_get, refl, ap, ◌∙◌, sym, arith, All}
 use Rattle.std.proofs.Math.Seq.{drop-cons}
 use Rattle.std.proofs.lemmas.List.{length-set, set-get_or, set-append_left}
 use Rattle.std.proofs.lemmas.List.Elements.{All-set, All-head, All-tail}
-use Rattle.dev_model.specs.Disk.{Asked, IsBlock, IsPending}
+use Rattle.dev_model.specs.Disk.{IsBlock, IsPending}
 use Rattle.dev_model.specs.MemDisks.{asked_of, disk_by, restored}
 use Rattle.dev_model.specs.CrashDisks.{slice_get-set_other}
 use Rattle.dev_model.specs.declared.disk.Overwritten.{Overwritten}

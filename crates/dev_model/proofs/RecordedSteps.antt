@@ -1,14 +1,16 @@
 -- How a recording goes on, by a step or by none.
-use Rattle.std.proofs.Common.{◌≡◌, ℕ, suc, ◌<◌, ◌≤◌, ◌^◌, List, [], ◌∷◌, ◌++◌, length, set, refl, ap, ◌∙◌, sym, subst, arith, Result, Err, Ok, MatchResult, OnOk, OnErr, All, inl, inr}
+use Rattle.std.proofs.Common.{◌≡◌, ℕ, suc, ◌<◌, ◌≤◌, ◌^◌, List, [], ◌∷◌, ◌++◌, length, get_or, refl, ap, ◌∙◌, sym, subst, arith, Result, Err, Ok, MatchResult, OnOk, OnErr, All, inr}
 use Rattle.std.proofs.lemmas.List.Elements.{All-same}
-use Rattle.dev_model.specs.Disk.{Disk, IsDisk, IsBlock, NothingPending, changed, after_write, written, sizes_of}
+use Rattle.dev_model.specs.Disk.{Disk, IsDisk, IsBlock, NothingPending, as_read, blocks_of, changed, after_write, sizes_of}
 use Rattle.dev_model.specs.Devices.{DevicesState, ChangesDisks, now, MayBeWritten}
 use Rattle.dev_model.specs.Replay.{after_step, inside_step, after_steps, replayed, moments, disks_at, moments_push, after_push, at_end, at_past, at_inside}
 use Rattle.dev_model.specs.Recording.{AddsStep, AddsNone}
+use Rattle.dev_model.specs.Restart.{block_left_by}
+use Rattle.dev_model.specs.declared.disk.Pick.{Pick}
 use Rattle.dev_model.specs.declared.recording.Step.{Step}
 use Rattle.dev_model.specs.declared.recording.Step.TheVariants.{Nothing, Extended, Written, Flushed, Patched}
 use Rattle.dev_model.proofs.DiskSteps.{length-after_step, patched_is_quiet}
-use Rattle.dev_model.proofs.SoundDisks.{all_changed, written_is_disk, flushed_is_disk, extended_is_disk, patched_is_disk, sizes_of-written, sizes_of-patched}
+use Rattle.dev_model.proofs.SoundDisks.{all_changed, written_is_disk, flushed_is_disk, extended_is_disk, patched_is_disk, sizes_of-patched}
 
 -- a call that failed before it did anything
 pub changes_nothing : {T E : Type 0} (e : E) (partly wholly : List Disk → Type 0) (old new : DevicesState) → new ≡ old → partly (now old) → ChangesDisks {T = T} (Err e) partly wholly old new
@@ -96,6 +98,11 @@ module _ (start : List Disk) (devices new_devices : List Disk) (steps new_steps 
   recording_after (Ok x) step keeps adds none = recording_step step keeps adds
   recording_after (Err e) step keeps adds none = recording_none none
 
+  -- a write that failed as it was to, or found no memory
+  pub recording_failed_write : {T E : Type 0} (result : Result T E) (dev block : ℕ) (bytes left : List ℕ) → OnOk result (IsBlock left × AddsStep (Written dev block bytes left) devices new_devices steps new_steps) → OnErr result (AddsNone devices new_devices steps new_steps) → IsRecording start new_devices new_steps
+  recording_failed_write (Ok x) dev block bytes left made none = recording_step (Written dev block bytes left) (write_keeps dev block bytes left made.0) made.1
+  recording_failed_write (Err e) dev block bytes left made none = recording_none none
+
 pub same_state : (start : List Disk) (steps new_steps : List Step) → new_steps ≡ steps → replayed new_steps start ≡ replayed steps start
 same_state start steps new_steps same = ap (λ s. replayed s start) same
 
@@ -105,6 +112,25 @@ pub changes_failed_write : {T E : Type 0} (e : E) (wholly : List Disk → Type 0
 changes_failed_write {T} e wholly start steps new_steps dev block bytes left is_block log =
     let done : MayBeWritten dev block bytes (now (replayed steps start)) (changed dev (after_write block bytes left) (now (replayed steps start))) = inr (left, is_block, refl) in
     changes_step {T = T} (Err e) _ wholly start steps (Written dev block bytes left) new_steps log done done
+
+-- A write that failed, with what it left under another name.
+pub failed_write_added : {T E : Type 0} (result : Result T E) (devices new_devices : List Disk) (steps new_steps : List Step) (dev block : ℕ) (bytes left as_picked : List ℕ) → left ≡ as_picked → IsBlock left
+    → OnOk result (AddsStep (Written dev block bytes left) devices new_devices steps new_steps)
+    → OnOk result (IsBlock as_picked × AddsStep (Written dev block bytes as_picked) devices new_devices steps new_steps)
+failed_write_added (Ok x) devices new_devices steps new_steps dev block bytes left as_picked same is adds =
+    (subst IsBlock same is, subst (λ (l : List ℕ). AddsStep (Written dev block bytes l) devices new_devices steps new_steps) same adds)
+failed_write_added (Err e) devices new_devices steps new_steps dev block bytes left as_picked same is adds = tt
+
+-- What is told after a write that failed: of its block what the pick says.
+pub failed_write_told : (start devices new_devices : List Disk) (steps new_steps : List Step) (pick : Pick) (dev block : ℕ) (bytes : List ℕ) → devices ≡ after_steps steps start
+    → AddsStep (Written dev block bytes (block_left_by pick bytes (get_or (blocks_of (as_read devices) dev) block []))) devices new_devices steps new_steps
+    → now (replayed new_steps start) ≡ changed dev (after_write block bytes (block_left_by pick bytes (get_or (blocks_of (as_read (now (replayed steps start))) dev) block []))) (now (replayed steps start))
+failed_write_told start devices new_devices steps new_steps pick dev block bytes replays adds =
+    let told : now (replayed steps start) ≡ devices = now_replayed steps start ∙ sym replays in
+    let left : List ℕ = block_left_by pick bytes (get_or (blocks_of (as_read devices) dev) block []) in
+    let P : List Disk → Type 0 = λ ds. now (replayed new_steps start) ≡ changed dev (after_write block bytes (block_left_by pick bytes (get_or (blocks_of (as_read ds) dev) block []))) ds in
+    subst P (sym told) (
+    now_replayed new_steps start ∙ ap (λ s. after_steps s start) adds.log ∙ after_push steps (Written dev block bytes left) start ∙ ap (after_step (Written dev block bytes left)) (sym replays))
 
 -- A call that failed has changed the disks so, whatever its fault is.
 pub changes_otherwise : {S T E F : Type 0} (e : E) (f : F) (partly wholly : List Disk → Type 0) (old new : DevicesState) → ChangesDisks {T = S} (Err e) partly wholly old new → ChangesDisks {T = T} (Err f) partly wholly old new
@@ -127,9 +153,11 @@ module _ (devices new_devices : List Disk) (steps new_steps : List Step) (dev bl
   sizes_after_patch (Ok x) adds none = ap sizes_of adds.after ∙ sizes_of-patched devices dev block bytes
   sizes_after_patch (Err e) adds none = ap sizes_of none.after
 
-  pub quiet_after_patch : {T E : Type 0} (result : Result T E) → OnOk result (AddsStep (Patched dev block bytes) devices new_devices steps new_steps) → OnErr result (AddsNone devices new_devices steps new_steps) → NothingPending devices → NothingPending new_devices
-  quiet_after_patch (Ok x) adds none quiet = subst NothingPending (sym adds.after) (patched_is_quiet devices dev block bytes quiet)
-  quiet_after_patch (Err e) adds none quiet = subst NothingPending (sym none.after) quiet
+  pub quiet_after_patch : {T E : Type 0} (result : Result T E) (start : List Disk) → OnOk result (AddsStep (Patched dev block bytes) devices new_devices steps new_steps) → OnErr result (AddsNone devices new_devices steps new_steps) → NothingPending (now (replayed steps start)) → NothingPending (now (replayed new_steps start))
+  quiet_after_patch {T} {E} (Ok x) start adds none quiet =
+      let after = now_after {E = E} (Ok x) start devices new_devices steps new_steps (Patched dev block bytes) adds in
+      subst NothingPending (sym after) (patched_is_quiet (now (replayed steps start)) dev block bytes quiet)
+  quiet_after_patch (Err e) start adds none quiet = subst (λ s. NothingPending (now (replayed s start))) (sym none.log) quiet
 
 -- before the first step
 pub told_none : (start disks : List Disk) (steps : List Step) → steps ≡ [] → start ≡ disks → now (replayed steps start) ≡ disks

@@ -1,5 +1,5 @@
 -- Laws on what a crash may leave of disks that a write, a flush or an extension changed.
-use Rattle.std.proofs.Common.{◌≡◌, ◌≢◌, ℕ, zero, suc, ◌<◌, ◌≤◌, List, [], ◌∷◌, ◌++◌, length, get_or, set, slice_get, refl, ap, ◌∙◌, sym, subst, arith, ⊎_elim, All, Contains}
+use Rattle.std.proofs.Common.{◌≡◌, ◌≢◌, ℕ, zero, suc, ◌<◌, ◌≤◌, List, [], ◌∷◌, length, get_or, set, slice_get, refl, ap, ◌∙◌, sym, subst, arith, ⊎_elim, All, Contains}
 use Rattle.std.proofs.lemmas.List.{length-set, set_past}
 use Rattle.std.proofs.lemmas.List.Elements.{All-set, All-head, All-tail, All-get_or, Contains-push_cases}
 use Rattle.std.proofs.lemmas.Bool.{cases_lt, cases_eq}
@@ -37,11 +37,13 @@ slice_get-set_same (x ∷ xs) (y ∷ ys) (suc i) d p q = slice_get-set_same xs y
 pub pending_after_write : (disk : Disk) (block : ℕ) (bytes left : List ℕ) (b : ℕ) → b ≢ block → IsPending (after_write block bytes left disk) b → IsPending disk b
 pending_after_write disk block bytes left b other pending =
     let one : Asked = record { block = block; bytes = bytes } in
-    let asked : Asked = record { block = b; bytes = pending.0 } in
-    (pending.0, ⊎_elim
-        (λ (before : Contains disk.asked asked). before)
-        (λ (same : one ≡ asked). absurd (other (sym (ap (λ (a : Asked). a.block) same))))
-        (Contains-push_cases disk.asked one asked pending.1))
+    let asked : Asked = record { block = b; bytes = pending.0 } in (
+      pending.0,
+      ⊎_elim
+          (λ (before : Contains disk.asked asked). before)
+          (λ (same : one ≡ asked). absurd (other (sym (ap (λ (a : Asked). a.block) same))))
+          (Contains-push_cases disk.asked one asked pending.1),
+    )
 
 -- after a write a crash leaves what it might have left before, but for the block
 write_leaves : (disk : Disk) (block : ℕ) (bytes read : List ℕ) → IsDisk disk → (left : List (List ℕ)) → IsCrashOf (after_write block bytes read disk) left → (before : List (List ℕ)) × IsCrashOf disk before × ((b : ℕ) → b ≢ block → slice_get before b ≡ slice_get left b)

@@ -1,5 +1,5 @@
 -- Laws on frames, for whoever calls devices: nothing was done, one call was made, one part came after another.
-use Rattle.std.proofs.Common.{◌≡◌, ℕ, zero, suc, ◌<◌, ◌≤◌, List, [], ◌∷◌, get_or, refl, ap, ◌∙◌, arith, Result, Ok, Err, MatchResult, ◌⊎◌, inl, inr, ⊎_elim, subst, sym}
+use Rattle.std.proofs.Common.{◌≡◌, ℕ, zero, suc, ◌<◌, ◌≤◌, List, [], ◌∷◌, refl, ap, ◌∙◌, arith, Result, Ok, Err, MatchResult, ◌⊎◌, inl, inr, ⊎_elim, subst, sym}
 use Rattle.std.proofs.lemmas.Bool.{cases_lt}
 use Rattle.dev_model.specs.Disk.{Disk, changed}
 use Rattle.dev_model.specs.Devices.{ChangesDisks, DevicesState, FaultCounts, Is, IsCall, IsRead, now, risen, with_read_fault, with_write_fault}

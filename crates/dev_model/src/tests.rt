@@ -1,7 +1,7 @@
 use crate::{Devices, Gate, MemDevices, NoGate, Pick};
 use std::alloc::Global;
 use std::test::Fail;
-use vol_types::Failed;
+use vol_types::{Failed, Place};
 
 const PICKS: [Pick; 3] = [Pick::AllWritten, Pick::NoneWritten, Pick::Torn];
 
@@ -33,7 +33,7 @@ fn written(alloc: Global, failing: &[u64]) -> Result<MemDevices, Fail> {
 }
 
 #[test]
-fn a_stop_leaves_what_is_picked(rt: HostRuntime) -> Result<(), Fail> {
+fn a_crash_leaves_what_is_picked(rt: HostRuntime) -> Result<(), Fail> {
     let alloc = rt.alloc();
     let left: [([u64; 1], [(u8, u8); 3]); 4] = [
         ([9], [(2, 2), (1, 1), (2, 1)]),
@@ -46,6 +46,37 @@ fn a_stop_leaves_what_is_picked(rt: HostRuntime) -> Result<(), Fail> {
             let mut after = written(alloc, failing)?.restart(*pick)?;
             assert_eq!(rt; ends(&mut after, alloc, 1, 2)?, Some(*bytes));
             assert_eq!(rt; ends(&mut after, alloc, 0, 3)?, Some((0, 0)));
+        }
+    }
+    Ok(())
+}
+
+#[test]
+fn a_failed_write_leaves_what_it_is_to(rt: HostRuntime) -> Result<(), Fail> {
+    let alloc = rt.alloc();
+    let left: [[(u8, u8); 4]; 3] = [
+        [(2, 2), (2, 2), (1, 1), (2, 1)],
+        [(1, 1), (1, 1), (1, 1), (1, 1)],
+        [(2, 1), (2, 1), (1, 1), (2, 1)],
+    ];
+    for (leaves, expected) in PICKS.iter().zip(left.iter()) {
+        let mut devices = written(alloc, &[2])?.restart(Pick::NoneWritten)?;
+        devices.fail_at(&[0])?;
+        devices.failed_writes_leave(*leaves);
+        let twos = vec![in alloc; 2; 4096]?;
+        if devices.count() == 2 && devices.blocks(1) == 8 {
+            assert!(rt; devices.write(1, 2, &twos).is_err());
+        }
+        assert_eq!(rt; ends(&mut devices, alloc, 1, 2)?, Some(expected[0]));
+        for (pick, bytes) in PICKS.iter().zip(expected[1..].iter()) {
+            let mut devices = written(alloc, &[2])?.restart(Pick::NoneWritten)?;
+            devices.fail_at(&[0])?;
+            devices.failed_writes_leave(*leaves);
+            if devices.count() == 2 && devices.blocks(1) == 8 {
+                assert!(rt; devices.write(1, 2, &twos).is_err());
+            }
+            let mut after = devices.restart(*pick)?;
+            assert_eq!(rt; ends(&mut after, alloc, 1, 2)?, Some(*bytes));
         }
     }
     Ok(())
@@ -103,7 +134,7 @@ fn a_patch_stays(rt: HostRuntime) -> Result<(), Fail> {
     let alloc = rt.alloc();
     let twos = vec![in alloc; 2; 4096]?;
     let mut devices = MemDevices::blank(alloc, &[4])?;
-    devices.patch(0, 1, &twos)?;
+    devices.patch(&Place { dev: 0, block: 1 }, &twos)?;
     let mut after = devices.restart(Pick::NoneWritten)?;
     assert_eq!(rt; ends(&mut after, alloc, 0, 1)?, Some((2, 2)));
     NoGate.at(0, 1);
