@@ -20,7 +20,8 @@ use Rattle.key_codec.proofs.LengthLaws.{length-members, length-node, length-spel
 use Rattle.key_codec.proofs.ListLaws.{each-exact}
 use Rattle.record_codec.specs.declared.entries.EntryRecord.{EntryRecord}
 use Rattle.record_codec.specs.declared.fault.RecordFault.TheVariants.{Short, Field}
-use Rattle.record_codec.specs.Entries.{IsUpdate, UpdateFits, IsEntry, root_item, roots, update_item, entry_format, entry_length_of}
+use Rattle.vol_types.specs.Standing.{IsUpdate}
+use Rattle.record_codec.specs.Entries.{UpdateFits, IsEntry, root_item, roots, update_item, entry_format, entry_length_of}
 use Rattle.record_codec.specs.Fields.{byte, u32_field, u64_field, position, root, btree, value_in, listing}
 use Rattle.record_codec.proofs.FieldLaws.{IsByte, IsU64, byte-exact, u64_field-exact, position-exact, btree-exact, IsRoot, root-exact, IsValueIn, value_in-exact, listing-exact}
 

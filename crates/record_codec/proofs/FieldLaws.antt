@@ -22,7 +22,7 @@ use Rattle.record_codec.specs.declared.fault.RecordFault.{RecordFault}
 use Rattle.record_codec.specs.declared.fault.RecordFault.TheVariants.{Short, Key, Field}
 use Rattle.record_codec.specs.Fields.{byte, u32_field, u64_field, position, root, zeros, btree_of, btree, value_in, listing}
 use Rattle.record_codec.specs.Reading.{key_fault, root_fault}
-use Rattle.record_codec.specs.Standing.{stands, Stands}
+use Rattle.vol_types.specs.Standing.{stands, Stands}
 use Rattle.record_codec.proofs.Carried.{btree_of-code}
 use Rattle.record_codec.proofs.StandingLaws.{stands_found, stands_again}
 

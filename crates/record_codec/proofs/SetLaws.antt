@@ -26,7 +26,7 @@ use Rattle.record_codec.specs.declared.sets.SetHead.{SetHead}
 use Rattle.record_codec.specs.declared.sets.SetRecord.{SetRecord}
 use Rattle.record_codec.specs.Fields.{byte, u32_field, u64_field, position, zeros, btree, value_in, listing}
 use Rattle.record_codec.specs.Sets.{KeyFits, HeadFits, IsSet, set_head, is_next, key_item, head_of, set_format}
-use Rattle.record_codec.specs.Standing.{Stands}
+use Rattle.vol_types.specs.Standing.{Stands}
 use Rattle.record_codec.proofs.FieldLaws.{both_true, true_both, IsByte, IsU64, byte-exact, u64_field-exact, position-exact, zeros-exact, btree-exact, IsValueIn, value_in-exact, listing-exact}
 
 not_greater : (order : Ordering) → is_le order ≡ true → order ≢ Greater

@@ -9,7 +9,7 @@ use Rattle.vol_types.specs.declared.values.Value.{Value}
 use Rattle.vol_types.specs.declared.values.Value.TheVariants.{Inode, Names, Extent, Hole, White, Subs, Snap, Live, Back, Gone, Counter, Node}
 use Rattle.vol_types.specs.Values.{kind_of, kinds_in}
 use Rattle.key_codec.specs.Keys.{kind_number}
-use Rattle.record_codec.specs.Standing.{Stands, kinds_at, stands}
+use Rattle.vol_types.specs.Standing.{Stands, kinds_at, stands}
 
 not_zero : (k : ℕ) → 0 < k → eqb k 0 ≡ false
 not_zero k some = grind (arith, nat_tests)

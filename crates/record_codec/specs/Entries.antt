@@ -3,7 +3,7 @@ use Rattle.std.specs.Prelude.{◌≡◌, ℕ, ◌+◌, ◌*◌, ◌<◌, ◌≤�
 use Rattle.vol_types.specs.declared.keys.Update.{Update}
 use Rattle.vol_types.specs.declared.pointers.NodePtr.{NodePtr}
 use Rattle.vol_types.specs.Lengths.{key_length_of}
-use Rattle.vol_types.specs.Ranges.{IsNode, IsKeyValue}
+use Rattle.vol_types.specs.Ranges.{IsNode}
 use Rattle.vol_types.specs.Widths.{PosFits, NodeFits, KeyValueFits}
 use Rattle.key_codec.specs.Formats.{FormatOf, ◌>>=◌, mapped, checked, followed, both, items}
 use Rattle.record_codec.specs.declared.entries.EntryRecord.{EntryRecord}
@@ -11,12 +11,7 @@ use Rattle.record_codec.specs.declared.fault.RecordFault.{RecordFault}
 use Rattle.record_codec.specs.declared.fault.RecordFault.TheVariants.{Field}
 use Rattle.record_codec.specs.Fields.{byte, u64_field, position, root, btree, value_in, listing}
 use Rattle.record_codec.specs.Sets.{all_read}
-use Rattle.record_codec.specs.Standing.{Stands}
-
--- The update's key may stand where it is put, and its value is in range.
-pub record IsUpdate (update : Update) : Type 0 where
-  pub stands : Stands update.btree update.level update.value
-  pub in_range : IsKeyValue update.value
+use Rattle.vol_types.specs.Standing.{IsUpdate}
 
 -- No older entry is needed than one up to this entry, there is a root for each of the nine btrees, and each update may stand.
 pub record IsEntryInRange (entry : EntryRecord) : Type 0 where

@@ -13,7 +13,7 @@ use Rattle.key_codec.specs.declared.fault.KeyFault.TheVariants.{Kind}
 use Rattle.record_codec.specs.declared.fault.RecordFault.{RecordFault}
 use Rattle.record_codec.specs.declared.fault.RecordFault.TheVariants.{Key, Field}
 use Rattle.record_codec.specs.Reading.{key_fault, root_fault}
-use Rattle.record_codec.specs.Standing.{stands}
+use Rattle.vol_types.specs.Standing.{stands}
 
 -- a number in one byte
 unfoldable pub byte : FormatOf RecordFault ℕ

@@ -2,4 +2,3 @@ pub mod Entries
 pub mod Fields
 pub mod Reading
 pub mod Sets
-pub mod Standing

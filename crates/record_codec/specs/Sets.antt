@@ -12,7 +12,7 @@ use Rattle.record_codec.specs.declared.fault.RecordFault.TheVariants.{Order, Lon
 use Rattle.record_codec.specs.declared.sets.SetHead.{SetHead}
 use Rattle.record_codec.specs.declared.sets.SetRecord.{SetRecord}
 use Rattle.record_codec.specs.Fields.{byte, u64_field, position, zeros, btree, value_in, listing}
-use Rattle.record_codec.specs.Standing.{Stands}
+use Rattle.vol_types.specs.Standing.{Stands}
 
 -- The keys of a set rise, and each is covered by the node, may stand there, and has a value in range.
 pub record IsSetInRange (set : SetRecord) : Type 0 where

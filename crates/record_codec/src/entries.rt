@@ -5,8 +5,9 @@ ghost use Rattle.key_codec.specs.Keys.{spelling};
 ghost use Rattle.key_codec.specs.Kinds.{node_fields};
 ghost use Rattle.vol_types.specs.Btrees.{btree_code};
 ghost use Rattle.vol_types.specs.Ranges.{IsNode};
+ghost use Rattle.vol_types.specs.Standing.{IsUpdate};
 ghost use Rattle.vol_types.specs.Widths.{NodeFits};
-ghost use Rattle.record_codec.specs.Entries.{IsEntry, IsEntryInRange, IsUpdate, UpdateFits, roots, root_item, update_item, entry_format, entry_in};
+ghost use Rattle.record_codec.specs.Entries.{IsEntry, IsEntryInRange, UpdateFits, roots, root_item, update_item, entry_format, entry_in};
 ghost use Rattle.record_codec.specs.Reading.{Gives};
 ghost use Rattle.record_codec.specs.declared.entries.EntryRecord.{EntryRecord as AnEntry};
 

@@ -5,7 +5,7 @@ ghost use Rattle.key_codec.specs.Formats.{carried};
 ghost use Rattle.key_codec.specs.Keys.{read_fields};
 ghost use Rattle.record_codec.specs.Fields.{byte, u32_field, u64_field, position, root, zeros, btree, value_in};
 ghost use Rattle.record_codec.specs.Reading.{Gives, key_fault, root_fault};
-ghost use Rattle.record_codec.specs.Standing.{stands};
+ghost use Rattle.vol_types.specs.Standing.{stands};
 
 use crate::RecordFault;
 use crate::fault::{key_fault, root_fault};
@@ -121,7 +121,7 @@ fn fields_of_kind_at(
 }
 
 // Whether a key of this kind may stand at this level of the btree.
-#[tactic(auto, unfolding(crate::specs::Standing::stands))]
+#[tactic(auto, unfolding(vol_types::specs::Standing::stands))]
 fn stands(btree: Btree, level: u8, kind: u8) -> bool
     ensures { result ≡ stands btree level kind }
 {

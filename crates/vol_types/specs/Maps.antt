@@ -1,5 +1,5 @@
 -- Finite maps as the list of their entries, in the order of their keys.
-use Rattle.std.specs.Prelude.{Option, List}
+use Rattle.std.specs.Prelude.{Option, None, Some, List}
 use Rattle.std.specs.declared.cmp.Ordering.{Ordering}
 use Rattle.std.specs.Map.{lookup, keys_of, remove_entry}
 use Rattle.std.specs.List.Sorted.{IsStrictlySortedBy}
@@ -21,3 +21,8 @@ module _ {K X : Type 0} (cmp : K → K → Ordering) where
   -- the entries without a key
   abbrev pub without : K → List (K × X) → List (K × X)
   without key entries = remove_entry (is_at (cmp key)) entries
+
+  -- the entries with this value at a key, or without the key where no value is given
+  abbrev pub put_at : K → Option X → List (K × X) → List (K × X)
+  put_at key None entries = without key entries
+  put_at key (Some value) entries = with_value key value entries

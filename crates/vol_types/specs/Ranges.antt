@@ -5,6 +5,7 @@ use Rattle.std.specs.Ordering.{nat_cmp}
 use Rattle.std.specs.Cmp.Lexicographic.{slice_cmp}
 use Rattle.std.specs.declared.cmp.Ordering.{Ordering}
 use Rattle.std.specs.declared.cmp.Ordering.TheVariants.{Less}
+use Rattle.vol_types.specs.Limits.{bucket_blocks}
 use Rattle.vol_types.specs.declared.pointers.NodePtr.{NodePtr}
 use Rattle.vol_types.specs.declared.pointers.Place.{Place}
 use Rattle.vol_types.specs.declared.values.FileKind.{FileKind}
@@ -76,10 +77,10 @@ pub record IsExtent (extent : Extent) : Type 0 where
   pub each : All (λ pointer. IsDevice pointer.place.dev) extent.pointers
   pub rise : Rise nat_cmp (map (λ pointer. pointer.place.dev) extent.pointers)
 
--- The place is the first block of a bucket, which has 16 blocks.
+-- The place is the first block of a bucket.
 pub record IsBucket (place : Place) : Type 0 where
   pub device : IsDevice place.dev
-  pub first : place.block % 16 ≡ 0
+  pub first : place.block % bucket_blocks ≡ 0
 
 -- A node is of level 0 to 7, and lies on 1 to 3 devices.
 pub record IsNode (node : NodePtr) : Type 0 where
@@ -96,7 +97,7 @@ IsValue (values.Hole blocks) = IsInRange 1 4096 blocks
 IsValue values.White = ⊤
 IsValue (values.Subs subs) = AreSubs subs
 IsValue (values.Snap snap) = ⊤
-IsValue (values.Live live) = live.blocks ≤ 16
+IsValue (values.Live live) = live.blocks ≤ bucket_blocks
 IsValue (values.Back extent) = ⊤
 IsValue values.Gone = ⊤
 IsValue (values.Counter next) = ⊤

@@ -1,5 +1,6 @@
-ghost use Rattle.std.specs.Prelude.{◌≡◌, ◌≤◌, ◌*◌, option_copied, sum_by};
+ghost use Rattle.std.specs.Prelude.{◌≡◌, ◌≤◌, ◌*◌, IsTrue, ◌↔◌, option_copied, sum_by};
 ghost use Rattle.vol_types.specs.Ranges.{IsValue, IsKeyValue, AreLinks, AreSubs};
+ghost use Rattle.vol_types.specs.Standing.{IsUpdate, Stands};
 ghost use Rattle.vol_types.specs.Lengths.{key_length_of, fields_length_of, link_length, sub_length};
 
 use crate::{Btree, Duplicate, LinkList, Pos, SubList, Value};
@@ -28,6 +29,34 @@ pub struct Update {
     pub level: u8,
     pub pos: Pos,
     pub value: Option<Value>,
+}
+
+impl Update {
+    /// Whether its key may stand where it is put, and its value is in range. It looks at each name of the value.
+    pub fn may_stand(&self) -> bool
+        ensures { IsTrue result ↔ IsUpdate self.now }
+    {
+        stands(self.btree, self.level, self.value.as_ref()) && is_in_range(self.value.as_ref())
+    }
+}
+
+// Whether a key with this value, or one that is removed, may stand at this level of the btree.
+fn stands(btree: Btree, level: u8, value: Option<&Value>) -> bool
+    ensures { IsTrue result ↔ Stands btree level (option_copied value.entry) }
+{
+    match value {
+        None => true,
+        Some(value) => value.may_stand(btree, level),
+    }
+}
+
+fn is_in_range(value: Option<&Value>) -> bool
+    ensures { IsTrue result ↔ IsKeyValue (option_copied value.entry) }
+{
+    match value {
+        None => true,
+        Some(value) => value.is_in_range(),
+    }
 }
 
 impl Duplicate for Update {

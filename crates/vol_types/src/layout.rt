@@ -1,4 +1,9 @@
-use crate::{Blocks, Duplicate, Places, Reads};
+ghost use Rattle.std.specs.Prelude.{◌≡◌, min};
+ghost use Rattle.std.specs.Int.{is_in_range};
+ghost use Rattle.std.specs.List.{list_all};
+ghost use Rattle.vol_types.specs.Layouts.{is_device_size, is_layout};
+
+use crate::{BUCKET_BLOCKS, Blocks, Duplicate, Places, Reads};
 use std::alloc::{AllocError, Global};
 
 /// How a volume lies on its devices.
@@ -10,9 +15,55 @@ pub struct Layout {
     /// How many blocks the journal takes on each metadata device.
     pub journal: u32,
     /// How many devices, the first ones, keep the metadata.
-    pub meta: u8,
+    pub metadata_replicas: u8,
     /// How many copies of each block of a file there are.
-    pub replicas: u8,
+    pub data_replicas: u8,
+}
+
+impl Layout {
+    /// Whether a volume may lie so on its devices. It looks at each device.
+    #[tactic(auto, unfolding(crate::specs::Layouts::is_layout))]
+    pub fn is_valid(&self) -> bool
+        ensures { result ≡ is_layout self.now }
+    {
+        let devices = self.blocks.len();
+        if devices < 1 || devices > 8 {
+            return false;
+        }
+        if self.journal < 256 || self.journal > 4096 || self.journal % BUCKET_BLOCKS != 0 {
+            return false;
+        }
+        if !are_replicas(devices, self.metadata_replicas) {
+            return false;
+        }
+        if !are_replicas(devices, self.data_replicas) {
+            return false;
+        }
+        are_device_sizes(self.journal, self.blocks.as_slice())
+    }
+}
+
+// Whether a device may have so many blocks beside a journal area of that many.
+fn is_device_size(journal: u32, blocks: u32) -> bool
+    ensures { result ≡ is_device_size journal blocks }
+{
+    1024 <= blocks
+        && blocks <= 1_048_576
+        && blocks % BUCKET_BLOCKS == 0
+        && 2 * (u64::from(journal) + u64::from(BUCKET_BLOCKS)) <= u64::from(blocks)
+}
+
+fn are_device_sizes(journal: u32, blocks: &[u32]) -> bool
+    ensures { result ≡ list_all (is_device_size journal) blocks.now }
+{
+    blocks.iter().all(|size| is_device_size(journal, *size))
+}
+
+// Whether so many devices may hold that many copies.
+fn are_replicas(devices: usize, replicas: u8) -> bool
+    ensures { result ≡ is_in_range 1 (min 3 devices) replicas }
+{
+    1 <= replicas && replicas <= 3 && replicas as usize <= devices
 }
 
 impl Duplicate for Layout {
@@ -21,8 +72,8 @@ impl Duplicate for Layout {
             id: self.id,
             blocks: self.blocks.copy(alloc)?,
             journal: self.journal,
-            meta: self.meta,
-            replicas: self.replicas,
+            metadata_replicas: self.metadata_replicas,
+            data_replicas: self.data_replicas,
         })
     }
 }

@@ -6,22 +6,32 @@
 
 mod failure;
 mod keys;
+mod laws;
 mod layout;
+mod limits;
 mod lists;
 mod pointers;
 mod positions;
 mod queries;
+mod ranges;
 mod space;
+mod spare;
 mod values;
 
 pub use failure::Failed;
 pub use keys::{Key, Update, key_length};
+pub use laws::{
+    constants_are_defined, key_maps_are_updated, layouts_are_tested, maps_are_functions,
+    positions_are_ordered, rising_lists_are_sorted,
+};
 pub use layout::{Layout, Lost};
+pub use limits::{BLOCK_SIZE, BUCKET_BLOCKS, NODE_LIMIT};
 pub use lists::{Duplicate, Listing};
 pub use pointers::{NodeEnd, NodePtr, Place, Pointer};
 pub use positions::{Btree, Pos};
 pub use queries::{Look, Query};
 pub use space::Short;
+pub use spare::SpareList;
 pub use values::{Extent, FileKind, Inode, Link, Live, Snap, SnapState, Sub, Value};
 
 /// A list of bytes.

@@ -1,14 +1,30 @@
-ghost use Rattle.std.specs.Prelude.{◌≡◌, ◌<◌, ◌++◌, ◌∷◌, [], ◌==◌, length, take, IfOk, OnOk, OnErr, slice_get, option_copied};
+ghost use Rattle.std.specs.Prelude.{◌≡◌, ◌<◌, ◌≤◌, ◌-◌, ◌++◌, ◌∷◌, [], ◌==◌, length, take, IfOk, IfErr, IfNone, OnOk, OnErr, slice_get, option_copied};
+ghost use Rattle.std.specs.Option.{option_to_list};
+ghost use Rattle.std.specs.Slice.Iter.{iter_rest};
+ghost use Rattle.std.specs.Iterator.Adapters.{IterYieldsInOrder, IterYieldsInReverse};
 
+use crate::SpareList;
 use std::alloc::{AllocError, AllocFailed, Global};
 use std::cmp::Ordering;
 use std::marker::Model;
+use std::slice::Iter;
 
 /// A value that can be copied. The copy may take memory.
 pub trait Duplicate: Drop {
     /// An equal value.
     fn copy(&self, alloc: Global) -> Result<Self, AllocError>
         ensures { IfOk result (λ copy. copy ≡ self.now) };
+
+    /// Equal values of all members, in their order. Where a member is plain data, they are copied in one piece.
+    fn copy_all(alloc: Global, members: &[Self]) -> Result<Listing<Self>, AllocError>
+        ensures { IfOk result (λ list. list ≡ members.now) }
+    {
+        let mut list = Listing::new(alloc);
+        for member in members {
+            list.push(member.copy(alloc)?)?;
+        }
+        Ok(list)
+    }
 }
 
 /// A list, which contracts see as one. It is a `Vec` under a name that says no more than what it holds, and turns into
@@ -66,6 +82,57 @@ impl<T> Listing<T> {
         ensures err { OnErr result (self.new ≡ self.old) }
     {
         self.members.push(member)
+    }
+
+    /// Makes room for so many more members, of which each push then succeeds. An `Err` hands the list back.
+    pub fn reserve(self, additional: usize) -> Result<SpareList<T>, AllocFailed<Listing<T>>>
+    where
+        T: Drop,
+        ensures members { IfOk result (λ list. list.members ≡ self) }
+        ensures room { IfOk result (λ list. additional ≤ list.spare) }
+        ensures err { IfErr result (λ failed. failed.value ≡ self) }
+    {
+        let mut list = SpareList::from(self);
+        match list.reserve(additional) {
+            Ok(()) => Ok(list),
+            Err(_) => Err(AllocFailed {
+                value: Listing::from(list),
+            }),
+        }
+    }
+
+    /// Takes the last member out.
+    pub fn pop(&mut self) -> Option<T>
+        ensures last { self.old ≡ self.new ++ option_to_list result }
+        ensures none { IfNone result (self.old ≡ []) }
+    {
+        self.members.pop()
+    }
+
+    /// The last member.
+    pub fn last(&self) -> Option<&T>
+        ensures { option_copied result ≡ slice_get self.now (length self.now - 1) }
+    {
+        self.members.as_slice().last()
+    }
+
+    /// The members in their order, or from the back.
+    pub fn iter(&self) -> Iter<'_, T>
+        ensures rest { iter_rest result ≡ self.now }
+        ensures runs { IterYieldsInOrder T }
+        ensures runs_back { IterYieldsInReverse T }
+    {
+        self.members.as_slice().iter()
+    }
+
+    /// Moves the members of another list to the end. An `Err` changes neither list.
+    pub fn append(&mut self, other: &mut Listing<T>) -> Result<(), AllocError>
+        ensures ok { OnOk result (self.new ≡ self.old ++ other.old) }
+        ensures emptied { OnOk result (other.new ≡ []) }
+        ensures err { OnErr result (self.new ≡ self.old) }
+        ensures kept { OnErr result (other.new ≡ other.old) }
+    {
+        self.members.append(&mut other.members)
     }
 
     /// Drops the members from this place on. It takes no memory.
@@ -163,17 +230,29 @@ impl Duplicate for u8 {
     fn copy(&self, _alloc: Global) -> Result<Self, AllocError> {
         Ok(*self)
     }
+
+    fn copy_all(alloc: Global, members: &[Self]) -> Result<Listing<Self>, AllocError> {
+        Listing::from_slice(alloc, members)
+    }
 }
 
 impl Duplicate for u32 {
     fn copy(&self, _alloc: Global) -> Result<Self, AllocError> {
         Ok(*self)
     }
+
+    fn copy_all(alloc: Global, members: &[Self]) -> Result<Listing<Self>, AllocError> {
+        Listing::from_slice(alloc, members)
+    }
 }
 
 impl Duplicate for u64 {
     fn copy(&self, _alloc: Global) -> Result<Self, AllocError> {
         Ok(*self)
+    }
+
+    fn copy_all(alloc: Global, members: &[Self]) -> Result<Listing<Self>, AllocError> {
+        Listing::from_slice(alloc, members)
     }
 }
 
@@ -188,10 +267,6 @@ impl<T: Duplicate> Duplicate for Option<T> {
 
 impl<T: Duplicate> Duplicate for Listing<T> {
     fn copy(&self, alloc: Global) -> Result<Self, AllocError> {
-        let mut members = Vec::new(alloc);
-        for member in self.members.as_slice() {
-            members.push(member.copy(alloc)?)?;
-        }
-        Ok(Listing { members })
+        T::copy_all(alloc, self.members.as_slice())
     }
 }

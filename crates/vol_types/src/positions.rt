@@ -12,6 +12,52 @@ pub struct Pos {
     pub snapshot: u32,
 }
 
+impl Pos {
+    ghost use Rattle.vol_types.specs.Positions.{next_pos};
+
+    /// The least position.
+    pub const LEAST: Pos = Pos {
+        inode: 0,
+        offset: 0,
+        snapshot: 0,
+    };
+
+    /// The greatest position.
+    pub const GREATEST: Pos = Pos {
+        inode: u64::MAX,
+        offset: u64::MAX,
+        snapshot: u32::MAX,
+    };
+
+    /// The position that follows, or none after the greatest one.
+    pub fn next(self) -> Option<Pos>
+        ensures { result ≡ next_pos self }
+    {
+        if self.snapshot < u32::MAX {
+            return Some(Pos {
+                inode: self.inode,
+                offset: self.offset,
+                snapshot: self.snapshot + 1,
+            });
+        }
+        if self.offset < u64::MAX {
+            return Some(Pos {
+                inode: self.inode,
+                offset: self.offset + 1,
+                snapshot: 0,
+            });
+        }
+        if self.inode < u64::MAX {
+            return Some(Pos {
+                inode: self.inode + 1,
+                offset: 0,
+                snapshot: 0,
+            });
+        }
+        None
+    }
+}
+
 impl Duplicate for Pos {
     fn copy(&self, _alloc: Global) -> Result<Self, AllocError> {
         Ok(*self)

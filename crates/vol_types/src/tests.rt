@@ -85,8 +85,8 @@ fn copies_of_what_is_asked(rt: HostRuntime) -> Result<(), Fail> {
         id: [1; 16],
         blocks: Listing::from_slice(alloc, &[1024])?,
         journal: 256,
-        meta: 1,
-        replicas: 1,
+        metadata_replicas: 1,
+        data_replicas: 1,
     };
     assert!(rt; layout.copy(alloc)? == layout);
     Ok(())

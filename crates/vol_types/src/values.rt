@@ -1,5 +1,6 @@
 ghost use Rattle.std.specs.Prelude.{◌≡◌, IsTrue, ◌↔◌, IfSome, IfNone};
 ghost use Rattle.std.specs.Int.{IsInRange};
+ghost use Rattle.vol_types.specs.Standing.{MayStand};
 ghost use Rattle.vol_types.specs.Values.{file_kind_code, snap_state_code, kind_of, IsKindOf};
 
 use crate::{Btree, Bytes, Digests, Duplicate, LinkList, NodePtr, Pointers, Pos, SubList};
@@ -244,6 +245,17 @@ impl Value {
             Btree::Deleted => matches!(self, Value::Gone),
             Btree::Counters => matches!(self, Value::Counter { .. }),
         }
+    }
+
+    /// Whether it may stand at this level of a btree: in a leaf, which is level 0, as the btree says, and above it as a
+    /// pointer to a node.
+    pub fn may_stand(&self, btree: Btree, level: u8) -> bool
+        ensures { IsTrue result ↔ MayStand btree level self.now }
+    {
+        if level == 0 {
+            return self.fits(btree);
+        }
+        self.kind() == 12
     }
 }
 

@@ -1,8 +1,10 @@
--- Which kinds of keys stand where in a btree.
+-- Which kinds of keys stand where in a btree, and which updates may be made.
 use Rattle.std.specs.Prelude.{◌≡◌, ℕ, ◌<◌, Bool, List, [], ◌∷◌, Option, Some, None, ⊤, if◌then◌else◌, ◌==◌, nat_eq}
 use Rattle.std.specs.List.{list_any}
+use Rattle.vol_types.specs.declared.keys.Update.{Update}
 use Rattle.vol_types.specs.declared.positions.Btree.{Btree}
 use Rattle.vol_types.specs.declared.values.Value.{Value}
+use Rattle.vol_types.specs.Ranges.{IsKeyValue}
 use Rattle.vol_types.specs.Values.{kind_of, kinds_in, IsKindOf}
 
 -- A value in the leaves, which are level 0, is of one of the btree's kinds, and one above them is a node.
@@ -22,3 +24,8 @@ kinds_at btree level = if level == 0 then kinds_in btree else 12 ∷ []
 -- whether a key of this kind may stand there; kind 0 is that of a key that is removed
 unfoldable pub stands : Btree → ℕ → ℕ → Bool
 stands btree level kind = list_any (nat_eq kind) (0 ∷ kinds_at btree level)
+
+-- The update's key may stand where it is put, and its value is in range.
+pub record IsUpdate (update : Update) : Type 0 where
+  pub stands : Stands update.btree update.level update.value
+  pub in_range : IsKeyValue update.value
