@@ -4,7 +4,7 @@ use Rattle.std.specs.List.{filter_map}
 use Rattle.plain_forest.specs.History.{History}
 use Rattle.plain_forest.specs.declared.operation.Reply.{Reply}
 use Rattle.plain_forest.specs.declared.operation.Reply.TheVariants.{Synced}
-use Rattle.record_log.specs.declared.acks.Ack.{Ack}
+use Rattle.session_history.specs.declared.acks.Ack.{Ack}
 
 -- the number of commits that a reply says are durable
 abbrev pub synced_count : Reply → Option ℕ
@@ -16,13 +16,13 @@ abbrev pub acknowledged : List Ack → ℕ → ℕ
 acknowledged [] moment = 0
 acknowledged (ack ∷ acks) moment = max (if nat_le ack.moment moment then ack.commits else 0) (acknowledged acks moment)
 
--- From this moment on the moments don't fall, and end before or at that one.
-abbrev pub Follow : ℕ → ℕ → List Ack → Type 0
-Follow first last [] = first ≤ last
-Follow first last (ack ∷ acks) = (first ≤ ack.moment) × Follow ack.moment last acks
+-- The moments don't fall, begin at the first one or later, and end at the last one or before.
+abbrev pub RiseWithin : ℕ → ℕ → List Ack → Type 0
+RiseWithin first last [] = first ≤ last
+RiseWithin first last (ack ∷ acks) = (first ≤ ack.moment) × RiseWithin ack.moment last acks
 
 -- There is one acknowledgement for each entry that says how many commits are durable, in their order and with that
 -- number. Their moments don't fall, and lie between the first and the last one.
 pub record AreAcks (first last : ℕ) (history : History) (acks : List Ack) : Type 0 where
   pub counts : map (λ ack. ack.commits) acks ≡ filter_map (λ entry. synced_count entry.reply) history
-  pub moments : Follow first last acks
+  pub moments : RiseWithin first last acks

@@ -2,8 +2,7 @@ use std::alloc::Global;
 use std::marker::Model;
 use vol_types::{Listing, Short};
 
-/// The answers that there was no space, in order: the moment of each, and why. The log keeps none of them yet: it has no
-/// buckets to count, and the list is empty.
+/// The answers of a session that there was no space, in order: the moment of each, and why.
 #[derive(Drop)]
 pub struct Shorts {
     pairs: Listing<(u64, Short)>,
@@ -19,7 +18,7 @@ impl Model for Shorts {
 }
 
 impl Shorts {
-    ghost use Rattle.std.specs.Prelude.{◌≡◌, []};
+    ghost use Rattle.std.specs.Prelude.{◌≡◌, [], option_map, slice_get};
 
     /// None. It takes no memory.
     pub fn none(alloc: Global) -> Self
@@ -27,6 +26,16 @@ impl Shorts {
     {
         Shorts {
             pairs: Listing::new(alloc),
+        }
+    }
+
+    /// The answer at this place, with its moment.
+    pub fn get(&self, at: usize) -> Option<(u64, &Short)>
+        ensures { option_map (λ pair. (pair.0, pair.1.now)) result ≡ slice_get self.now at }
+    {
+        match self.pairs.get(at) {
+            Some(pair) => Some((pair.0, &pair.1)),
+            None => None,
         }
     }
 }

@@ -4,20 +4,21 @@ use std::marker::Brand;
 /// a session keeps can be said of it.
 pub trait Opening {
     ghost use Rattle.plain_forest.specs.Forest.{Forest};
-    ghost use Rattle.record_log.specs.Log.{Shown};
+    ghost use Rattle.dev_model.specs.Devices.{DevicesState};
 
     /// The forest that the session opened with.
     ghost forest: { Forest };
 
     /// What the devices showed then.
-    ghost start: { Shown };
+    ghost start: { DevicesState };
 }
 
 impl Opening for Brand {
     ghost use Rattle.plain_forest.specs.Forest.{fresh};
+    ghost use Rattle.dev_model.specs.Devices.{no_fault_counts};
     ghost use Rattle.std.specs.Prelude.{[]};
 
     ghost forest = { fresh };
 
-    ghost start = { record { moments = record { moment = 0; disks = λ _. [] }; sizes = []; faults = 0; write_faults = 0 } };
+    ghost start = { record { sizes = []; moment = 0; disks = λ _. []; faults = no_fault_counts } };
 }
