@@ -1,6 +1,8 @@
 use Rattle.std.proofs.Common.{◌≡◌, ◌+◌, ◌<◌, ◌≤◌, ◌^◌, ◌∙◌, List, ℕ, Some, length, get_or, ap, subst, sym, arith}
 use Rattle.std.specs.Prelude.{option_and_then}
 use Rattle.std.proofs.lemmas.List.{take_all, take-append-le}
+use Rattle.dev_model.specs.FrameLaws.{go_on_then}
+use Rattle.geometry.proofs.HandedFaults.{named_in}
 use Rattle.geometry.specs.LayoutFacts.{has_places, journal_place}
 use Rattle.log_records.specs.Records.{owner_of, record_in}
 use Rattle.geometry.specs.Mirrors.{HoldMirrors}
@@ -49,3 +51,13 @@ returns-clause-held g c tells =
       owner = λ dev within. ap (option_and_then owner_of) (held image may dev within) ∙ owned;
     })
     (c.settle_mirrors.ensures.held tells)
+
+pub returns-clause-goes_on : goal.returns-clause-goes_on
+returns-clause-goes_on g c =
+    let D = g.D.Devices in
+    go_on_then (D.state c.args.devices.now) (D.state c.flush_devices.new.devices) (D.state c.settle_mirrors.new.devices) c.flush_devices.ensures.goes_on c.settle_mirrors.ensures.goes_on
+
+pub returns-clause-device : goal.returns-clause-device
+returns-clause-device g c =
+    let sizes = (g.D.Devices.state c.args.devices.now).sizes in
+    named_in c.settle_mirrors.result c.args.layout.now.metadata_replicas (length sizes) (has_places sizes c.args.layout.now c.requires.fits).mirrors c.settle_mirrors.ensures.device
