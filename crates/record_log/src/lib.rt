@@ -14,3 +14,5 @@ pub use beginning::{BeginFault, begin_session};
 pub use laws::{beginning_is_survived, reading_is_survived};
 pub use log::{Finished, RecordLog};
 
+#[cfg(test)]
+mod tests;
