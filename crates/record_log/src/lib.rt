@@ -13,3 +13,6 @@ mod writing;
 pub use beginning::{BeginFault, begin_session};
 pub use laws::{beginning_is_survived, reading_is_survived};
 pub use log::{Finished, RecordLog};
+
+#[cfg(test)]
+mod tests;
