@@ -1,27 +1,30 @@
--- What flushes and mirrored writes leave.
-use Rattle.std.proofs.Common.{◌≡◌, ℕ, ◌+◌, ◌<◌, ◌≤◌, List, length, get_or, Some, refl, ◌∙◌, sym, subst, arith, ⊎_elim, All, Result, Ok, Err}
+-- What flushes and mirrored writes leave, and what they ask for.
+use Rattle.std.proofs.Common.{◌≡◌, ℕ, zero, suc, ◌+◌, ◌<◌, ◌≤◌, Bool, List, [], ◌∷◌, length, get_or, Some, refl, ap, ◌∙◌, sym, subst, arith, ⊎_elim, All, MatchResult, Result, Ok, Err}
 use Rattle.std.proofs.lemmas.Bool.{cases_lt}
 use Rattle.std.proofs.lemmas.List.{length-map}
-use Rattle.dev_model.specs.Disk.{Disk, Image, IsDisk, IsCrashImage, as_read, block_at, changed, flushed, written, sizes_of}
-use Rattle.dev_model.specs.Devices.{DevicesState, ChangesDisks, Is, now}
-use Rattle.dev_model.specs.Crashes.{EachCrash, IsCrashImageBut}
+use Rattle.dev_model.specs.Disk.{Disk, Image, IsBlock, IsDisk, IsCrashImage, as_read, block_at, changed, after_write, flushed, written, sizes_of}
+use Rattle.dev_model.specs.Devices.{DevicesState, ChangesDisks, Is, MayBeWritten, now}
+use Rattle.dev_model.specs.Crashes.{EachCrash, IsAt, IsCrashImageBut, SameBut}
 use Rattle.dev_model.specs.CrashLaws.{started, goes_on}
-use Rattle.dev_model.specs.CrashDisks.{left_by_flush}
+use Rattle.dev_model.specs.CrashDisks.{left_by_flush, slice_get-set_other}
+use Rattle.dev_model.specs.HeldBlocks.{HaveHeld, HoldOnly}
+use Rattle.dev_model.specs.HeldLaws.{no_chance_before}
 use Rattle.dev_model.specs.PlaceLaws.{IsSettled, reads_flushed, reads_written, reads_written_elsewhere, settled_by_flush, settled_over_flush}
+use Rattle.geometry.specs.Mirrors.{HoldMirrors, NoBlock}
 
 -- There are as many sizes as disks.
 pub disk_count : (disks : List Disk) → length (sizes_of disks) ≡ length disks
 disk_count disks = length-map {B = ℕ} disks (λ (disk : Disk). length disk.blocks)
 
--- Before the first flush a stop leaves what it may leave now.
-pub flushes_none : (history : DevicesState) → EachCrash (λ _ _ image. IsCrashImage (now history) image) history history
-flushes_none history = started (λ _ _ image. IsCrashImage (now history) image) history (λ image may. may)
+-- Before the first flush a crash leaves what it may leave now.
+pub flushes_none : (state : DevicesState) → EachCrash (λ _ _ image. IsCrashImage (now state) image) state state
+flushes_none state = started (λ _ _ image. IsCrashImage (now state) image) state (λ image may. may)
 
 -- One flush more leaves nothing that might not have been left before.
 pub flushes_more : {T E : Type 0} (result : Result T E) (dev : ℕ) (old mid new : DevicesState) → All IsDisk (now mid)
     → EachCrash (λ _ _ image. IsCrashImage (now old) image) old mid → ChangesDisks result (Is (now mid)) (Is (changed dev flushed (now mid))) mid new
     → EachCrash (λ _ _ image. IsCrashImage (now old) image) old new
-flushes_more result dev old mid new are so_far goes = goes_on result (λ _ image. IsCrashImage (now old) image) _ _ old mid new so_far goes
+flushes_more result dev old mid new are so_far changes = goes_on result (λ _ _ image. IsCrashImage (now old) image) _ _ old mid new so_far changes
     (λ m disks image is may. here image (subst (λ ds. IsCrashImage ds image) is may))
     (λ m disks image is may. here image (left_by_flush (now mid) dev are image (subst (λ ds. IsCrashImage ds image) is may)))
   where
@@ -31,8 +34,8 @@ flushes_more result dev old mid new are so_far goes = goes_on result (λ _ image
 -- What a flush that ends leaves to be read.
 pub reads_as_before : {T E : Type 0} (result : Result T E) (dev : ℕ) (mid new : DevicesState) → ChangesDisks result (Is (now mid)) (Is (changed dev flushed (now mid))) mid new
     → (d b : ℕ) → block_at (as_read (now new)) d b ≡ block_at (as_read (now mid)) d b
-reads_as_before (Ok x) dev mid new goes d b = subst (λ ds. block_at (as_read ds) d b ≡ block_at (as_read (now mid)) d b) (sym goes.after) (reads_flushed (now mid) dev d b)
-reads_as_before (Err e) dev mid new goes d b = subst (λ ds. block_at (as_read ds) d b ≡ block_at (as_read (now mid)) d b) (sym goes.after) refl
+reads_as_before (Ok x) dev mid new changes d b = subst (λ ds. block_at (as_read ds) d b ≡ block_at (as_read (now mid)) d b) (sym changes.after) (reads_flushed (now mid) dev d b)
+reads_as_before (Err e) dev mid new changes d b = subst (λ ds. block_at (as_read ds) d b ≡ block_at (as_read (now mid)) d b) (sym changes.after) refl
 
 -- After one flush more one device more is settled.
 pub settles_more : (disks new : List Disk) (count : ℕ) → All IsDisk disks → count < length disks → new ≡ changed count flushed disks
@@ -50,14 +53,63 @@ written_more disks new count block bytes within is before dev le = subst (λ ds.
     (λ (last : count ≤ dev). let e : count ≡ dev = omega (arith, le, last) in subst (λ n. block_at (as_read (changed count (written block bytes) disks)) n block ≡ Some bytes) e (reads_written disks count block bytes within))
     (cases_lt dev count))
 
--- The flushes behind writes leave what the writes might leave.
-pub flushed_behind : (touched : ℕ → ℕ → Type 0) (first : List Disk) (old mid new : DevicesState) → EachCrash (λ _ _ image. IsCrashImageBut touched first image) old mid
+-- A write, whatever it left at its place, changes nothing that is read elsewhere.
+reads_elsewhere : (disks : List Disk) (dev block : ℕ) (bytes left : List ℕ) → SameBut (IsAt dev block) (as_read disks) (as_read (changed dev (after_write block bytes left) disks))
+reads_elsewhere [] dev block bytes left d b elsewhere = refl
+reads_elsewhere (disk ∷ disks) zero block bytes left zero b elsewhere = sym (slice_get-set_other disk.blocks block b left (λ e. elsewhere (refl, e)))
+reads_elsewhere (disk ∷ disks) zero block bytes left (suc d) b elsewhere = refl
+reads_elsewhere (disk ∷ disks) (suc dev) block bytes left zero b elsewhere = refl
+reads_elsewhere (disk ∷ disks) (suc dev) block bytes left (suc d) b elsewhere = reads_elsewhere disks dev block bytes left d b (λ at. elsewhere (ap suc at.0, at.1))
+
+-- One write more to a touched place changes nothing that is read elsewhere.
+pub elsewhere_more : {T E : Type 0} (result : Result T E) (touched : ℕ → ℕ → Type 0) (dev block : ℕ) (bytes : List ℕ) (old mid new : DevicesState) → touched dev block
+    → SameBut touched (as_read (now old)) (as_read (now mid)) → ChangesDisks result (MayBeWritten dev block bytes (now mid)) (Is (changed dev (written block bytes) (now mid))) mid new
+    → SameBut touched (as_read (now old)) (as_read (now new))
+elsewhere_more result touched dev block bytes old mid new hit so_far changes d b elsewhere =
+    so_far d b elsewhere ∙ after result changes.after
+  where
+    away : ¬ IsAt dev block d b
+    away at = elsewhere (subst (λ n. touched n b) (sym at.0) (subst (λ n. touched dev n) (sym at.1) hit))
+
+    left : (bytes_left : List ℕ) → now new ≡ changed dev (after_write block bytes bytes_left) (now mid) → block_at (as_read (now mid)) d b ≡ block_at (as_read (now new)) d b
+    left bytes_left is = subst (λ (ds : List Disk). block_at (as_read (now mid)) d b ≡ block_at (as_read ds) d b) (sym is) (reads_elsewhere (now mid) dev block bytes bytes_left d b away)
+
+    after : {T E : Type 0} (result : Result T E) → MatchResult result (λ _. now new ≡ changed dev (written block bytes) (now mid)) (λ _. MayBeWritten dev block bytes (now mid) (now new))
+        → block_at (as_read (now mid)) d b ≡ block_at (as_read (now new)) d b
+    after (Ok x) is = left bytes is
+    after (Err e) maybe = ⊎_elim
+        (λ (same : now new ≡ now mid). ap (λ (ds : List Disk). block_at (as_read ds) d b) (sym same))
+        (λ (spoilt : (some : List ℕ) × IsBlock some × (now new ≡ changed dev (after_write block bytes some) (now mid))). left spoilt.0 spoilt.2)
+        maybe
+
+-- The flushes after writes leave what the writes might leave.
+pub flushed_after : (touched : ℕ → ℕ → Type 0) (first : List Disk) (old mid new : DevicesState) → EachCrash (λ _ _ image. IsCrashImageBut touched first image) old mid
     → EachCrash (λ _ _ image. IsCrashImage (now mid) image) mid new → EachCrash (λ _ _ image. IsCrashImageBut touched first image) old new
-flushed_behind touched first old mid new so_far behind = record {
-  later = omega (arith, so_far.later, behind.later);
-  past = λ m le. behind.past m (omega (arith, le, so_far.later)) ∙ so_far.past m le;
+flushed_after touched first old mid new so_far flushes = record {
+  later = omega (arith, so_far.later, flushes.later);
+  past = λ m le. flushes.past m (omega (arith, le, so_far.later)) ∙ so_far.past m le;
   each = λ m lo hi image may. ⊎_elim
-      (λ (later : mid.moment < m). so_far.each mid.moment so_far.later (omega arith) image (behind.each m (omega (arith, later)) hi image may))
-      (λ (earlier : m ≤ mid.moment). so_far.each m lo earlier image (subst (λ ds. IsCrashImage ds image) (behind.past m earlier) may))
+      (λ (later : mid.moment < m). so_far.each mid.moment so_far.later (omega arith) image (flushes.each m (omega (arith, later)) hi image may))
+      (λ (earlier : m ≤ mid.moment). so_far.each m lo earlier image (subst (λ ds. IsCrashImage ds image) (flushes.past m earlier) may))
       (cases_lt mid.moment m);
 }
+
+-- Blocks that are read, on devices that are settled, are held.
+pub settled_mirrors : (mid new : List Disk) (mirrors block : ℕ) (bytes : List ℕ) → HoldMirrors mirrors block bytes (as_read mid)
+    → ((dev b : ℕ) → block_at (as_read new) dev b ≡ block_at (as_read mid) dev b) → ((dev : ℕ) → dev < mirrors → IsSettled new dev)
+    → (image : Image) → IsCrashImage new image → HoldMirrors mirrors block bytes image
+settled_mirrors mid new mirrors block bytes read same settled image may dev within = settled dev within image may block ∙ same dev block ∙ read dev within
+
+-- Flushes after writes ask for nothing more than the writes.
+pub hold_then_flushes : (opens : List ℕ → Bool) (asked : ℕ → ℕ → List ℕ → Type 0) (old mid new : DevicesState) → old.moment ≤ mid.moment
+    → ((m : ℕ) → m ≤ mid.moment → new.disks m ≡ mid.disks m) → HoldOnly opens asked old mid → HoldOnly opens NoBlock mid new → HoldOnly opens asked old new
+hold_then_flushes opens asked old mid new begun past writes flushes m lo hi no_chance d b x is_open held = ⊎_elim
+    (λ (later : mid.moment < m). ⊎_elim
+    (λ (before : HaveHeld (now mid) d b x).
+    writes mid.moment begun (omega arith) (no_chance_before opens old.moment m mid new past mid.moment (omega (arith, later)) (omega arith) no_chance) d b x is_open before)
+    (λ (none : ⊥). absurd none)
+    (flushes m (omega (arith, later)) hi (λ n from to image may. no_chance n (omega (arith, begun, from)) to image may) d b x is_open held))
+    (λ (earlier : m ≤ mid.moment).
+    writes m lo earlier (no_chance_before opens old.moment m mid new past m (omega arith) earlier no_chance) d b x is_open
+    (subst (λ (ds : List Disk). HaveHeld ds d b x) (past m earlier) held))
+    (cases_lt mid.moment m)

@@ -15,7 +15,7 @@ use Rattle.sealed_block.specs.Opening.{opened, payload_in}
 use Rattle.geometry.specs.LayoutFacts.{both}
 use Rattle.geometry.specs.Sessions.{is_session_head, session_head, session_named, session_place}
 
--- the session that a payload spells, under this head
+-- the session that a payload encodes, under this head
 abbrev named_under : List ℕ → ℕ → ℕ → List ℕ → Head → Option ℕ
 named_under id block session payload head = cond (is_session_head id block session head && bytes_eq payload (to_le_bytes w64 session)) (Some session) None
 
@@ -42,22 +42,22 @@ other_head_names_none id block bytes head opens differs =
     let session : ℕ = from_le_bytes w64 (payload_in bytes) in
     named_by id block bytes head opens ∙ ap (λ b. cond {A = Option ℕ} (b && bytes_eq (payload_in bytes) (to_le_bytes w64 session)) (Some session) None) differs
 
--- A payload of eight bytes under the right head names the session that they spell.
+-- A payload of eight bytes under the right head names the session that they encode.
 pub right_head_names : (id : List ℕ) (block : ℕ) (bytes : List ℕ) (head : Head) → opened bytes ≡ Some head → to_le_bytes w64 (from_le_bytes w64 (payload_in bytes)) ≡ payload_in bytes
     → is_session_head id block (from_le_bytes w64 (payload_in bytes)) head ≡ true → session_named id block bytes ≡ Some (from_le_bytes w64 (payload_in bytes))
-right_head_names id block bytes head opens spelled is =
+right_head_names id block bytes head opens encoded is =
     let session : ℕ = from_le_bytes w64 (payload_in bytes) in
     named_by id block bytes head opens
-    ∙ ap (λ b. cond {A = Option ℕ} b (Some session) None) (both_true is ((bytes_eq-Decides (payload_in bytes) (to_le_bytes w64 session)).1 (sym spelled)))
+    ∙ ap (λ b. cond {A = Option ℕ} b (Some session) None) (both_true is ((bytes_eq-Decides (payload_in bytes) (to_le_bytes w64 session)).1 (sym encoded)))
 
 bytes_below : (bytes : List ℕ) → AreBytes bytes → (i : ℕ) → get_or bytes i 0 < 256
 bytes_below [] are i = omega arith
 bytes_below (b ∷ bytes) are zero = All-head (λ n. n < 256) b bytes are
 bytes_below (b ∷ bytes) are (suc i) = bytes_below bytes (All-tail (λ n. n < 256) b bytes are) i
 
--- Eight bytes are spelled by the number that they spell.
-pub spelled_back : (bytes : List ℕ) → length bytes ≡ 8 → AreBytes bytes → to_le_bytes w64 (from_le_bytes w64 bytes) ≡ bytes
-spelled_back bytes eight are = le_bytes_8 bytes (from_le_bytes w64 bytes) eight (bytes_below bytes are) refl
+-- Eight bytes are the encoding of the number that they encode.
+pub encoded_back : (bytes : List ℕ) → length bytes ≡ 8 → AreBytes bytes → to_le_bytes w64 (from_le_bytes w64 bytes) ≡ bytes
+encoded_back bytes eight are = le_bytes_8 bytes (from_le_bytes w64 bytes) eight (bytes_below bytes are) refl
 
 same_bytes : (bytes : List ℕ) → bytes_eq bytes bytes ≡ true
 same_bytes bytes = (bytes_eq-Decides bytes bytes).1 refl

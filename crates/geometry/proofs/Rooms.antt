@@ -4,7 +4,7 @@ use Rattle.std.proofs.lemmas.Bool.{le-leb, lt-leb}
 use Rattle.std.proofs.lemmas.List.{drop_all}
 use Rattle.geometry.specs.Layouts.{have_room}
 
--- The rest of the devices is the next one and the rest behind it.
+-- The rest of the devices is the next one and the rest after it.
 pub room_step : (blocks sizes : List ℕ) (dev : ℕ) → dev < length blocks → dev < length sizes
     → have_room (drop dev blocks) (drop dev sizes) ≡ (nat_le (get_or blocks dev 0) (get_or sizes dev 0) && have_room (drop (suc dev) blocks) (drop (suc dev) sizes))
 room_step [] sizes dev one other = absurd (omega (arith, one))

@@ -64,9 +64,9 @@ record IsDeviceSize (journal blocks : ℕ) : Type 0 where
 device_size : (journal blocks : ℕ) → is_device_size journal blocks ≡ true → IsDeviceSize journal blocks
 device_size journal blocks is =
     let last = both _ _ is in
-    let front = both _ _ last.0 in
-    let range = in_range 1024 1048576 blocks front.0 in
-    record { least = range.0; most = range.1; whole = eqb-true (blocks % 16) 0 front.1; half = leb-true (2 * (journal + 16)) blocks last.1 }
+    let others = both _ _ last.0 in
+    let range = in_range 1024 1048576 blocks others.0 in
+    record { least = range.0; most = range.1; whole = eqb-true (blocks % 16) 0 others.1; half = leb-true (2 * (journal + 16)) blocks last.1 }
 
 module _ (layout : Layout) (is : is_layout layout ≡ true) where
   -- There are one to eight devices.
@@ -100,7 +100,7 @@ has_places sizes layout is =
     let parts = both (is_layout layout) (have_room layout.blocks sizes) is in
     let count : length layout.blocks ≡ length sizes = as_many layout.blocks sizes parts.1 in
     let each : (dev : ℕ) → dev < length sizes → IsDeviceSize layout.journal (get_or layout.blocks dev 0) = λ dev within. devices_sizes layout parts.0 dev (omega (arith, within, count)) in
-    let metadata_replicas = meta_ok layout parts.0 in
+    let meta = meta_ok layout parts.0 in
     let copies = replicas_ok layout parts.0 in
     record {
       devices = count;
@@ -111,7 +111,7 @@ has_places sizes layout is =
       mirrors = omega (arith, count, meta.1);
       replicated = copies.0;
       replicas_few = omega (arith, copies.1);
-      data_replicas = omega (arith, count, copies.1);
+      replicas = omega (arith, count, copies.1);
       journal = (journal_ok layout parts.0).1;
       least = (journal_ok layout parts.0).0;
       journal_whole = journal_whole layout parts.0;

@@ -66,3 +66,7 @@ session_in layout image = greatest_session layout.id image layout.metadata_repli
 -- the places in which a session is sealed: its block on each metadata device
 abbrev pub IsSessionPlace : Layout → ℕ → ℕ → ℕ → Type 0
 IsSessionPlace layout session dev block = (dev < layout.metadata_replicas) × (block ≡ session_place session)
+
+-- this session's block at those places, and no other
+abbrev pub IsSessionBlock : Layout → ℕ → ℕ → ℕ → List ℕ → Type 0
+IsSessionBlock layout session dev block bytes = IsSessionPlace layout session dev block × (bytes ≡ session_block layout.id session)

@@ -47,14 +47,14 @@ same_counting one other dev first second =
     λ block at. ap (option_and_then (copy_in block)) (block_of one dev block ∙ at ∙ sym (block_of other dev block)) in
     ap (λ copy. later copy (copy_at 8 (blocks_of one dev))) (same 0 first) ∙ ap (λ copy. later (copy_at 0 (blocks_of other dev)) copy) (same 8 second)
 
-none_behind : (copy : Option SuperCopy) (copies : List (Option SuperCopy)) → all_there copies ≡ None → all_there (copy ∷ copies) ≡ None
-none_behind None copies none = refl
-none_behind (Some copy) copies none = ap (option_map (λ rest. copy ∷ rest)) none
+none_after : (copy : Option SuperCopy) (copies : List (Option SuperCopy)) → all_there copies ≡ None → all_there (copy ∷ copies) ≡ None
+none_after None copies none = refl
+none_after (Some copy) copies none = ap (option_map (λ rest. copy ∷ rest)) none
 
 none_there : (image : Image) (dev : ℕ) → dev < length image → counting (blocks_of image dev) ≡ None → all_there (map counting image) ≡ None
 none_there [] dev within none = absurd (omega (arith, within))
 none_there (blocks ∷ image) zero within none = ap (λ copy. all_there (copy ∷ map counting image)) none
-none_there (blocks ∷ image) (suc dev) within none = none_behind (counting blocks) (map counting image) (none_there image dev (omega (arith, within)) none)
+none_there (blocks ∷ image) (suc dev) within none = none_after (counting blocks) (map counting image) (none_there image dev (omega (arith, within)) none)
 
 -- A device without a copy leaves no layout.
 pub no_super : (image : Image) (dev : ℕ) → dev < length image → counting (blocks_of image dev) ≡ None → layout_in image ≡ Err NoSuper

@@ -135,7 +135,7 @@ judged_if_there sizes (Some copies) = judged sizes copies
 unfoldable pub layout_in : Image → Result Layout SuperFault
 layout_in image = judged_if_there (map (λ blocks. length blocks) image) (all_there (map counting image))
 
--- The answer is this one, or else a device failed or memory was wanting.
+-- The answer is this one, or else a device failed or it was out of memory.
 abbrev pub IsSuperAnswer : Result Layout SuperFault → Result Layout SuperFault → Type 0
 IsSuperAnswer (Err (DeviceFault dev)) expected = Unit {0}
 IsSuperAnswer (Err NoMemory) expected = Unit {0}

@@ -1,8 +1,8 @@
-ghost use Rattle.std.specs.Prelude.{◌≡◌, ◌<◌, ◌≤◌, ℕ, Err, length, slice_index, IfOk};
-ghost use Rattle.vol_types.specs.Faults.{RoseBy};
+ghost use Rattle.std.specs.Prelude.{◌≡◌, ◌<◌, length, slice_index, IfOk, IfSome};
 ghost use Rattle.dev_model.specs.Devices.{now};
 ghost use Rattle.dev_model.specs.Disk.{as_read, blocks_of};
-ghost use Rattle.dev_model.specs.Frames.{DisksStay};
+ghost use Rattle.dev_model.specs.Frames.{AreOnlyRead, after_reads};
+ghost use Rattle.geometry.specs.Faults.{failed_device};
 ghost use Rattle.geometry.specs.Superblocks.{copy_at, copy_in, counting, has_form, is_copy_head, is_same_layout, later, named_layout, numbers_in};
 
 use crate::fault::DiskFault;
@@ -76,12 +76,9 @@ fn read_copy<D: Devices>(
 ) -> Result<Option<SuperCopy>, DiskFault>
     requires { dev < length (D.state devices.old).sizes }
     ensures found { D.tells → IfOk result (λ copy. copy ≡ copy_at block (blocks_of (as_read (now (D.state devices.old))) dev)) }
-    ensures stays { D.tells → DisksStay (D.state devices.old) (D.state devices.new) }
-    ensures cause { (failed : ℕ) → result ≡ Err (DiskFault.DeviceFault failed) → (failed ≡ dev) × RoseBy 1 (D.faults devices.old) (D.faults devices.new) }
-    ensures faults { D.faults devices.old ≤ D.faults devices.new }
-    ensures write_faults { D.write_faults devices.new ≡ D.write_faults devices.old }
-    ensures sizes { (D.state devices.new).sizes ≡ (D.state devices.old).sizes }
-    ensures moment { (D.state devices.old).moment ≤ (D.state devices.new).moment }
+    ensures read { AreOnlyRead D.tells (D.state devices.old) (D.state devices.new) }
+    ensures cause { (D.state devices.new).faults ≡ after_reads (failed_device result) (D.state devices.old).faults }
+    ensures device { IfSome (failed_device result) (λ failed. failed ≡ dev) }
 {
     if devices.blocks(dev) <= block {
         return Ok(None);
@@ -98,12 +95,9 @@ pub fn read_counting<D: Devices>(
 ) -> Result<Option<SuperCopy>, DiskFault>
     requires { dev < length (D.state devices.old).sizes }
     ensures found { D.tells → IfOk result (λ copy. copy ≡ counting (blocks_of (as_read (now (D.state devices.old))) dev)) }
-    ensures stays { D.tells → DisksStay (D.state devices.old) (D.state devices.new) }
-    ensures cause { (failed : ℕ) → result ≡ Err (DiskFault.DeviceFault failed) → (failed ≡ dev) × RoseBy 1 (D.faults devices.old) (D.faults devices.new) }
-    ensures faults { D.faults devices.old ≤ D.faults devices.new }
-    ensures write_faults { D.write_faults devices.new ≡ D.write_faults devices.old }
-    ensures sizes { (D.state devices.new).sizes ≡ (D.state devices.old).sizes }
-    ensures moment { (D.state devices.old).moment ≤ (D.state devices.new).moment }
+    ensures read { AreOnlyRead D.tells (D.state devices.old) (D.state devices.new) }
+    ensures cause { (D.state devices.new).faults ≡ after_reads (failed_device result) (D.state devices.old).faults }
+    ensures device { IfSome (failed_device result) (λ failed. failed ≡ dev) }
 {
     let first = read_copy(alloc, devices, dev, 0)?;
     let second = read_copy(alloc, devices, dev, 8)?;

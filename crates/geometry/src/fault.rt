@@ -5,7 +5,7 @@ use std::alloc::{AllocError, AllocFailed};
 pub enum DiskFault {
     /// This device failed.
     DeviceFault(u8),
-    /// Memory was wanting.
+    /// Out of memory.
     NoMemory,
 }
 
@@ -33,7 +33,7 @@ pub enum SuperFault {
     BadLayout,
     /// This device couldn't be read.
     DeviceFault(u8),
-    /// Memory was wanting.
+    /// Out of memory.
     NoMemory,
 }
 

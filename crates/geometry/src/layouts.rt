@@ -22,7 +22,7 @@ fn are_device_sizes(journal: u32, blocks: &[u32]) -> bool
 }
 
 // Whether so many devices may hold that many copies.
-fn are_replicas(devices: usize, data_replicas: u8) -> bool
+fn are_replicas(devices: usize, replicas: u8) -> bool
     ensures { result ≡ is_in_range 1 (min 3 devices) replicas }
 {
     1 <= replicas && replicas <= 3 && replicas as usize <= devices

@@ -8,7 +8,7 @@ use crate::copies::SuperCopy;
 use std::alloc::{AllocError, Global};
 use vol_types::{Blocks, Layout};
 
-/// A byte of a payload, and 0 behind its end.
+/// A byte of a payload, and 0 past its end.
 pub(crate) fn byte_at(payload: &[u8], at: usize) -> u8
     ensures { result ≡ slice_index payload.now at }
 {
@@ -46,8 +46,8 @@ fn numbers_in(alloc: Global, bytes: &[u8]) -> Result<Blocks, AllocError>
     Ok(Blocks::from(numbers))
 }
 
-// What stands behind the first eight bytes of a payload.
-fn behind_head(payload: &[u8]) -> &[u8]
+// What comes after the first eight bytes of a payload.
+fn after_head(payload: &[u8]) -> &[u8]
     ensures { result.now ≡ drop 8 payload.now }
 {
     if payload.len() < 8 {
@@ -65,7 +65,7 @@ pub(crate) fn named_layout(alloc: Global, copy: &SuperCopy) -> Result<Layout, Al
     let payload = copy.payload.as_slice();
     Ok(Layout {
         id: copy.head.id,
-        blocks: numbers_in(alloc, behind_head(payload))?,
+        blocks: numbers_in(alloc, after_head(payload))?,
         journal: journal_of(payload),
         metadata_replicas: byte_at(payload, 2),
         data_replicas: byte_at(payload, 3),

@@ -1,16 +1,17 @@
-ghost use Rattle.std.specs.Prelude.{◌≡◌, ◌≢◌, ◌<◌, ◌≤◌, ℕ, true, Some, Err, length, IfOk, OnOk, MatchOption};
+ghost use Rattle.std.specs.Prelude.{◌≡◌, ◌≢◌, ◌<◌, ℕ, Bool, List, true, Some, length, IfOk, IfSome, OnOk, MatchOption};
 ghost use Rattle.std.specs.Int.{w64, from_le_bytes};
-ghost use Rattle.vol_types.specs.Faults.{RoseBy};
 ghost use Rattle.dev_model.specs.Devices.{IsPlace, now};
 ghost use Rattle.dev_model.specs.Disk.{as_read};
-ghost use Rattle.dev_model.specs.Frames.{DisksStay};
+ghost use Rattle.dev_model.specs.Frames.{AreOnlyRead, GoOn, after_reads, after_writes};
 ghost use Rattle.dev_model.specs.Crashes.{EachCrash, EachCrashNow, IsCrashImageBut};
+ghost use Rattle.dev_model.specs.HeldBlocks.{HoldOnly};
 ghost use Rattle.sealed_block.specs.Blocks.{IsInRanges};
+ghost use Rattle.geometry.specs.Faults.{failed_device};
 ghost use Rattle.geometry.specs.Layouts.{is_layout_of};
-ghost use Rattle.geometry.specs.Sessions.{IsSessionPlace, greater, is_session_head, session_at, session_block, session_head, session_in, session_named, session_place};
+ghost use Rattle.geometry.specs.Sessions.{IsSessionBlock, IsSessionPlace, greater, is_session_head, session_at, session_block, session_head, session_in, session_named, session_place};
 
 use crate::fault::DiskFault;
-use crate::mirrors::write_mirrors;
+use crate::mirrors::settle_mirrors;
 use crate::reading::read_block;
 use dev_model::Devices;
 use sealed_block::{Head, SESSION, payload, seal, sealed_blocks_open, unseal};
@@ -47,7 +48,7 @@ fn session_head(id: &[u8; 16], session: u64) -> Head
 /// Writes the block that names a session of the volume with this id over `into`. It takes no memory.
 pub fn session_bytes(id: &[u8; 16], session: u64, into: &mut [u8])
     requires room { length into.old ≡ 4096 }
-    ensures spelled { into.new ≡ session_block id.now session }
+    ensures bytes { into.new ≡ session_block id.now session }
     ensures named { session_named id.now (session_place session) into.new ≡ Some session }
     ensures size { length into.new ≡ 4096 }
 {
@@ -57,6 +58,7 @@ pub fn session_bytes(id: &[u8; 16], session: u64, into: &mut [u8])
 
 // The block that names a session.
 fn sealed_session(alloc: Global, id: &[u8; 16], session: u64) -> Result<Bytes, AllocError>
+    ensures bytes { IfOk result (λ bytes. bytes ≡ session_block id.now session) }
     ensures named { IfOk result (λ bytes. session_named id.now (session_place session) bytes ≡ Some session) }
     ensures size { IfOk result (λ bytes. length bytes ≡ 4096) }
 {
@@ -81,7 +83,7 @@ fn is_session_head(id: &[u8; 16], block: u32, session: u64, head: &Head) -> bool
         && head.whole == digest(&session.to_le_bytes())
 }
 
-// The number that eight bytes spell.
+// The number that eight bytes encode.
 fn number_in(bytes: &[u8]) -> Option<u64>
     ensures { MatchOption result (length bytes.now ≢ 8) (λ n. (length bytes.now ≡ 8) × (n ≡ from_le_bytes w64 bytes.now)) }
 {
@@ -132,12 +134,9 @@ fn read_named<D: Devices>(
 ) -> Result<Option<u64>, DiskFault>
     requires { IsPlace (D.state devices.old).sizes dev block }
     ensures found { D.tells → IfOk result (λ session. session ≡ session_at id.now (as_read (now (D.state devices.old))) dev block) }
-    ensures stays { D.tells → DisksStay (D.state devices.old) (D.state devices.new) }
-    ensures cause { (failed : ℕ) → result ≡ Err (DiskFault.DeviceFault failed) → (failed ≡ dev) × RoseBy 1 (D.faults devices.old) (D.faults devices.new) }
-    ensures faults { D.faults devices.old ≤ D.faults devices.new }
-    ensures write_faults { D.write_faults devices.new ≡ D.write_faults devices.old }
-    ensures sizes { (D.state devices.new).sizes ≡ (D.state devices.old).sizes }
-    ensures moment { (D.state devices.old).moment ≤ (D.state devices.new).moment }
+    ensures read { AreOnlyRead D.tells (D.state devices.old) (D.state devices.new) }
+    ensures cause { (D.state devices.new).faults ≡ after_reads (failed_device result) (D.state devices.old).faults }
+    ensures device { IfSome (failed_device result) (λ failed. failed ≡ dev) }
 {
     let bytes = read_block(alloc, devices, dev, block)?;
     Ok(session_named(id, block, bytes.as_slice()))
@@ -153,12 +152,9 @@ fn read_device<D: Devices>(
     requires { IsPlace (D.state devices.old).sizes dev 5 }
     ensures found { D.tells → let image = as_read (now (D.state devices.old)) in
         IfOk result (λ session. session ≡ greater (session_at id.now image dev 4) (session_at id.now image dev 5)) }
-    ensures stays { D.tells → DisksStay (D.state devices.old) (D.state devices.new) }
-    ensures cause { (failed : ℕ) → result ≡ Err (DiskFault.DeviceFault failed) → (failed ≡ dev) × RoseBy 1 (D.faults devices.old) (D.faults devices.new) }
-    ensures faults { D.faults devices.old ≤ D.faults devices.new }
-    ensures write_faults { D.write_faults devices.new ≡ D.write_faults devices.old }
-    ensures sizes { (D.state devices.new).sizes ≡ (D.state devices.old).sizes }
-    ensures moment { (D.state devices.old).moment ≤ (D.state devices.new).moment }
+    ensures read { AreOnlyRead D.tells (D.state devices.old) (D.state devices.new) }
+    ensures cause { (D.state devices.new).faults ≡ after_reads (failed_device result) (D.state devices.old).faults }
+    ensures device { IfSome (failed_device result) (λ failed. failed ≡ dev) }
 {
     let even = read_named(alloc, devices, id, dev, 4)?;
     let odd = read_named(alloc, devices, id, dev, 5)?;
@@ -173,12 +169,9 @@ pub fn read_session<D: Devices>(
 ) -> Result<Option<u64>, DiskFault>
     requires { is_layout_of (D.state devices.old).sizes layout.now ≡ true }
     ensures found { D.tells → IfOk result (λ session. session ≡ session_in layout.now (as_read (now (D.state devices.old)))) }
-    ensures stays { D.tells → DisksStay (D.state devices.old) (D.state devices.new) }
-    ensures cause { (dev : ℕ) → result ≡ Err (DiskFault.DeviceFault dev) → (dev < length (D.state devices.old).sizes) × RoseBy 1 (D.faults devices.old) (D.faults devices.new) }
-    ensures faults { D.faults devices.old ≤ D.faults devices.new }
-    ensures write_faults { D.write_faults devices.new ≡ D.write_faults devices.old }
-    ensures sizes { (D.state devices.new).sizes ≡ (D.state devices.old).sizes }
-    ensures moment { (D.state devices.old).moment ≤ (D.state devices.new).moment }
+    ensures read { AreOnlyRead D.tells (D.state devices.old) (D.state devices.new) }
+    ensures cause { (D.state devices.new).faults ≡ after_reads (failed_device result) (D.state devices.old).faults }
+    ensures device { IfSome (failed_device result) (λ dev. dev < length (D.state devices.old).sizes) }
 {
     let mut greatest = None;
     for dev in 0..layout.metadata_replicas {
@@ -196,16 +189,15 @@ pub fn write_session<D: Devices>(
     session: u64,
 ) -> Result<(), DiskFault>
     requires { is_layout_of (D.state devices.old).sizes layout.now ≡ true }
-    ensures stops { D.tells → EachCrash (λ _ _ image. IsCrashImageBut (IsSessionPlace layout.now session) (now (D.state devices.old)) image) (D.state devices.old) (D.state devices.new) }
+    ensures crashes { D.tells → EachCrash (λ _ _ image. IsCrashImageBut (IsSessionPlace layout.now session) (now (D.state devices.old)) image) (D.state devices.old) (D.state devices.new) }
     ensures held { D.tells → OnOk result (EachCrashNow (λ image. (dev : ℕ) → dev < layout.now.metadata_replicas → session_at layout.now.id image dev (session_place session) ≡ Some session) (D.state devices.new)) }
-    ensures cause { (dev : ℕ) → result ≡ Err (DiskFault.DeviceFault dev) → (dev < length (D.state devices.old).sizes) × RoseBy 1 (D.faults devices.old) (D.faults devices.new) × RoseBy 1 (D.write_faults devices.old) (D.write_faults devices.new) }
-    ensures faults { D.faults devices.old ≤ D.faults devices.new }
-    ensures write_faults { D.write_faults devices.old ≤ D.write_faults devices.new }
-    ensures sizes { (D.state devices.new).sizes ≡ (D.state devices.old).sizes }
-    ensures moment { (D.state devices.old).moment ≤ (D.state devices.new).moment }
+    ensures asks { D.tells → (opens : List ℕ → Bool) → HoldOnly opens (IsSessionBlock layout.now session) (D.state devices.old) (D.state devices.new) }
+    ensures cause { (D.state devices.new).faults ≡ after_writes (failed_device result) (D.state devices.old).faults }
+    ensures device { IfSome (failed_device result) (λ dev. dev < length (D.state devices.old).sizes) }
+    ensures goes_on { GoOn (D.state devices.old) (D.state devices.new) }
 {
     let block = sealed_session(alloc, &layout.id, session)?;
-    write_mirrors(
+    settle_mirrors(
         devices,
         layout.metadata_replicas,
         session_place(session),

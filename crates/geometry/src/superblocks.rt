@@ -1,12 +1,12 @@
-ghost use Rattle.std.specs.Prelude.{◌≡◌, ◌<◌, ◌≤◌, ◌^◌, ◌+◌, ◌*◌, ◌++◌, ℕ, true, Some, None, Err, length, take, map, IfOk, IfSome, MatchOption};
+ghost use Rattle.std.specs.Prelude.{◌≡◌, ◌<◌, ◌≤◌, ◌^◌, ◌+◌, ◌*◌, ◌++◌, true, Some, None, length, take, map, IfOk, IfSome, MatchOption};
 ghost use Rattle.std.specs.Int.{w32, to_le_bytes};
 ghost use Rattle.std.specs.List.{flat_map};
 ghost use Rattle.sha2.specs.Sha256.{sha256};
-ghost use Rattle.vol_types.specs.Faults.{RoseBy};
 ghost use Rattle.dev_model.specs.Devices.{now};
 ghost use Rattle.dev_model.specs.Disk.{as_read};
-ghost use Rattle.dev_model.specs.Frames.{DisksStay};
+ghost use Rattle.dev_model.specs.Frames.{AreOnlyRead, after_reads};
 ghost use Rattle.sealed_block.specs.Blocks.{IsInRanges};
+ghost use Rattle.geometry.specs.Faults.{failed_device, failed_super_device};
 ghost use Rattle.geometry.specs.Layouts.{is_layout, is_layout_of};
 ghost use Rattle.geometry.specs.Superblocks.{IsSuperAnswer};
 ghost use Rattle.geometry.specs.Superblocks.{all_there, copy_in, counting, layout_in, super_block, super_copy, super_head, super_payload};
@@ -24,7 +24,7 @@ use vol_types::Layout;
 /// The bytes of the longest payload of a superblock: that of eight devices.
 const LONGEST_PAYLOAD: usize = 40;
 
-// Writes the bytes behind the first `at` ones.
+// Writes the bytes after the first `at` ones.
 fn put(into: &mut [u8], at: usize, bytes: &[u8])
     requires { at + length bytes.now ≤ length into.old }
     ensures { take (at + length bytes.now) into.new ≡ take at into.old ++ bytes.now }
@@ -32,7 +32,7 @@ fn put(into: &mut [u8], at: usize, bytes: &[u8])
     into[at..at + bytes.len()].copy_from_slice(bytes);
 }
 
-// Writes the number of blocks of each device behind the first eight bytes.
+// Writes the number of blocks of each device after the first eight bytes.
 fn put_blocks(blocks: &[u32], into: &mut [u8; 40])
     requires { length blocks.now ≤ 8 }
     ensures { take (8 + 4 * length blocks.now) into.new ≡ take 8 into.old ++ flat_map (to_le_bytes w32) blocks.now }
@@ -42,10 +42,10 @@ fn put_blocks(blocks: &[u32], into: &mut [u8; 40])
     }
 }
 
-// The payload of a device's superblock, with zeros behind it.
+// The payload of a device's superblock, with zeros after it.
 fn super_payload(layout: &Layout, dev: u8) -> [u8; 40]
     requires layout { is_layout layout.now ≡ true }
-    ensures spelled { take (8 + 4 * length layout.now.blocks) result ≡ super_payload layout.now dev }
+    ensures bytes { take (8 + 4 * length layout.now.blocks) result ≡ super_payload layout.now dev }
     ensures size { length result ≡ 40 }
 {
     let blocks = layout.blocks.as_slice();
@@ -94,7 +94,7 @@ pub fn write_super(layout: &Layout, dev: u8, block: u32, sequence: u64, into: &m
     requires layout { is_layout layout.now ≡ true }
     requires device { dev < length layout.now.blocks }
     requires room { length into.old ≡ 4096 }
-    ensures spelled { into.new ≡ super_block layout.now dev block sequence }
+    ensures bytes { into.new ≡ super_block layout.now dev block sequence }
     ensures copy { sequence < 2 ^ 63 → copy_in block into.new ≡ Some (super_copy layout.now dev block sequence) }
 {
     let bytes = super_payload(layout, dev);
@@ -115,12 +115,10 @@ fn read_copies<D: Devices>(
     ensures found { D.tells → let there = all_there (map counting (as_read (now (D.state devices.old)))) in
         IfOk result (λ copies. MatchOption copies (there ≡ None) (λ list. there ≡ Some list.items)) }
     ensures few { IfOk result (λ copies. IfSome copies (λ list. length list.items ≤ 8)) }
-    ensures stays { D.tells → DisksStay (D.state devices.old) (D.state devices.new) }
-    ensures cause { (dev : ℕ) → result ≡ Err (DiskFault.DeviceFault dev) → (dev < length (D.state devices.old).sizes) × RoseBy 1 (D.faults devices.old) (D.faults devices.new) }
-    ensures faults { D.faults devices.old ≤ D.faults devices.new }
-    ensures write_faults { D.write_faults devices.new ≡ D.write_faults devices.old }
-    ensures sizes { (D.state devices.new).sizes ≡ (D.state devices.old).sizes }
-    ensures moment { (D.state devices.old).moment ≤ (D.state devices.new).moment }
+    ensures read { AreOnlyRead D.tells (D.state devices.old) (D.state devices.new) }
+    ensures cause { (D.state devices.new).faults ≡ after_reads (failed_device result) (D.state devices.old).faults }
+    ensures device { IfSome (failed_device result) (λ dev. dev < length (D.state devices.old).sizes) }
+    ensures few_devices { length (D.state devices.old).sizes ≤ 8 }
 {
     let count = devices.count();
     let mut copies = Vec::new(alloc);
@@ -137,12 +135,10 @@ fn read_copies<D: Devices>(
 pub fn read_super<D: Devices>(alloc: Global, devices: &mut D) -> Result<Layout, SuperFault>
     ensures found { D.tells → IsSuperAnswer result (layout_in (as_read (now (D.state devices.old)))) }
     ensures fits { IfOk result (λ layout. is_layout_of (D.state devices.new).sizes layout ≡ true) }
-    ensures stays { D.tells → DisksStay (D.state devices.old) (D.state devices.new) }
-    ensures cause { (dev : ℕ) → result ≡ Err (SuperFault.DeviceFault dev) → (dev < length (D.state devices.old).sizes) × RoseBy 1 (D.faults devices.old) (D.faults devices.new) }
-    ensures faults { D.faults devices.old ≤ D.faults devices.new }
-    ensures write_faults { D.write_faults devices.new ≡ D.write_faults devices.old }
-    ensures sizes { (D.state devices.new).sizes ≡ (D.state devices.old).sizes }
-    ensures moment { (D.state devices.old).moment ≤ (D.state devices.new).moment }
+    ensures read { AreOnlyRead D.tells (D.state devices.old) (D.state devices.new) }
+    ensures cause { (D.state devices.new).faults ≡ after_reads (failed_super_device result) (D.state devices.old).faults }
+    ensures device { IfSome (failed_super_device result) (λ dev. dev < length (D.state devices.old).sizes) }
+    ensures few_devices { length (D.state devices.old).sizes ≤ 8 }
 {
     let sizes = sizes_of(alloc, devices)?;
     let Some(copies) = read_copies(alloc, devices)? else {

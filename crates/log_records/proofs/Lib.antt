@@ -1,3 +1,4 @@
+pub mod HandedFailures
 pub mod MountAnswers
 pub mod Payloads
 pub mod Scanning

@@ -1,24 +1,35 @@
 -- A scan of the log: the devices at one place, and the places one after the other.
-use Rattle.std.proofs.Common.{◌≡◌, ℕ, zero, suc, ◌+◌, ◌-◌, ◌<◌, ◌≤◌, List, Option, Some, None, refl, ap, ◌∙◌, sym, subst, arith}
+use Rattle.std.proofs.Common.{◌≡◌, ℕ, zero, suc, ◌+◌, ◌-◌, ◌<◌, ◌≤◌, List, [], ◌∷◌, length, Option, Some, None, refl, ap, ◌∙◌, sym, subst, arith}
+use Rattle.std.specs.Prelude.{IfSome, slice_index_or}
 use Rattle.std.specs.Option.{option_map_or}
 use Rattle.std.proofs.lemmas.Option.{none-some as none_some}
 use Rattle.vol_types.specs.Faults.{RoseBy}
 use Rattle.vol_types.specs.declared.layout.Layout.{Layout}
-use Rattle.dev_model.specs.Disk.{Disk, Image, as_read}
+use Rattle.dev_model.specs.Disk.{Disk, Image, as_read, changed}
+use Rattle.dev_model.specs.Devices.{AreFaultCounts, FaultCounts, risen}
+use Rattle.dev_model.specs.Frames.{AreNoFewer, after_reads}
 use Rattle.plain_forest.specs.Forest.{Forest}
 use Rattle.log_records.specs.Records.{first_of_two, first_record, record_at, record_on}
-use Rattle.log_records.specs.Found.{AreMirrored, IsMirroredAt, forest_with_next, log_in, scanned_from}
+use Rattle.log_records.specs.Found.{AreMirrored, DeviceFailed, IsMirroredAt, forest_with_next, log_in, scanned_from}
 use Rattle.log_records.specs.declared.files.MadeFile.{MadeFile}
 
--- No count rises in an earlier part and not in the whole.
-pub rose_behind : (first mid last : ℕ) → mid ≤ last → RoseBy 1 first mid → RoseBy 1 first last
-rose_behind first mid last le rose = omega (arith, le, rose)
+-- What failed at first, failed in all,
+pub failed_first : (dev : ℕ) (first mid last : FaultCounts) → AreNoFewer mid.calls last.calls → DeviceFailed dev first mid → DeviceFailed dev first last
+failed_first dev first mid last later failed = omega (arith, later dev, failed)
 
-pub rose_before : (first mid last : ℕ) → first ≤ mid → RoseBy 1 mid last → RoseBy 1 first last
-rose_before first mid last le rose = omega (arith, le, rose)
+-- and so did what failed later.
+pub failed_later : (dev : ℕ) (first mid last : FaultCounts) → AreNoFewer first.calls mid.calls → DeviceFailed dev mid last → DeviceFailed dev first last
+failed_later dev first mid last earlier failed = omega (arith, earlier dev, failed)
 
-pub no_less : (first mid last : ℕ) → first ≤ mid → mid ≤ last → first ≤ last
-no_less first mid last one other = omega (arith, one, other)
+rose_at : (counts : List ℕ) (dev : ℕ) → dev < length counts → RoseBy 1 (slice_index_or counts dev 0) (slice_index_or (changed dev risen counts) dev 0)
+rose_at [] dev within = absurd (omega (arith, within))
+rose_at (count ∷ counts) zero within = omega arith
+rose_at (count ∷ counts) (suc dev) within = rose_at counts dev (omega (arith, within))
+
+-- After a read that failed its device has failed.
+pub failed_by_read : (device : Option ℕ) (old new : FaultCounts) → new ≡ after_reads device old → AreFaultCounts old → IfSome device (λ dev. dev < 8) → IfSome device (λ dev. DeviceFailed dev old new)
+failed_by_read None old new is are below = tt
+failed_by_read (Some dev) old new is are below = subst (λ (f : FaultCounts). DeviceFailed dev old f) (sym is) (rose_at old.calls dev (omega (arith, below, are.calls)))
 
 second_of_two : (first second found : Option MadeFile) → first ≡ None → second ≡ found → first_of_two first second ≡ found
 second_of_two None second found none is = is
@@ -75,3 +86,7 @@ pub read_before : (layout : Layout) (place : ℕ) (first mid : List Disk) (next 
     → ((rose → IsMirroredAt layout (as_read mid) place) → next ≡ record_at layout (as_read mid) place) → next ≡ record_at layout (as_read first) place
 read_before layout place first mid next rose same mirrors within read =
     subst (λ ds. next ≡ record_at layout (as_read ds) place) same (read (λ r. subst (λ ds. IsMirroredAt layout (as_read ds) place) (sym same) (mirrors r place within)))
+
+-- The device that is named has failed.
+pub named_failed : (device : Option ℕ) (dev count : ℕ) (old new : FaultCounts) → device ≡ Some dev → IfSome device (λ d. (d < count) × DeviceFailed d old new) → DeviceFailed dev old new
+named_failed device dev count old new is failed = (subst (λ (o : Option ℕ). IfSome o (λ d. (d < count) × DeviceFailed d old new)) is failed).1

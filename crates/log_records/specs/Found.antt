@@ -1,8 +1,10 @@
 -- What an image means: its layout, and the fresh forest after the files that the records of its log make.
-use Rattle.std.specs.Prelude.{◌≡◌, ℕ, zero, suc, ◌<◌, ◌==◌, if◌then◌else◌, List, [], ◌∷◌, codes, Option, Some, None, Result, Ok, Err, option_and_then}
+use Rattle.std.specs.Prelude.{◌≡◌, ℕ, zero, suc, ◌<◌, ◌==◌, if◌then◌else◌, List, [], ◌∷◌, codes, slice_index_or, Option, Some, None, Result, Ok, Err, option_and_then}
 use Rattle.std.specs.Option.{option_map_or}
 use Rattle.std.specs.Result.{result_ok}
+use Rattle.vol_types.specs.Faults.{RoseBy}
 use Rattle.dev_model.specs.Disk.{Image}
+use Rattle.dev_model.specs.Devices.{FaultCounts}
 use Rattle.vol_types.specs.declared.layout.Layout.{Layout}
 use Rattle.geometry.specs.Superblocks.{layout_in}
 use Rattle.geometry.specs.Sessions.{session_in}
@@ -71,6 +73,29 @@ abbrev pub disk_fault : DiskFault → MountFault
 disk_fault (disks.DeviceFault dev) = DeviceFault dev
 disk_fault disks.NoMemory = NoMemory
 
+-- the device that a fault names as failed, if it names one
+abbrev pub mount_fault_device : MountFault → Option ℕ
+mount_fault_device NoSuper = None
+mount_fault_device Version = None
+mount_fault_device Mixed = None
+mount_fault_device BadLayout = None
+mount_fault_device NoSession = None
+mount_fault_device (DeviceFault dev) = Some dev
+mount_fault_device NoMemory = None
+
+-- the device that a result names as failed, if it names one
+abbrev pub failed_mount_device : {T : Type 0} → Result T MountFault → Option ℕ
+failed_mount_device (Ok value) = None
+failed_mount_device (Err fault) = mount_fault_device fault
+
+-- A call of this device failed in between: its count rose, or stands at its end.
+abbrev pub DeviceFailed : ℕ → FaultCounts → FaultCounts → Type 0
+DeviceFailed dev old new = RoseBy 1 (slice_index_or old.calls dev 0) (slice_index_or new.calls dev 0)
+
+-- A call of some device failed in between.
+abbrev pub SomeFailed : FaultCounts → FaultCounts → Type 0
+SomeFailed old new = (dev : ℕ) × DeviceFailed dev old new
+
 -- what the log says, where a session is named
 abbrev pub mounted_if : Layout → Image → Option ℕ → Result Mounted MountFault
 mounted_if layout image None = Err NoSession
@@ -97,7 +122,7 @@ AreMirrored layout image = (place : ℕ) → place < layout.journal → IsMirror
 abbrev pub volume_of : Loaded → Mounted
 volume_of loaded = mounted_as loaded.layout (loaded.records, loaded.forest)
 
--- The answer is what the image means, or else a device failed or memory was wanting. Where a read failed, as this says, the
+-- The answer is what the image means, or else a device failed or it was out of memory. Where a read failed, as this says, the
 -- volume is the one that the image means if its mirrors agree.
 abbrev pub IsMountAnswer : Type 0 → Image → Result Loaded MountFault → Type 0
 IsMountAnswer read_failed image (Ok loaded) = (read_failed → AreMirrored loaded.layout image) → mounts image ≡ Ok (volume_of loaded)

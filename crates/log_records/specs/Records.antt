@@ -9,11 +9,11 @@ use Rattle.dev_model.specs.Disk.{Image, block_at}
 use Rattle.vol_types.specs.declared.layout.Layout.{Layout}
 use Rattle.log_records.specs.declared.files.MadeFile.{MadeFile}
 
--- The log keeps a record for each file that was made. Its payload: the inode's number, and its name behind the name's length
+-- The log keeps a record for each file that was made. Its payload: the inode's number, and its name after the name's length
 abbrev pub payload_of : MadeFile → List ℕ
 payload_of file = to_le_bytes w64 file.number ++ length file.name ∷ file.name
 
--- the file that a payload spells, all of it
+-- the file that a payload encodes, all of it
 abbrev pub record_of : List ℕ → Option MadeFile
 record_of payload = let found : MadeFile = record { number = from_le_bytes w64 (take 8 payload); name = drop 9 payload } in if bytes_eq payload (payload_of found) then Some found else None
 

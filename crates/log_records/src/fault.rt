@@ -16,7 +16,7 @@ pub enum MountFault {
     NoSession,
     /// A call to this device failed.
     DeviceFault(u8),
-    /// Memory was wanting.
+    /// Out of memory.
     NoMemory,
 }
 

@@ -37,7 +37,7 @@ fn number_bytes(payload: &[u8]) -> [u8; 8]
     bytes
 }
 
-/// The file that a payload spells, all of it.
+/// The file that a payload encodes, all of it.
 pub fn read_payload(alloc: Global, payload: &[u8]) -> Result<Option<MadeFile>, AllocError>
     ensures { IfOk result (λ file. file ≡ record_of payload.now) }
 {

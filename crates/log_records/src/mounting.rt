@@ -1,13 +1,13 @@
-ghost use Rattle.std.specs.Prelude.{◌≡◌, ◌<◌, ◌≤◌, ℕ, true, false, Some, None, Ok, Err, IfOk, length};
-ghost use Rattle.vol_types.specs.Faults.{RoseBy};
+ghost use Rattle.std.specs.Prelude.{◌≡◌, ◌<◌, ◌≤◌, true, false, Some, None, Ok, IfOk, IfSome, length};
 ghost use Rattle.dev_model.specs.Devices.{now};
 ghost use Rattle.dev_model.specs.Disk.{as_read};
-ghost use Rattle.dev_model.specs.Frames.{DisksStay};
+ghost use Rattle.dev_model.specs.Frames.{AreOnlyRead};
+ghost use Rattle.geometry.specs.Faults.{failed_device};
 ghost use Rattle.geometry.specs.Layouts.{is_layout_of};
 ghost use Rattle.geometry.specs.Sessions.{session_in};
 ghost use Rattle.geometry.specs.Superblocks.{layout_in};
 ghost use Rattle.log_records.specs.Records.{record_at};
-ghost use Rattle.log_records.specs.Found.{AreMirrored, IsMirroredAt, IsMountAnswer, forest_with_next, log_in};
+ghost use Rattle.log_records.specs.Found.{AreMirrored, DeviceFailed, IsMirroredAt, IsMountAnswer, SomeFailed, failed_mount_device, forest_with_next, log_in};
 
 use crate::blocks::read_record;
 use crate::fault::MountFault;
@@ -63,12 +63,8 @@ fn record_on<D: Devices>(
     requires device { dev < layout.now.metadata_replicas }
     requires place { place < layout.now.journal }
     ensures found { D.tells → IfOk result (λ found. found ≡ Rattle.log_records.specs.Records.record_on layout.now place (as_read (now (D.state devices.old))) dev) }
-    ensures stays { D.tells → DisksStay (D.state devices.old) (D.state devices.new) }
-    ensures cause { (d : ℕ) → result ≡ Err (DiskFault.DeviceFault d) → (d ≡ dev) × RoseBy 1 (D.faults devices.old) (D.faults devices.new) }
-    ensures faults { D.faults devices.old ≤ D.faults devices.new }
-    ensures write_faults { D.write_faults devices.new ≡ D.write_faults devices.old }
-    ensures sizes { (D.state devices.new).sizes ≡ (D.state devices.old).sizes }
-    ensures moment { (D.state devices.old).moment ≤ (D.state devices.new).moment }
+    ensures read { AreOnlyRead D.tells (D.state devices.old) (D.state devices.new) }
+    ensures cause { IfSome (failed_device result) (λ failed. (failed ≡ dev) × DeviceFailed failed (D.state devices.old).faults (D.state devices.new).faults) }
 {
     let block = read_block(alloc, devices, dev, LOG_START + place)?;
     Ok(read_record(alloc, &layout.id, place, block.as_slice())?)
@@ -84,13 +80,9 @@ fn find_record<D: Devices>(
 ) -> Result<Option<MadeFile>, DiskFault>
     requires layout { is_layout_of (D.state devices.old).sizes layout.now ≡ true }
     requires place { place < layout.now.journal }
-    ensures found { D.tells → (RoseBy 1 (D.faults devices.old) (D.faults devices.new) → IsMirroredAt layout.now (as_read (now (D.state devices.old))) place) → IfOk result (λ found. found ≡ record_at layout.now (as_read (now (D.state devices.old))) place) }
-    ensures stays { D.tells → DisksStay (D.state devices.old) (D.state devices.new) }
-    ensures cause { (d : ℕ) → result ≡ Err (DiskFault.DeviceFault d) → (d < length (D.state devices.old).sizes) × RoseBy 1 (D.faults devices.old) (D.faults devices.new) }
-    ensures faults { D.faults devices.old ≤ D.faults devices.new }
-    ensures write_faults { D.write_faults devices.new ≡ D.write_faults devices.old }
-    ensures sizes { (D.state devices.new).sizes ≡ (D.state devices.old).sizes }
-    ensures moment { (D.state devices.old).moment ≤ (D.state devices.new).moment }
+    ensures found { D.tells → (SomeFailed (D.state devices.old).faults (D.state devices.new).faults → IsMirroredAt layout.now (as_read (now (D.state devices.old))) place) → IfOk result (λ found. found ≡ record_at layout.now (as_read (now (D.state devices.old))) place) }
+    ensures read { AreOnlyRead D.tells (D.state devices.old) (D.state devices.new) }
+    ensures cause { IfSome (failed_device result) (λ dev. (dev < length (D.state devices.old).sizes) × DeviceFailed dev (D.state devices.old).faults (D.state devices.new).faults) }
 {
     let mut failed = None;
     for dev in 0..layout.metadata_replicas {
@@ -110,14 +102,10 @@ fn find_record<D: Devices>(
 // Reads the log, record by record, up to the first place without the next one.
 fn scan<D: Devices>(alloc: Global, devices: &mut D, layout: &Layout) -> Result<Scanned, DiskFault>
     requires layout { is_layout_of (D.state devices.old).sizes layout.now ≡ true }
-    ensures found { D.tells → (RoseBy 1 (D.faults devices.old) (D.faults devices.new) → AreMirrored layout.now (as_read (now (D.state devices.old)))) → IfOk result (λ scanned. log_in layout.now (as_read (now (D.state devices.old))) ≡ (scanned.records, scanned.forest)) }
+    ensures found { D.tells → (SomeFailed (D.state devices.old).faults (D.state devices.new).faults → AreMirrored layout.now (as_read (now (D.state devices.old)))) → IfOk result (λ scanned. log_in layout.now (as_read (now (D.state devices.old))) ≡ (scanned.records, scanned.forest)) }
     ensures room { IfOk result (λ scanned. scanned.records ≤ layout.now.journal) }
-    ensures stays { D.tells → DisksStay (D.state devices.old) (D.state devices.new) }
-    ensures cause { (d : ℕ) → result ≡ Err (DiskFault.DeviceFault d) → (d < length (D.state devices.old).sizes) × RoseBy 1 (D.faults devices.old) (D.faults devices.new) }
-    ensures faults { D.faults devices.old ≤ D.faults devices.new }
-    ensures write_faults { D.write_faults devices.new ≡ D.write_faults devices.old }
-    ensures sizes { (D.state devices.new).sizes ≡ (D.state devices.old).sizes }
-    ensures moment { (D.state devices.old).moment ≤ (D.state devices.new).moment }
+    ensures read { AreOnlyRead D.tells (D.state devices.old) (D.state devices.new) }
+    ensures cause { IfSome (failed_device result) (λ dev. (dev < length (D.state devices.old).sizes) × DeviceFailed dev (D.state devices.old).faults (D.state devices.new).faults) }
 {
     let mut forest = Forest::fresh(alloc)?;
     for place in 0..layout.journal {
@@ -138,19 +126,15 @@ fn scan<D: Devices>(alloc: Global, devices: &mut D, layout: &Layout) -> Result<S
 /// Mounts the volume on the devices, without writing. It reads two blocks of every device, two of every metadata device, and
 /// one of the log for each record, on the first metadata device that holds it.
 ///
-/// Where the count of faults rose in the call, the volume is the one that the image means if its mirrors agree.
+/// Where a device failed in the call, as the counts say, the volume is the one that the image means if its mirrors agree.
 pub fn load<D: Devices>(alloc: Global, devices: &mut D) -> Result<Loaded, MountFault>
-    ensures found { D.tells → IsMountAnswer (RoseBy 1 (D.faults devices.old) (D.faults devices.new)) (as_read (now (D.state devices.old))) result }
+    ensures found { D.tells → IsMountAnswer (SomeFailed (D.state devices.old).faults (D.state devices.new).faults) (as_read (now (D.state devices.old))) result }
     ensures layout { D.tells → IfOk result (λ loaded. layout_in (as_read (now (D.state devices.old))) ≡ Ok loaded.layout) }
     ensures session { D.tells → IfOk result (λ loaded. session_in loaded.layout (as_read (now (D.state devices.old))) ≡ Some loaded.session) }
     ensures fits { IfOk result (λ loaded. is_layout_of (D.state devices.new).sizes loaded.layout ≡ true) }
     ensures room { IfOk result (λ loaded. loaded.records ≤ loaded.layout.journal) }
-    ensures stays { D.tells → DisksStay (D.state devices.old) (D.state devices.new) }
-    ensures cause { (d : ℕ) → result ≡ Err (MountFault.DeviceFault d) → (d < length (D.state devices.old).sizes) × RoseBy 1 (D.faults devices.old) (D.faults devices.new) }
-    ensures faults { D.faults devices.old ≤ D.faults devices.new }
-    ensures write_faults { D.write_faults devices.new ≡ D.write_faults devices.old }
-    ensures sizes { (D.state devices.new).sizes ≡ (D.state devices.old).sizes }
-    ensures moment { (D.state devices.old).moment ≤ (D.state devices.new).moment }
+    ensures read { AreOnlyRead D.tells (D.state devices.old) (D.state devices.new) }
+    ensures cause { IfSome (failed_mount_device result) (λ dev. (dev < length (D.state devices.old).sizes) × DeviceFailed dev (D.state devices.old).faults (D.state devices.new).faults) }
 {
     let layout = read_super(alloc, devices)?;
     let Some(session) = read_session(alloc, devices, &layout)? else {

@@ -1,7 +1,7 @@
-use Rattle.std.proofs.Common.{◌≡◌, ◌≤◌}
+use Rattle.std.proofs.Common.{◌≡◌}
 use Rattle.dev_model.specs.Disk.{as_read}
 use Rattle.dev_model.specs.Devices.{now}
-use Rattle.dev_model.specs.Frames.{DisksStay}
+use Rattle.dev_model.specs.Frames.{AreOnlyRead}
 use Rattle.geometry.specs.Sessions.{greatest_session}
 use Rattle.geometry.proofs.sessions.read_session.Given as goal
 
@@ -11,9 +11,6 @@ invariant-loop-dev g l =
     let first = l.fn.devices in
     record {
       so_far : D.tells → l.greatest ≡ greatest_session l.layout.id (as_read (now (D.state first))) l.dev;
-      stays : D.tells → DisksStay (D.state first) (D.state l.devices);
-      faults : D.faults first ≤ D.faults l.devices;
-      write_faults : D.write_faults l.devices ≡ D.write_faults first;
-      moment : (D.state first).moment ≤ (D.state l.devices).moment;
-      sizes : (D.state l.devices).sizes ≡ (D.state first).sizes;
+      read : AreOnlyRead D.tells (D.state first) (D.state l.devices);
+      faults : (D.state l.devices).faults ≡ (D.state first).faults;
     }

@@ -4,9 +4,9 @@ use Rattle.geometry.specs.Sessions.{session_block, session_head}
 use Rattle.geometry.proofs.NamedSessions.{names_itself}
 use Rattle.geometry.proofs.sessions.session_bytes.Goals as goal
 
-pub returns-clause-spelled : goal.returns-clause-spelled
+pub returns-clause-bytes : goal.returns-clause-bytes
 unfolding session_block
-returns-clause-spelled c = c.seal.ensures.spelled
+returns-clause-bytes c = c.seal.ensures.spelled
     ∙ ap (λ head. spelling head c.to_le_bytes.result) c.session_head.ensures.head
     ∙ ap (spelling (session_head c.args.id.now c.args.session)) c.to_le_bytes.ensures
 

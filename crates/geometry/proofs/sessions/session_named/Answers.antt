@@ -2,7 +2,7 @@ use Rattle.std.proofs.Common.{◌≡◌, ℕ, List, length, Some, true, false, a
 use Rattle.std.specs.Int.{w64, from_le_bytes}
 use Rattle.sealed_block.specs.Opening.{payload_in}
 use Rattle.geometry.specs.Sessions.{is_session_head}
-use Rattle.geometry.proofs.NamedSessions.{shut_names_none, other_length_names_none, other_head_names_none, right_head_names, spelled_back}
+use Rattle.geometry.proofs.NamedSessions.{shut_names_none, other_length_names_none, other_head_names_none, right_head_names, encoded_back}
 use Rattle.geometry.proofs.sessions.session_named.Goals as goal
 
 pub returns-in_default : goal.returns-in_default
@@ -28,4 +28,4 @@ returns c =
     ap (λ n. is_session_head c.args.id.now c.args.block n c.in-Some.head) (sym number) ∙ sym c.is_session_head.ensures ∙ c.if-not-is_session_head.false in
     let eight : length (payload_in bytes) ≡ 8 = sym (ap (λ (b : List ℕ). length b) c.payload.ensures) ∙ c.in-Some-number_in.ensures.0 in
     ap Some number
-    ∙ sym (right_head_names c.args.id.now c.args.block bytes c.in-Some.head (sym c.unseal.ensures.head ∙ c.in-Some.is) (spelled_back (payload_in bytes) eight c.in-Some.ensures.open.bytes) right)
+    ∙ sym (right_head_names c.args.id.now c.args.block bytes c.in-Some.head (sym c.unseal.ensures.head ∙ c.in-Some.is) (encoded_back (payload_in bytes) eight c.in-Some.ensures.open.bytes) right)

@@ -22,7 +22,7 @@ returns-clause-found g c tells =
     let image = as_read disks in
     let there = all_there (map counting image) in
     let all : there ≡ Some c.in-Some.copies.items = subst (λ o. MatchOption o (there ≡ None) (λ list. there ≡ Some list.items)) c.in-Some.is (c.in_ok-copies.ensures.found tells) in
-    let sizes : c.deref.result.now ≡ map (λ (blocks : List (List ℕ)). length blocks) image = c.deref.ensures.value ∙ c.in_ok-sizes.ensures ∙ g.met.D.Devices.agree tells c.args.devices.now ∙ sym (read_sizes disks) in
+    let sizes : c.deref.result.now ≡ map (λ (blocks : List (List ℕ)). length blocks) image = c.deref.ensures.value ∙ c.in_ok-sizes.ensures.sizes ∙ g.met.D.Devices.agree tells c.args.devices.now ∙ sym (read_sizes disks) in
     let same : judged c.deref.result.now c.deref-2.result.now ≡ layout_in image =
     ap (λ s. judged s c.deref-2.result.now) sizes ∙ ap (judged (map (λ (blocks : List (List ℕ)). length blocks) image)) c.deref-2.ensures.value
     ∙ sym (ap (judged_if_there (map (λ (blocks : List (List ℕ)). length blocks) image)) all) in

@@ -1,9 +1,10 @@
-use Rattle.std.proofs.Common.{◌≡◌, ◌<◌, ◌≤◌, ℕ, None, Some}
-use Rattle.vol_types.specs.Faults.{RoseBy}
+use Rattle.std.proofs.Common.{◌≡◌, ◌<◌, None}
+use Rattle.std.specs.Prelude.{IfSome}
 use Rattle.dev_model.specs.Disk.{as_read}
 use Rattle.dev_model.specs.Devices.{now}
-use Rattle.dev_model.specs.Frames.{DisksStay}
+use Rattle.dev_model.specs.Frames.{AreOnlyRead}
 use Rattle.log_records.specs.Records.{first_record}
+use Rattle.log_records.specs.Found.{DeviceFailed}
 use Rattle.log_records.proofs.mounting.find_record.Given as goal
 
 abbrev pub invariant-loop-dev : goal.invariant-loop-dev
@@ -12,10 +13,6 @@ invariant-loop-dev g l =
     let first = l.fn.devices in
     record {
       none : D.tells → l.failed ≡ None → first_record l.fn.layout l.fn.place (as_read (now (D.state first))) l.dev ≡ None;
-      fault : (d : ℕ) → l.failed ≡ Some d → (d < l.fn.layout.metadata_replicas) × RoseBy 1 (D.faults first) (D.faults l.devices);
-      stays : D.tells → DisksStay (D.state first) (D.state l.devices);
-      faults : D.faults first ≤ D.faults l.devices;
-      write_faults : D.write_faults l.devices ≡ D.write_faults first;
-      moment : (D.state first).moment ≤ (D.state l.devices).moment;
-      sizes : (D.state l.devices).sizes ≡ (D.state first).sizes;
+      fault : IfSome l.failed (λ d. (d < l.fn.layout.metadata_replicas) × DeviceFailed d (D.state first).faults (D.state l.devices).faults);
+      read : AreOnlyRead D.tells (D.state first) (D.state l.devices);
     }
