@@ -7,11 +7,11 @@ use Rattle.bvol.specs.declared.refusal.Refusal.TheVariants.{Usage, Device as NoD
 
 -- the refusal where files weren't opened
 abbrev pub refusal_of : OpenFault → Refusal
-refusal_of (Device dev) = NoDevice dev
+refusal_of (Device dev trouble) = NoDevice dev trouble
 refusal_of NoMemory = Memory
 
 -- the status of a refusal
 abbrev pub refusal_status : Refusal → ℕ
 refusal_status Usage = 1
-refusal_status (NoDevice dev) = 6
+refusal_status (NoDevice dev trouble) = 6
 refusal_status Memory = 7

@@ -3,16 +3,23 @@ ghost use Rattle.std.specs.Rc.{rc_str_bytes};
 ghost use Rattle.bvol.specs.Arguments.{is_dashes, first_dashes, words_and_files};
 
 use crate::devices::MOST_DEVICES;
-use crate::help::{FORMAT_HELP, HELP, RUN_HELP};
+use crate::help::{FORMAT_HELP, HELP, RUN_HELP, VERSION};
 use std::rc::RcStr;
 
-/// The text that the arguments ask for, where they ask for help.
+/// The text that the arguments ask for, where they ask for help or for the version.
 pub fn help_for(args: &[RcStr]) -> Option<&'static str> {
     match args {
-        [first] if first.as_str() == "--help" || first.as_str() == "help" => Some(HELP),
-        [first, second] if first.as_str() == "help" => help_of(second),
+        [only] if is_help(only) || only.as_str() == "help" => Some(HELP),
+        [only] if only.as_str() == "--version" => Some(VERSION),
+        [first, second] if is_help(second) => help_of(first),
+        [first, second] if is_help(first) || first.as_str() == "help" => help_of(second),
         _ => None,
     }
+}
+
+// Whether the argument asks for help, before a command, after it or alone.
+fn is_help(arg: &RcStr) -> bool {
+    arg.as_str() == "--help" || arg.as_str() == "-h"
 }
 
 // The text on a command.

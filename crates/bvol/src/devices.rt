@@ -1,12 +1,14 @@
 ghost use Rattle.std.specs.Prelude.{◌≡◌, ◌<◌, ◌≤◌, ℕ, [], Err, length, map, IfOk};
 ghost use Rattle.bvol.specs.declared.devices.OpenFault.{OpenFault};
 ghost use Rattle.bvol.specs.declared.devices.OpenFault.TheVariants.{Device};
+ghost use Rattle.bvol.specs.declared.devices.Trouble.TheVariants.{InUse};
 
 use crate::counts::CallCounts;
 use crate::image::{Image, open_image};
 use dev_model::Devices;
 use std::alloc::{AllocFailed, Global};
 use std::fs::{File, OpenFile};
+use std::io;
 use std::os::unix::fs::FileExt;
 use std::rc::RcStr;
 use std::rt::Files;
@@ -23,13 +25,39 @@ pub struct FileDevices<F: Drop> {
     ghost count: { (1 ≤ length images.items) × (length images.items ≤ 8) },
 }
 
+/// What is wrong with an image file.
+#[derive(Clone, Copy, Debug, PartialEq, Eq)]
+pub enum Trouble {
+    /// There is no such file.
+    Missing,
+    /// It may not be read and written.
+    NotPermitted,
+    /// It is a directory.
+    Directory,
+    /// Another program has its lock, or it stands twice among the images.
+    InUse,
+    /// The system gave another error.
+    Other,
+}
+
 /// Why files were not opened.
 #[derive(Clone, Copy, Debug, PartialEq, Eq)]
 pub enum OpenFault {
-    /// The file with this number, from 0, isn't there, or can't be read and written, or is in use.
-    Device(u8),
-    /// Memory was wanting.
+    /// The file with this number, from 0, can't be opened for this reason.
+    Device(u8, Trouble),
+    /// Out of memory.
     NoMemory,
+}
+
+// The trouble that an error of the system tells.
+fn trouble_of(error: io::Error) -> Trouble {
+    match error.kind() {
+        io::ErrorKind::NotFound => Trouble::Missing,
+        io::ErrorKind::PermissionDenied => Trouble::NotPermitted,
+        io::ErrorKind::ReadOnlyFilesystem => Trouble::NotPermitted,
+        io::ErrorKind::IsADirectory => Trouble::Directory,
+        _ => Trouble::Other,
+    }
 }
 
 impl<T: Drop> From<AllocFailed<T>> for OpenFault {
@@ -56,7 +84,7 @@ pub fn open_devices<R: Files>(
     for path in paths {
         match open_image(files, path.as_str()) {
             Ok(image) => images.push(image)?,
-            Err(_) => return Err(OpenFault::Device(images.len() as u8)),
+            Err(error) => return Err(OpenFault::Device(images.len() as u8, trouble_of(error))),
         }
     }
     Ok(FileDevices {
@@ -69,11 +97,11 @@ impl FileDevices<File> {
     /// Takes the lock on each file, so that no other run that asks for it has it at the same time, and no file is two devices. It
     /// names the first file that is in use, or can't be locked.
     pub fn lock(&self) -> Result<(), OpenFault>
-        ensures { (fault : OpenFault) → result ≡ Err fault → (dev : ℕ) × (fault ≡ Device dev) × (dev < length self.now.images.items) }
+        ensures { (fault : OpenFault) → result ≡ Err fault → (dev : ℕ) × (fault ≡ Device dev InUse) × (dev < length self.now.images.items) }
     {
         for dev in 0..self.images.len() {
             if !self.images[dev].lock() {
-                return Err(OpenFault::Device(dev as u8));
+                return Err(OpenFault::Device(dev as u8, Trouble::InUse));
             }
         }
         Ok(())

@@ -1,3 +1,6 @@
+/// What `bvol --version` prints.
+pub const VERSION: &str = "bvol 0.1.0, of format version 1\n";
+
 /// What `bvol --help` prints.
 pub const HELP: &str = "\
 bvol keeps files in a copy-on-write volume over one to eight image files.
@@ -7,11 +10,13 @@ usage:
   bvol run -- IMAGE.. < SCRIPT     run a script on the volume in the IMAGEs
   bvol help format                 the options, and the statuses
   bvol help run                    the script, its replies and the statuses
-  bvol help, bvol --help           this text
+  bvol help, bvol --help, bvol -h  this text; also after a command
+  bvol --version                   the program's version
 
 An IMAGE is a file that can be read and written. A volume is run with all files
 that it was made of, in the same order. The script comes from standard input;
-replies and errors go to standard output.
+replies and errors go to standard output, for programs; where a command does
+nothing, standard error says in a sentence what happened and what to do.
 
 example:
   touch a.img b.img
@@ -54,7 +59,7 @@ exit status:
   5  standard output couldn't be written
   6  error 6 device D: file D, from 0, isn't there, is in use, or can't be read
      and written
-  7  error 7 memory: memory was wanting
+  7  error 7 memory: out of memory
 
 example:
   touch a.img b.img
@@ -94,7 +99,7 @@ replies, one a line, with the client (0) and the number of the script's line:
   @0 3 err device 0          the `sync` couldn't write to file 0, and the run
                              halts: from here on it changes and writes nothing
   @0 4 err halted 0          it has halted; `ls` goes on
-  @0 3 err no-memory         memory was wanting
+  @0 3 err no-memory         out of memory
 The last line is `end commits N synced M`: the run made N commits, and M of them
 are known to be on the disks.
 
@@ -115,7 +120,7 @@ exit status:
      and written
      without that line: the last changes couldn't be written, as the replies
      or M in the last line say
-  7  error 7 memory: memory was wanting; after the replies without that line
+  7  error 7 memory: out of memory; after the replies without that line
 
 example:
   touch a.img b.img

@@ -1,6 +1,8 @@
-//! The program: judges the words, opens the image files, and runs the command that the words name.
+//! The program: judges the arguments, opens the image files, and runs the command that the arguments name. Lines for programs go
+//! to standard output; beside an error line, standard error has a sentence for people.
 #![tactic(auto)]
 
+mod advice;
 mod arguments;
 mod counts;
 mod devices;
@@ -11,16 +13,17 @@ mod refusal;
 #[cfg(test)]
 mod tests;
 
+use advice::{Advice, RefusalAdvice};
 use arguments::{help_for, words_and_paths};
 use dev_model::NoGate;
-use devices::open_devices;
+use devices::{MOST_DEVICES, open_devices};
 use judging::judge_words;
 use refusal::Refusal;
 use shell::run_words;
 use std::alloc::Global;
 use std::env;
 use std::fs::File;
-use std::io::{self, Read, Write};
+use std::io::{self, Eprint, Read, Write};
 use std::process::ExitCode;
 use std::rc::RcStr;
 use std::rt::{Env, Files};
@@ -43,7 +46,11 @@ fn printed(answer: io::Result<()>, status: u8) -> u8 {
 }
 
 // Does what the arguments ask for, and gives the status with which the program ends.
-fn run<R: Files<File = File> + Env + AllocGlobal + Print, I: Read + Drop, O: Write + Drop>(
+fn run<
+    R: Files<File = File> + Env + AllocGlobal + Print + Eprint,
+    I: Read + Drop,
+    O: Write + Drop,
+>(
     rt: &R,
     alloc: Global,
     input: I,
@@ -53,16 +60,61 @@ fn run<R: Files<File = File> + Env + AllocGlobal + Print, I: Read + Drop, O: Wri
     if let Some(text) = help_for(&args) {
         return Ok(printed(rt.print(text), 0));
     }
-    let (words, paths) = words_and_paths(&args).ok_or(Refusal::Usage)?;
-    judge_words(alloc, words, paths.len() as u8)?;
-    let devices = open_devices(rt, alloc, paths)?;
+    let (arguments, images) = words_and_paths(&args).unwrap_or((&args, &[]));
+    match run_on(rt, alloc, arguments, images, input, output) {
+        Ok(status) => Ok(status),
+        Err(refusal) => {
+            let _ = rt.eprintln(RefusalAdvice {
+                refusal,
+                arguments,
+                images,
+            });
+            Err(refusal)
+        }
+    }
+}
+
+// Judges the arguments, opens and locks the images, and does what is asked for on them.
+fn run_on<
+    R: Files<File = File> + Env + AllocGlobal + Print + Eprint,
+    I: Read + Drop,
+    O: Write + Drop,
+>(
+    rt: &R,
+    alloc: Global,
+    arguments: &[RcStr],
+    images: &[RcStr],
+    input: I,
+    output: O,
+) -> Result<u8, Refusal> {
+    if images.is_empty() || images.len() > MOST_DEVICES {
+        return Err(Refusal::Usage);
+    }
+    judge_words(alloc, arguments, images.len() as u8)?;
+    let devices = open_devices(rt, alloc, images)?;
     devices.lock()?;
     let mut source = StdSource::new(input);
     let mut sink = StdSink::new(output);
-    Ok(run_words(rt, alloc, words, &mut source, &mut sink, devices, &NoGate).status)
+    let ended = run_words(
+        rt,
+        alloc,
+        arguments,
+        &mut source,
+        &mut sink,
+        devices,
+        &NoGate,
+    );
+    if let Some(end) = ended.early_end {
+        let _ = rt.eprintln(Advice {
+            end,
+            arguments,
+            images,
+        });
+    }
+    Ok(ended.status)
 }
 
-// The arguments behind the program's name.
+// The arguments after the program's name.
 fn read_arguments<R: Env + AllocGlobal>(rt: &R, alloc: Global) -> Result<Vec<RcStr>, Refusal> {
     let mut args = Vec::new(alloc);
     for arg in env::args(rt)?.skip(1) {

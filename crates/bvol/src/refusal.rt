@@ -1,7 +1,7 @@
 ghost use Rattle.std.specs.Prelude.{◌≡◌};
 ghost use Rattle.bvol.specs.Refusals.{refusal_status};
 
-use crate::devices::OpenFault;
+use crate::devices::{OpenFault, Trouble};
 use std::alloc::{AllocError, AllocFailed};
 use std::{fmt, io};
 
@@ -10,9 +10,9 @@ use std::{fmt, io};
 pub enum Refusal {
     /// The arguments name no files, or too many.
     Usage,
-    /// This file isn't there, or can't be read and written, or is in use.
-    Device(u8),
-    /// Memory was wanting.
+    /// This file can't be opened for this reason.
+    Device(u8, Trouble),
+    /// Out of memory.
     Memory,
 }
 
@@ -23,7 +23,7 @@ impl Refusal {
     {
         match self {
             Refusal::Usage => 1,
-            Refusal::Device(_) => 6,
+            Refusal::Device(_, _) => 6,
             Refusal::Memory => 7,
         }
     }
@@ -33,7 +33,7 @@ impl fmt::Display for Refusal {
     fn fmt<W: fmt::Write>(&self, f: &mut fmt::Formatter<W>) -> fmt::Result {
         match *self {
             Refusal::Usage => f.write_str("error 1 usage"),
-            Refusal::Device(dev) => write!(f, "error 6 device {dev}"),
+            Refusal::Device(dev, _) => write!(f, "error 6 device {dev}"),
             Refusal::Memory => f.write_str("error 7 memory"),
         }
     }
@@ -69,13 +69,13 @@ impl From<OpenFault> for Refusal {
 
     fn from(fault: OpenFault) -> Self {
         match fault {
-            OpenFault::Device(dev) => Refusal::Device(dev),
+            OpenFault::Device(dev, trouble) => Refusal::Device(dev, trouble),
             OpenFault::NoMemory => Refusal::Memory,
         }
     }
 }
 
-// Of the arguments: one isn't UTF-8, or memory was wanting.
+// Of the arguments: one isn't UTF-8, or it is out of memory.
 impl From<io::Error> for Refusal {
     fn from(error: io::Error) -> Self {
         match error.kind() {

@@ -1,4 +1,4 @@
-use crate::devices::{FileDevices, OpenFault, open_devices};
+use crate::devices::{FileDevices, OpenFault, Trouble, open_devices};
 use dev_model::Devices;
 use std::alloc::Global;
 use std::fs::{self, File};
@@ -68,13 +68,13 @@ fn a_file_is_no_two_devices(rt: HostRuntime) -> Result<(), Fail> {
     let path = file_name(&rt, alloc, "locked")?;
     fs::write(&rt, path.as_str(), [0u8; 4096])?;
     let twice = open_devices(&rt, alloc, &[path.clone()?, path.clone()?])?;
-    assert!(rt; twice.lock() == Err(OpenFault::Device(1)));
+    assert!(rt; twice.lock() == Err(OpenFault::Device(1, Trouble::InUse)));
     let first = open_devices(&rt, alloc, &[path.clone()?])?;
-    assert!(rt; first.lock() == Err(OpenFault::Device(0)));
+    assert!(rt; first.lock() == Err(OpenFault::Device(0, Trouble::InUse)));
     drop(twice);
     assert!(rt; first.lock() == Ok(()));
     let second = open_devices(&rt, alloc, &[path.clone()?])?;
-    assert!(rt; second.lock() == Err(OpenFault::Device(0)));
+    assert!(rt; second.lock() == Err(OpenFault::Device(0, Trouble::InUse)));
     fs::remove_file(&rt, path.as_str())?;
     Ok(())
 }

@@ -3,7 +3,7 @@ use Rattle.std.proofs.Common.{◌≡◌, sym, ◌∙◌}
 use Rattle.std.specs.Cmp.{IsTotalOrder}
 use Rattle.std.proofs.lemmas.Cmp.{on_total, then_total, back_total, nat_cmp_total, tied_itself}
 use Rattle.std.specs.declared.cmp.Ordering.TheVariants.{Less, Equal}
-use Rattle.vol_types.proofs.PositionOrder.{pos_total}
+use Rattle.vol_types.specs.PositionLaws.{pos_total}
 use Rattle.vol_types.specs.Btrees.{btree_code}
 use Rattle.lock_table.specs.Names.{name_cmp, IsBelow}
 use Rattle.lock_table.specs.declared.name.NodeName.{NodeName}

@@ -7,11 +7,12 @@ use Rattle.std.specs.BTreeMap.{is_at}
 use Rattle.std.specs.Ordering.{nat_cmp, match_ordering, is_eq}
 use Rattle.std.specs.declared.cmp.Ordering.{Ordering}
 use Rattle.std.specs.declared.cmp.Ordering.TheVariants.{Less, Equal, Greater}
-use Rattle.std.proofs.lemmas.Cmp.{ranked}
+use Rattle.std.proofs.lemmas.Cmp.{ranked, nat_cmp_total}
 use Rattle.std.proofs.lemmas.Option.{same_Some, none-some as none_some}
+use Rattle.vol_types.specs.MapLaws.{IsMap-with_value}
 use Rattle.vol_types.specs.Maps.{IsMap, value_at, with_value}
 use Rattle.pin_list.specs.Pins.{smaller, least_pin, with_pin, IsGapAt, IsKept, IsOldest, IsPinAt}
-use Rattle.pin_list.proofs.Places.{above_head, skip_value, rises_with, value_gone, value_here, with_gone, with_here}
+use Rattle.pin_list.proofs.Places.{above_head, skip_value, value_gone, value_here, with_gone, with_here}
 
 ≤_or_< : (m n : ℕ) → (m ≤ n) ⊎ (n < m)
 ≤_or_< m n = grind arith
@@ -115,7 +116,7 @@ some_oldest pins (Some oldest) rises is = least_is pins oldest rises (sym is)
 
 -- after a pin was put in or lowered
 pub kept_with : (pins : List (ℕ × ℕ)) (oldest : Option ℕ) (node seq : ℕ) → IsKept pins oldest → IsKept (with_pin node seq pins) (Some (smaller seq oldest))
-kept_with pins oldest node seq kept = record { rises = rises_with node _ pins kept.rises; knows = ap (λ o. Some (smaller seq o)) kept.knows ∙ sym (least_with node seq pins kept.rises) }
+kept_with pins oldest node seq kept = record { rises = IsMap-with_value nat_cmp_total node _ pins kept.rises; knows = ap (λ o. Some (smaller seq o)) kept.knows ∙ sym (least_with node seq pins kept.rises) }
 
 pub pin_here : (pins : List (ℕ × ℕ)) (node seq place : ℕ) (at : IsPinAt pins node place) → slice_set pins place (node, min seq at.seq) ≡ with_pin node seq pins
 pin_here pins node seq place at =

@@ -93,48 +93,6 @@ without_gone node (e ∷ es) none = choose (without_gone node es) (is_at (nat_cm
     choose rest true is = absurd (none_some e.1 (sym is))
     choose rest false is = ap (λ xs. e ∷ xs) (rest is)
 
--- a number below all that were above
-still_less : (low node : ℕ) (es : Pins) → nat_cmp low node ≡ Less → AllByRecursion (λ y. nat_cmp node y ≡ Less) (keys_of es) → AllByRecursion (λ y. nat_cmp low y ≡ Less) (keys_of es)
-still_less low node [] lt all = tt
-still_less low node (e ∷ es) lt all = (nat_cmp_total.trans low node e.0 lt all.0, still_less low node es lt all.1)
-
-less_with : (low node seq : ℕ) (es : Pins) → nat_cmp low node ≡ Less → AllByRecursion (λ y. nat_cmp low y ≡ Less) (keys_of es) → AllByRecursion (λ y. nat_cmp low y ≡ Less) (keys_of (with_value nat_cmp node seq es))
-less_with low node seq [] lt all = (lt, tt)
-less_with low node seq (e ∷ es) lt all = choose (less_with low node seq es lt all.1) (nat_cmp node e.0)
-  where
-    choose : AllByRecursion (λ y. nat_cmp low y ≡ Less) (keys_of (with_value nat_cmp node seq es)) → (o : Ordering) → AllByRecursion (λ y. nat_cmp low y ≡ Less) (keys_of (match_ordering o ((node, seq) ∷ e ∷ es) ((e.0, seq) ∷ es) (e ∷ with_value nat_cmp node seq es)))
-    choose rest Less = (lt, all)
-    choose rest Equal = all
-    choose rest Greater = (all.0, rest)
-
-less_without : (low node : ℕ) (es : Pins) → AllByRecursion (λ y. nat_cmp low y ≡ Less) (keys_of es) → AllByRecursion (λ y. nat_cmp low y ≡ Less) (keys_of (without nat_cmp node es))
-less_without low node [] all = tt
-less_without low node (e ∷ es) all = choose (less_without low node es all.1) (is_at (nat_cmp node) e.0)
-  where
-    choose : AllByRecursion (λ y. nat_cmp low y ≡ Less) (keys_of (without nat_cmp node es)) → (test : Bool) → AllByRecursion (λ y. nat_cmp low y ≡ Less) (keys_of (cond test es (e ∷ without nat_cmp node es)))
-    choose rest true = all.1
-    choose rest false = (all.0, rest)
-
--- pins rise after one was put in, or taken out
-pub rises_with : (node seq : ℕ) (es : Pins) → IsMap nat_cmp es → IsMap nat_cmp (with_value nat_cmp node seq es)
-unfolding IsStrictlySortedBy
-rises_with node seq [] rises = (tt, tt)
-rises_with node seq (e ∷ es) rises = choose (rises_with node seq es rises.1) (nat_cmp node e.0) refl
-  where
-    choose : IsStrictlySortedBy nat_cmp (keys_of (with_value nat_cmp node seq es)) → (o : Ordering) → nat_cmp node e.0 ≡ o → IsStrictlySortedBy nat_cmp (keys_of (match_ordering o ((node, seq) ∷ e ∷ es) ((e.0, seq) ∷ es) (e ∷ with_value nat_cmp node seq es)))
-    choose rest Less is = ((is, still_less node e.0 es is rises.0), rises)
-    choose rest Equal is = rises
-    choose rest Greater is = (less_with e.0 node seq es (less e.0 node (ranked node e.0 Greater (sym is))) rises.0, rest)
-
-pub rises_without : (node : ℕ) (es : Pins) → IsMap nat_cmp es → IsMap nat_cmp (without nat_cmp node es)
-unfolding IsStrictlySortedBy
-rises_without node [] rises = tt
-rises_without node (e ∷ es) rises = choose (rises_without node es rises.1) (is_at (nat_cmp node) e.0)
-  where
-    choose : IsStrictlySortedBy nat_cmp (keys_of (without nat_cmp node es)) → (test : Bool) → IsStrictlySortedBy nat_cmp (keys_of (cond test es (e ∷ without nat_cmp node es)))
-    choose rest true = rises.1
-    choose rest false = (less_without e.0 node es rises.0, rest)
-
 all_at : (low : ℕ) (es : Pins) (j : ℕ) (d : ℕ × ℕ) → AllByRecursion (λ y. nat_cmp low y ≡ Less) (keys_of es) → j < length es → low < (get_or es j d).0
 all_at low [] j d all lt = absurd (omega (arith, lt))
 all_at low (e ∷ es) zero d all lt = ranked low e.0 Less (sym all.0)

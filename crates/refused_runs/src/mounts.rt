@@ -43,8 +43,6 @@ const VERSION: &[u8] = b"mount refused 2\n";
 
 const MIXED: &[u8] = b"mount refused 3\n";
 
-const BAD_LAYOUT: &[u8] = b"mount refused 4\n";
-
 const NO_SESSION: &[u8] = b"mount refused 5\n";
 
 #[test]
@@ -58,27 +56,6 @@ fn blank_devices_are_not_mounted(rt: HostRuntime) -> Result<(), Fail> {
     }
     let eight = MemDevices::blank(alloc, &[16, 16, 16, 16, 16, 16, 16, 16])?;
     assert!(rt; is_refused(alloc, eight, NO_SUPERBLOCK)?);
-    Ok(())
-}
-
-// One copy of a superblock is enough. A device without a copy is not, whichever it is.
-#[test]
-fn a_device_without_superblocks_is_not_mounted(rt: HostRuntime) -> Result<(), Fail> {
-    let alloc = rt.alloc();
-    for dev in [0, 1] {
-        for block in [0, 8] {
-            let mut devices = two_devices(alloc)?;
-            assert!(rt; wipe(alloc, &mut devices, dev, block, block)?);
-            let ran = run(alloc, b"", devices.restart(Pick::AllWritten)?)?;
-            assert_eq!(rt; ran.sink.held(), b"end commits 0 synced 0\n".as_slice());
-            assert_eq!(rt; ran.status, 0);
-        }
-        let mut devices = two_devices(alloc)?;
-        assert!(rt; wipe(alloc, &mut devices, dev, 0, 0)?);
-        assert!(rt; wipe(alloc, &mut devices, dev, 8, 8)?);
-        let left = devices.restart(Pick::AllWritten)?;
-        assert!(rt; is_refused(alloc, left, NO_SUPERBLOCK)?, "at {dev}");
-    }
     Ok(())
 }
 
@@ -116,46 +93,6 @@ fn devices_in_another_order_are_not_mounted(rt: HostRuntime) -> Result<(), Fail>
         let blank = MemDevices::blank(alloc, &[1024, 1024])?;
         let devices = copied(alloc, two_devices(alloc)?, &order, blank)?;
         assert!(rt; is_copy_refused(alloc, devices, MIXED)?, "at {order:?}");
-    }
-    Ok(())
-}
-
-// One device of two, in its own place or the other's, and two where the second is the device of a volume of its own.
-#[test]
-fn some_of_the_devices_are_not_mounted(rt: HostRuntime) -> Result<(), Fail> {
-    let alloc = rt.alloc();
-    for dev in [0, 1] {
-        let blank = MemDevices::blank(alloc, &[1024])?;
-        let devices = copied(alloc, two_devices(alloc)?, &[dev], blank)?;
-        assert!(rt; is_copy_refused(alloc, devices, MIXED)?, "at {dev}");
-    }
-    let blank = MemDevices::blank(alloc, &[1024, 1024])?;
-    let devices = copied(alloc, one_device(alloc)?, &[0, 0], blank)?;
-    assert!(rt; is_copy_refused(alloc, devices, MIXED)?);
-    Ok(())
-}
-
-// A device may be longer than the volume takes of it, and not shorter.
-#[test]
-fn devices_that_were_cut_are_not_mounted(rt: HostRuntime) -> Result<(), Fail> {
-    let alloc = rt.alloc();
-    for size in [17, 1008, 1023] {
-        let blank = MemDevices::blank(alloc, &[size])?;
-        let devices = copied(alloc, one_device(alloc)?, &[0], blank)?;
-        assert!(rt; is_copy_refused(alloc, devices, BAD_LAYOUT)?, "at {size}");
-        let blank = MemDevices::blank(alloc, &[1024, size])?;
-        let devices = copied(alloc, two_devices(alloc)?, &[0, 1], blank)?;
-        assert!(rt; is_copy_refused(alloc, devices, BAD_LAYOUT)?, "at {size}");
-    }
-    for size in [1024, 1025] {
-        let blank = MemDevices::blank(alloc, &[size])?;
-        match copied(alloc, one_device(alloc)?, &[0], blank)? {
-            Some(devices) => {
-                let ran = run(alloc, b"", devices)?;
-                assert_eq!(rt; ran.status, 0, "at {size}");
-            }
-            None => assert!(rt; false, "at {size}"),
-        }
     }
     Ok(())
 }
@@ -208,18 +145,6 @@ fn each_run_raises_the_session(rt: HostRuntime) -> Result<(), Fail> {
         assert!(rt; names(alloc, &mut devices, 0, session)?, "at {session}");
         assert!(rt; names(alloc, &mut devices, 1, session)?, "at {session}");
     }
-    Ok(())
-}
-
-// A run that ends early raises no session where it is refused before it mounts.
-#[test]
-fn a_refused_run_raises_no_session(rt: HostRuntime) -> Result<(), Fail> {
-    let alloc = rt.alloc();
-    let ran = run(alloc, b"frob main:/a\n", one_device(alloc)?)?;
-    assert_eq!(rt; ran.status, 2);
-    let mut devices = ran.devices;
-    assert_eq!(rt; session_on(alloc, &mut devices, 0, 4)?, None);
-    assert_eq!(rt; session_on(alloc, &mut devices, 0, 5)?, Some(1));
     Ok(())
 }
 

@@ -59,20 +59,6 @@ fn bad_lines_are_refused(rt: HostRuntime) -> Result<(), Fail> {
     Ok(())
 }
 
-// The last line may lack its LF.
-#[test]
-fn a_last_line_without_its_end_is_read(rt: HostRuntime) -> Result<(), Fail> {
-    let alloc = rt.alloc();
-    let ran = run(alloc, b"ls main:/", one_device(alloc)?)?;
-    assert_eq!(rt;
-        ran.sink.held(),
-        b"@0 1 list\nend commits 0 synced 0\n".as_slice()
-    );
-    assert_eq!(rt; ran.status, 0);
-    assert_eq!(rt; ran.trace.len(), 2);
-    Ok(())
-}
-
 // A script has at most 16 MiB. One of as many bytes is read to its end, and its first line is bad.
 #[test]
 fn a_script_of_more_than_16_mib_is_refused(rt: HostRuntime) -> Result<(), Fail> {
@@ -81,23 +67,5 @@ fn a_script_of_more_than_16_mib_is_refused(rt: HostRuntime) -> Result<(), Fail> 
     let (longest, _) = text.as_slice().split_at(16_777_216);
     assert!(rt; is_refused(alloc, longest, b"error 2 line 1 not-built\n")?);
     assert!(rt; is_refused(alloc, &text, b"error 2 too-long\n")?);
-    Ok(())
-}
-
-// An operation that isn't built is no line of a script yet, and neither is a line that goes on behind its verb.
-#[test]
-fn an_operation_that_is_not_built_is_refused(rt: HostRuntime) -> Result<(), Fail> {
-    let alloc = rt.alloc();
-    for script in [
-        b"fsync main:/a\n".as_slice(),
-        b"mkdir main:/a\n".as_slice(),
-        b"sync main:/a\n".as_slice(),
-        b"Sync\n".as_slice(),
-    ] {
-        assert!(rt;
-            is_refused(alloc, script, b"error 2 line 1 not-built\n")?,
-            "at {script:?}"
-        );
-    }
     Ok(())
 }

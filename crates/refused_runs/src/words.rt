@@ -1,4 +1,4 @@
-use dev_model::{Devices, MemDevices};
+use dev_model::MemDevices;
 use std::alloc::{AllocError, Global};
 use std::test::Fail;
 use text_io::{MemSink, MemSource};
@@ -56,35 +56,6 @@ fn other_words_are_refused(rt: HostRuntime) -> Result<(), Fail> {
     Ok(())
 }
 
-// Without what it needs, with an option twice, an unknown one, or one that is shortened, with a number or an id that is none.
-#[test]
-fn other_options_are_refused(rt: HostRuntime) -> Result<(), Fail> {
-    let alloc = rt.alloc();
-    for line in [
-        "format",
-        "format --id .",
-        "format --blocks 1024",
-        "format --id . --id . --blocks 1024",
-        "format --id . --blocks 1024 --blocks 1024",
-        "format --id . --blocks 1024 --fast",
-        "format --id . --block 1024",
-        "format --id . --blocks",
-        "format --id . --blocks 1024 disk.img",
-        "format --id . --blocks 01024",
-        "format --id . --blocks +1024",
-        "format --id . --blocks 1024.0",
-        "format --id . --blocks 1K",
-        "format --id . --blocks 18446744073709551616",
-        "format --id 00000000-0000-4000-8000-00000000001 --blocks 1024",
-        "format --id x --blocks 1024",
-    ] {
-        let words = words_of(alloc, line)?;
-        let blank = MemDevices::blank(alloc, &[16])?;
-        assert!(rt; are_refused(alloc, &words, blank)?, "{line}");
-    }
-    Ok(())
-}
-
 // A device has 1,024 to 1,048,576 blocks, in whole buckets of 16, and a journal area 256 to 4,096 in whole buckets. Twice a
 // journal area and a bucket fit on a device. There is at least one replica, and no more than three or than devices. Numbers
 // that are too large for their fields are no smaller ones.
@@ -115,29 +86,6 @@ fn numbers_out_of_their_ranges_are_refused(rt: HostRuntime) -> Result<(), Fail> 
         let words = words_of(alloc, line)?;
         let blank = MemDevices::blank(alloc, &[16])?;
         assert!(rt; are_refused(alloc, &words, blank)?, "{line}");
-    }
-    Ok(())
-}
-
-// Four replicas are too many for any number of devices, and three for two devices.
-#[test]
-fn more_replicas_than_may_be_are_refused(rt: HostRuntime) -> Result<(), Fail> {
-    let alloc = rt.alloc();
-    for line in [
-        "format --id . --blocks 1024 --meta-replicas 4",
-        "format --id . --blocks 1024 --data-replicas 4",
-    ] {
-        let words = words_of(alloc, line)?;
-        let four = MemDevices::blank(alloc, &[16, 16, 16, 16])?;
-        assert!(rt; are_refused(alloc, &words, four)?, "{line}");
-    }
-    for line in [
-        "format --id . --blocks 1024 --meta-replicas 3",
-        "format --id . --blocks 1024 --data-replicas 3",
-    ] {
-        let words = words_of(alloc, line)?;
-        let two = MemDevices::blank(alloc, &[16, 16])?;
-        assert!(rt; are_refused(alloc, &words, two)?, "{line}");
     }
     Ok(())
 }

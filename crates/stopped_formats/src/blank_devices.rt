@@ -1,4 +1,4 @@
-use crate::stages::{Before, NOTHING, Stage, ends_behind, other_call};
+use crate::stages::{Before, NOTHING, Stage, other_call};
 use dev_model::Pick;
 use std::test::Fail;
 
@@ -27,30 +27,6 @@ const STAGES: [Stage; 12] = [
 ];
 
 #[test]
-fn each_call_fails_and_all_is_left(rt: HostRuntime) -> Result<(), Fail> {
-    let alloc = rt.alloc();
-    let other = other_call(alloc, Before::Blank, &STAGES, false, Pick::AllWritten)?;
-    assert_eq!(rt; other, None);
-    Ok(())
-}
-
-#[test]
-fn it_stops_at_each_call_and_all_is_left(rt: HostRuntime) -> Result<(), Fail> {
-    let alloc = rt.alloc();
-    let other = other_call(alloc, Before::Blank, &STAGES, true, Pick::AllWritten)?;
-    assert_eq!(rt; other, None);
-    Ok(())
-}
-
-#[test]
-fn each_call_fails_and_what_was_flushed_is_left(rt: HostRuntime) -> Result<(), Fail> {
-    let alloc = rt.alloc();
-    let other = other_call(alloc, Before::Blank, &STAGES, false, Pick::NoneWritten)?;
-    assert_eq!(rt; other, None);
-    Ok(())
-}
-
-#[test]
 fn it_stops_at_each_call_and_what_was_flushed_is_left(rt: HostRuntime) -> Result<(), Fail> {
     let alloc = rt.alloc();
     let other = other_call(alloc, Before::Blank, &STAGES, true, Pick::NoneWritten)?;
@@ -63,24 +39,5 @@ fn each_call_fails_and_blocks_are_torn(rt: HostRuntime) -> Result<(), Fail> {
     let alloc = rt.alloc();
     let other = other_call(alloc, Before::Blank, &STAGES, false, Pick::Torn)?;
     assert_eq!(rt; other, None);
-    Ok(())
-}
-
-#[test]
-fn it_stops_at_each_call_and_blocks_are_torn(rt: HostRuntime) -> Result<(), Fail> {
-    let alloc = rt.alloc();
-    let other = other_call(alloc, Before::Blank, &STAGES, true, Pick::Torn)?;
-    assert_eq!(rt; other, None);
-    Ok(())
-}
-
-#[test]
-fn behind_the_last_call_the_fresh_volume_is_left(rt: HostRuntime) -> Result<(), Fail> {
-    for pick in [Pick::AllWritten, Pick::NoneWritten, Pick::Torn] {
-        assert!(rt;
-            ends_behind(rt.alloc(), Before::Blank, &STAGES, pick)?,
-            "at {pick:?}"
-        );
-    }
     Ok(())
 }

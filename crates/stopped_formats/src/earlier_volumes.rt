@@ -63,38 +63,6 @@ fn each_call_fails_and_all_is_left(rt: HostRuntime) -> Result<(), Fail> {
 }
 
 #[test]
-fn it_stops_at_each_call_and_all_is_left(rt: HostRuntime) -> Result<(), Fail> {
-    let alloc = rt.alloc();
-    let other = other_call(alloc, Before::Volume, &STAGES, true, Pick::AllWritten)?;
-    assert_eq!(rt; other, None);
-    Ok(())
-}
-
-#[test]
-fn each_call_fails_and_what_was_flushed_is_left(rt: HostRuntime) -> Result<(), Fail> {
-    let alloc = rt.alloc();
-    let other = other_call(alloc, Before::Volume, &STAGES, false, Pick::NoneWritten)?;
-    assert_eq!(rt; other, None);
-    Ok(())
-}
-
-#[test]
-fn it_stops_at_each_call_and_what_was_flushed_is_left(rt: HostRuntime) -> Result<(), Fail> {
-    let alloc = rt.alloc();
-    let other = other_call(alloc, Before::Volume, &STAGES, true, Pick::NoneWritten)?;
-    assert_eq!(rt; other, None);
-    Ok(())
-}
-
-#[test]
-fn each_call_fails_and_blocks_are_torn(rt: HostRuntime) -> Result<(), Fail> {
-    let alloc = rt.alloc();
-    let other = other_call(alloc, Before::Volume, &STAGES, false, Pick::Torn)?;
-    assert_eq!(rt; other, None);
-    Ok(())
-}
-
-#[test]
 fn it_stops_at_each_call_and_blocks_are_torn(rt: HostRuntime) -> Result<(), Fail> {
     let alloc = rt.alloc();
     let other = other_call(alloc, Before::Volume, &STAGES, true, Pick::Torn)?;

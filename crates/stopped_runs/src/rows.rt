@@ -167,57 +167,6 @@ const NO_STOP: Stop = Stop {
     ..AT_SYNC
 };
 
-// On one device, calls 0 to 6 mount the volume and seal the session. Each record takes three: a flush, a write and a flush. A
-// write that fails leaves the block as it was. So call 19 isn't made.
-const FILES_ON_ONE: [Stop; 9] = [
-    Stop {
-        calls: &[7, 8],
-        ..AT_SYNC
-    },
-    Stop {
-        calls: &[9],
-        all: A,
-        ..AT_SYNC
-    },
-    Stop {
-        calls: &[10, 11],
-        all: A,
-        flushed: A,
-        ..AT_SYNC
-    },
-    Stop {
-        calls: &[12],
-        all: AB,
-        flushed: A,
-        ..AT_SYNC
-    },
-    Stop {
-        calls: &[13, 14],
-        all: AB,
-        flushed: AB,
-        ..AT_SYNC
-    },
-    Stop {
-        calls: &[15],
-        all: ABC,
-        flushed: AB,
-        ..AT_SYNC
-    },
-    Stop {
-        calls: &[16, 17],
-        ..AT_END
-    },
-    Stop {
-        calls: &[18],
-        all: ABCD,
-        ..AT_END
-    },
-    Stop {
-        calls: &[19],
-        ..NO_STOP
-    },
-];
-
 // On two devices, calls 0 to 13 mount the volume and seal the session. Each record takes six: both devices are flushed, both
 // are written, and both are flushed. A record is found where one of them has it. So call 38 isn't made.
 const FILES_ON_TWO: [Stop; 21] = [
@@ -336,58 +285,10 @@ const FILES_ON_TWO: [Stop; 21] = [
 ];
 
 #[test]
-fn a_stop_leaves_what_was_acknowledged(rt: HostRuntime) -> Result<(), Fail> {
-    for pick in PICKS {
-        let other = other_stop(rt.alloc(), FILES, 1, &FILES_ON_ONE, pick)?;
-        assert_eq!(rt; other, None, "at {pick:?}");
-    }
-    Ok(())
-}
-
-#[test]
 fn a_stop_of_two_devices_leaves_what_was_acknowledged(rt: HostRuntime) -> Result<(), Fail> {
     for pick in PICKS {
         let other = other_stop(rt.alloc(), FILES, 2, &FILES_ON_TWO, pick)?;
         assert_eq!(rt; other, None, "at {pick:?}");
-    }
-    Ok(())
-}
-
-// Whether a run that stops at this call while it mounts the volume or seals the session ends before its first line, and the
-// next one finds no file.
-fn stops_before_its_lines(
-    alloc: Global,
-    count: u8,
-    call: u64,
-    stays: bool,
-    pick: Pick,
-) -> Result<bool, AllocError> {
-    let ran = run(alloc, FILES, failing(alloc, count, call, stays)?)?;
-    if ran.status != 6 || ran.trace.len() != 0 || !has_acks(&ran, &[]) {
-        return Ok(false);
-    }
-    finds(alloc, ran.devices.restart(pick)?, NONE)
-}
-
-// Calls 0 to 6 of one device, and 0 to 13 of two.
-#[test]
-fn a_stop_before_the_first_line_leaves_no_file(rt: HostRuntime) -> Result<(), Fail> {
-    let alloc = rt.alloc();
-    for pick in PICKS {
-        for stays in [true, false] {
-            for call in 0..7u64 {
-                assert!(rt;
-                    stops_before_its_lines(alloc, 1, call, stays, pick)?,
-                    "one device, at {call}"
-                );
-            }
-            for call in 0..14u64 {
-                assert!(rt;
-                    stops_before_its_lines(alloc, 2, call, stays, pick)?,
-                    "two devices, at {call}"
-                );
-            }
-        }
     }
     Ok(())
 }

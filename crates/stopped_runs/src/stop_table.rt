@@ -273,12 +273,6 @@ fn other_call(alloc: Global, pick: Pick) -> Result<Option<u64>, AllocError> {
 }
 
 #[test]
-fn each_call_fails_and_all_is_left(rt: HostRuntime) -> Result<(), Fail> {
-    assert_eq!(rt; other_call(rt.alloc(), Pick::AllWritten)?, None);
-    Ok(())
-}
-
-#[test]
 fn each_call_fails_and_what_was_flushed_is_left(rt: HostRuntime) -> Result<(), Fail> {
     assert_eq!(rt; other_call(rt.alloc(), Pick::NoneWritten)?, None);
     Ok(())

@@ -84,6 +84,6 @@ gives_none keys = record { each = All-nil (IsLook keys) }
 pub gives_joined : (keys : KeyMap) (first second : List Look) → GivesLooks keys first → GivesLooks keys second → GivesLooks keys (first ++ second)
 gives_joined keys first second some others = record { each = All-append (IsLook keys) first second some.each others.each }
 
--- A key map that gives some looks and a further one gives them with it behind.
+-- A key map that gives some looks and a further one gives them with it at the end.
 pub gives_more : (keys : KeyMap) (looks : List Look) (look : Look) → GivesLooks keys looks → IsLook keys look → GivesLooks keys (looks ++ look ∷ [])
 gives_more keys looks look gives is = gives_joined keys looks (look ∷ []) gives (record { each = All-cons (IsLook keys) look [] is (All-nil (IsLook keys)) })

@@ -26,8 +26,8 @@ range_test low high n is = and (nat_le low n) (nat_le n high) (le-leb low n is.0
 device_size : (journal blocks : ℕ) → is_device_size journal blocks ≡ true → IsDeviceSize journal blocks
 device_size journal blocks is =
     let last = both _ _ is in
-    let front = both _ _ last.0 in
-    record { blocks_range = range 1024 1048576 blocks front.0; whole_buckets = eqb-true (blocks % bucket_blocks) 0 front.1; half = leb-true (2 * (journal + bucket_blocks)) blocks last.1 }
+    let first = both _ _ last.0 in
+    record { blocks_range = range 1024 1048576 blocks first.0; whole_buckets = eqb-true (blocks % bucket_blocks) 0 first.1; half = leb-true (2 * (journal + bucket_blocks)) blocks last.1 }
 
 size_test : (journal blocks : ℕ) → IsDeviceSize journal blocks → is_device_size journal blocks ≡ true
 size_test journal blocks is =

@@ -4,6 +4,7 @@ pub mod KeyMapLaws
 pub mod KeyMaps
 pub mod LayoutLaws
 pub mod Layouts
+pub mod LengthLaws
 pub mod Lengths
 pub mod Limits
 pub mod MapLaws

@@ -40,10 +40,10 @@ module _ {K X : Type 0} {cmp : K → K → Ordering} (total : IsTotalOrder cmp) 
       replaced true false same = ap (λ b. cond b (Some value) (cond true (Some e.1) (value_at cmp q es))) same
       replaced false true same = ap (λ b. cond b (Some value) (value_at cmp q es)) same
 
-      behind : (r : Ordering) → cmp q key ≡ r → cmp key e.0 ≡ Greater → cond (is_at (cmp q) e.0) (Some e.1) (cond (is_eq r) (Some value) (value_at cmp q es)) ≡ cond (is_eq r) (Some value) (cond (is_at (cmp q) e.0) (Some e.1) (value_at cmp q es))
-      behind Less is after = refl
-      behind Equal is after = ap (λ o. cond (is_eq o) (Some e.1) (Some value)) (total.congr q key e.0 is ∙ after)
-      behind Greater is after = refl
+      later_entry : (r : Ordering) → cmp q key ≡ r → cmp key e.0 ≡ Greater → cond (is_at (cmp q) e.0) (Some e.1) (cond (is_eq r) (Some value) (value_at cmp q es)) ≡ cond (is_eq r) (Some value) (cond (is_at (cmp q) e.0) (Some e.1) (value_at cmp q es))
+      later_entry Less is after = refl
+      later_entry Equal is after = ap (λ o. cond (is_eq o) (Some e.1) (Some value)) (total.congr q key e.0 is ∙ after)
+      later_entry Greater is after = refl
 
       by : (r : Ordering) → cmp key e.0 ≡ r → value_at cmp q (with_value cmp key value es) ≡ cond (is_at (cmp key) q) (Some value) (value_at cmp q es)
           → value_at cmp q (match_ordering r ((key, value) ∷ e ∷ es) ((e.0, value) ∷ es) (e ∷ with_value cmp key value es)) ≡ cond (is_at (cmp key) q) (Some value) (cond (is_at (cmp q) e.0) (Some e.1) (value_at cmp q es))
@@ -51,7 +51,7 @@ module _ {K X : Type 0} {cmp : K → K → Ordering} (total : IsTotalOrder cmp) 
       by Equal is later = replaced (is_at (cmp q) e.0) (is_at (cmp key) q) (sym (ap is_eq (alike_right total key e.0 q is)) ∙ same_turned total key q)
       by Greater is later =
           ap (cond (is_at (cmp q) e.0) (Some e.1)) (later ∙ ap (λ b. cond b (Some value) (value_at cmp q es)) (sym (same_turned total key q)))
-          ∙ behind (cmp q key) refl is
+          ∙ later_entry (cmp q key) refl is
           ∙ ap (λ b. cond b (Some value) (cond (is_at (cmp q) e.0) (Some e.1) (value_at cmp q es))) (same_turned total key q)
 
   -- After a key was removed, nothing is there, and all else is as it was.

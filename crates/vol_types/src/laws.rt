@@ -1,4 +1,4 @@
-ghost use Rattle.std.specs.Prelude.{◌≡◌, ◌↔◌, ◌++◌, ◌&&◌, List, Option, Some, None, All, MatchOption, if◌then◌else◌, true};
+ghost use Rattle.std.specs.Prelude.{◌≡◌, ◌≤◌, ◌↔◌, ◌++◌, ◌&&◌, List, Option, Some, None, All, MatchOption, if◌then◌else◌, true};
 ghost use Rattle.std.specs.BTreeMap.{is_at};
 ghost use Rattle.std.specs.Cmp.{IsTotalOrder};
 ghost use Rattle.std.specs.List.Sorted.{IsStrictlySortedBy};
@@ -7,17 +7,19 @@ ghost use Rattle.std.specs.Ordering.{nat_cmp};
 ghost use Rattle.std.specs.declared.cmp.Ordering.TheVariants.{Equal};
 ghost use Rattle.vol_types.specs.KeyMaps.{KeyMap, IsKeyMap, GivesLooks, entries_of, is_update_of, updated_entries, value_in, with_update, with_updates};
 ghost use Rattle.vol_types.specs.Layouts.{IsLayout, is_layout};
+ghost use Rattle.vol_types.specs.Lengths.{key_length_of};
 ghost use Rattle.vol_types.specs.Limits.{block_size, bucket_blocks, node_limit};
 ghost use Rattle.vol_types.specs.MapLaws.{AreApart};
 ghost use Rattle.vol_types.specs.Maps.{IsMap, put_at, value_at, with_value, without};
 ghost use Rattle.vol_types.specs.Positions.{IsNext, IsWithin, greatest_pos, is_within, least_pos, next_pos, pos_cmp, pos_number};
-ghost use Rattle.vol_types.specs.Ranges.{Rise};
+ghost use Rattle.vol_types.specs.Ranges.{IsKeyValue, Rise};
 ghost use Rattle.vol_types.specs.Widths.{PosFits};
 ghost use Rattle.vol_types.specs.declared.keys.Update.{Update as AnUpdate};
 ghost use Rattle.vol_types.specs.declared.layout.Layout.{Layout as ALayout};
 ghost use Rattle.vol_types.specs.declared.positions.Btree.{Btree as ABtree};
 ghost use Rattle.vol_types.specs.declared.positions.Pos.{Pos as APos};
 ghost use Rattle.vol_types.specs.declared.queries.Look.{Look as ALook};
+ghost use Rattle.vol_types.specs.declared.values.Value.{Value as AValue};
 
 use crate::{BLOCK_SIZE, BUCKET_BLOCKS, NODE_LIMIT, Pos};
 
@@ -68,4 +70,9 @@ pub fn key_maps_are_updated()
 /// The test of layouts passes exactly those that a volume may have.
 pub fn layouts_are_tested()
     ensures { (layout : ALayout) → (is_layout layout ≡ true) ↔ IsLayout layout }
+{}
+
+/// No key takes more than 2,221 bytes.
+pub fn keys_are_short()
+    ensures { (value : Option AValue) → IsKeyValue value → key_length_of value ≤ 2221 }
 {}

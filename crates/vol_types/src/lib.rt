@@ -21,8 +21,8 @@ mod values;
 pub use failure::Failed;
 pub use keys::{Key, Update, key_length};
 pub use laws::{
-    constants_are_defined, key_maps_are_updated, layouts_are_tested, maps_are_functions,
-    positions_are_ordered, rising_lists_are_sorted,
+    constants_are_defined, key_maps_are_updated, keys_are_short, layouts_are_tested,
+    maps_are_functions, positions_are_ordered, rising_lists_are_sorted,
 };
 pub use layout::{Layout, Lost};
 pub use limits::{BLOCK_SIZE, BUCKET_BLOCKS, NODE_LIMIT};

@@ -46,7 +46,7 @@ impl Duplicate for NodePtr {
     }
 }
 
-/// Up to where a node's bucket is written: the node's birth, and the first block behind its last set.
+/// Up to where a node's bucket is written: the node's birth, and the first block after its last set.
 #[derive(Clone, Copy, Debug, PartialEq, Eq)]
 pub struct NodeEnd {
     pub birth: u64,

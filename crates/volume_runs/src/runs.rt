@@ -1,6 +1,6 @@
 use dev_model::{MemDevices, NoGate};
 use plain_forest::{Cause, Op, Reply, Trace};
-use record_log::Acks;
+use session_history::Acks;
 use shell::{Ended, run_words};
 use std::alloc::{AllocError, Global};
 use std::rc::RcStr;

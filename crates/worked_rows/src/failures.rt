@@ -31,16 +31,6 @@ fn ends_so(
     )
 }
 
-// The first call gives the whole script, the second would say that it ends.
-#[test]
-fn a_source_that_fails_stops_the_run(rt: HostRuntime) -> Result<(), Fail> {
-    let alloc = rt.alloc();
-    for call in [0, 1] {
-        assert!(rt; ends_so(alloc, &[call], &[], None, (4, 0, 0), b"error 4 source\n")?);
-    }
-    Ok(())
-}
-
 // The run goes on: the volume is mounted, and the record is written and flushed.
 #[test]
 fn a_sink_that_fails_stops_no_run(rt: HostRuntime) -> Result<(), Fail> {

@@ -21,24 +21,6 @@ fn runs_nothing(alloc: Global, devices: MemDevices) -> Result<bool, AllocError> 
     )
 }
 
-// The first run's session is 2, and its block is 4. Session 1, which formatting left, stays in block 5.
-#[test]
-fn a_device_is_formatted_and_run(rt: HostRuntime) -> Result<(), Fail> {
-    let alloc = rt.alloc();
-    let formatted = do_words(alloc, ONE, MemDevices::blank(alloc, &[1024])?)?;
-    assert!(rt; has_formatted(&formatted, ONE_LINE));
-    let mut devices = formatted.devices.restart(Pick::NoneWritten)?;
-    assert_eq!(rt; session_on(alloc, &mut devices, 0, 4)?, None);
-    assert_eq!(rt; session_on(alloc, &mut devices, 0, 5)?, Some(1));
-    let ran = run(alloc, b"", devices)?;
-    assert_eq!(rt; ran.status, 0);
-    assert_eq!(rt; ran.sink.held(), b"end commits 0 synced 0\n".as_slice());
-    let mut devices = ran.devices;
-    assert_eq!(rt; session_on(alloc, &mut devices, 0, 4)?, Some(2));
-    assert_eq!(rt; session_on(alloc, &mut devices, 0, 5)?, Some(1));
-    Ok(())
-}
-
 #[test]
 fn two_devices_are_formatted_and_run(rt: HostRuntime) -> Result<(), Fail> {
     let alloc = rt.alloc();
@@ -80,66 +62,6 @@ fn the_longest_journal_is_formatted(rt: HostRuntime) -> Result<(), Fail> {
         b"formatted 00000000-0000-4000-8000-000000000001 devices 1 blocks 1024 journal 496\n".as_slice();
     assert!(rt; has_formatted(&formatted, line));
     assert!(rt; runs_nothing(alloc, formatted.devices)?);
-    Ok(())
-}
-
-// A shorter device is made as long as the volume asks for, and a longer one stays as it is. The id is printed in lower case.
-#[test]
-fn devices_of_other_lengths_are_formatted(rt: HostRuntime) -> Result<(), Fail> {
-    let alloc = rt.alloc();
-    let words = [
-        "format",
-        "--blocks=1040",
-        "--id=67E55044-10B1-426F-9247-BB680E5FE0C8",
-        "--meta-replicas=1",
-    ];
-    let line =
-        b"formatted 67e55044-10b1-426f-9247-bb680e5fe0c8 devices 3 blocks 1040 journal 256\n".as_slice();
-    for sizes in [[0, 1, 8], [9, 1039, 1040], [1041, 2000, 15]] {
-        let formatted = do_words(alloc, &words, MemDevices::blank(alloc, &sizes)?)?;
-        assert!(rt; has_formatted(&formatted, line), "at {sizes:?}");
-        let left = formatted.devices.restart(Pick::NoneWritten)?;
-        assert!(rt; runs_nothing(alloc, left)?, "at {sizes:?}");
-    }
-    Ok(())
-}
-
-#[test]
-fn eight_devices_are_formatted(rt: HostRuntime) -> Result<(), Fail> {
-    let alloc = rt.alloc();
-    let words = [
-        "format",
-        "--id",
-        ID_TEXT,
-        "--blocks",
-        "1024",
-        "--meta-replicas",
-        "3",
-        "--data-replicas",
-        "3",
-    ];
-    let blank = MemDevices::blank(alloc, &[1, 1, 1, 1, 1, 1, 1, 1])?;
-    let formatted = do_words(alloc, &words, blank)?;
-    let line =
-        b"formatted 00000000-0000-4000-8000-000000000001 devices 8 blocks 1024 journal 256\n".as_slice();
-    assert!(rt; has_formatted(&formatted, line));
-    let mut devices = formatted.devices.restart(Pick::NoneWritten)?;
-    assert_eq!(rt; session_on(alloc, &mut devices, 2, 5)?, Some(1));
-    assert_eq!(rt; session_on(alloc, &mut devices, 3, 5)?, None);
-    let first = run(alloc, b"mkfile main:/a\n", devices)?;
-    assert_eq!(rt;
-        first.sink.held(),
-        b"@0 1 ok\nend commits 1 synced 1\n".as_slice()
-    );
-    let second = run(
-        alloc,
-        b"ls main:/\n",
-        first.devices.restart(Pick::NoneWritten)?,
-    )?;
-    assert_eq!(rt;
-        second.sink.held(),
-        b"@0 1 list a\nend commits 0 synced 0\n".as_slice()
-    );
     Ok(())
 }
 

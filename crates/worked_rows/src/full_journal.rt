@@ -60,20 +60,3 @@ fn a_full_journal_takes_no_more_files(rt: HostRuntime) -> Result<(), Fail> {
     }
     Ok(())
 }
-
-// A name that is there takes no record, and so a later one still finds its own.
-#[test]
-fn a_refused_file_takes_no_record(rt: HostRuntime) -> Result<(), Fail> {
-    let alloc = rt.alloc();
-    let left = with_files(alloc, one_device(alloc)?, RECORDS - 2)?;
-    let ran = run(
-        alloc,
-        b"mkfile main:/a\nmkfile main:/a\nmkfile main:/b\nmkfile main:/c\n",
-        left,
-    )?;
-    let lines =
-        b"@0 1 ok\n@0 2 err exists\n@0 3 ok\n@0 4 err no-space need 0\nend commits 2 synced 2\n".as_slice();
-    assert!(rt; has_printed(&ran, lines));
-    assert_eq!(rt; ran.trace.len(), 5);
-    Ok(())
-}

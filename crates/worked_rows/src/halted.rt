@@ -54,19 +54,6 @@ fn a_halted_session_refuses_and_lists(rt: HostRuntime) -> Result<(), Fail> {
     Ok(())
 }
 
-// On two devices mounting makes 14 calls, and each record 6: to device 0 and device 1 by turns.
-#[test]
-fn the_device_that_failed_is_told(rt: HostRuntime) -> Result<(), Fail> {
-    let alloc = rt.alloc();
-    for call in [20, 22, 24] {
-        assert!(rt; halts(alloc, two_devices(alloc)?, call, 0)?, "at {call}");
-    }
-    for call in [21, 23, 25] {
-        assert!(rt; halts(alloc, two_devices(alloc)?, call, 1)?, "at {call}");
-    }
-    Ok(())
-}
-
 // Calls 0 to 3 read the superblocks, 4 to 7 the sessions, 8 and 9 the first record, and 10 to 13 write and flush the new
 // session. A run whose devices fail there ends, and says which it was. A record that one device can't give is read from
 // the other, so that only a log that ends there can't be read.

@@ -1,7 +1,7 @@
 use dev_model::{MemDevices, Pick};
 use std::alloc::{AllocError, Global};
 use std::test::Fail;
-use volume_runs::{fail, run, two_devices, wipe};
+use volume_runs::{run, two_devices, wipe};
 
 // What a run of this script prints on two devices without files.
 const SCRIPT: &[u8] = b"mkfile main:/a\nmkfile main:/b\nsync\nmkfile main:/c\n";
@@ -48,33 +48,6 @@ fn each_record_may_be_on_another_mirror(rt: HostRuntime) -> Result<(), Fail> {
         assert!(rt; wipe(alloc, &mut devices, 1, second, second)?);
         let left = devices.restart(Pick::AllWritten)?;
         assert!(rt; are_found(alloc, left)?, "without {first} and {second}");
-    }
-    Ok(())
-}
-
-// Where no mirror has a record, the log ends before it.
-#[test]
-fn a_record_that_no_mirror_has_ends_the_log(rt: HostRuntime) -> Result<(), Fail> {
-    let alloc = rt.alloc();
-    let mut devices = with_files(alloc)?;
-    assert!(rt; wipe(alloc, &mut devices, 0, 17, 17)?);
-    assert!(rt; wipe(alloc, &mut devices, 1, 17, 17)?);
-    let ran = run(alloc, b"ls main:/\n", devices.restart(Pick::AllWritten)?)?;
-    assert_eq!(rt;
-        ran.sink.held(),
-        b"@0 1 list a\nend commits 0 synced 0\n".as_slice()
-    );
-    Ok(())
-}
-
-// A record that can't be read on one device is read on the other. Calls 8 to 10 read the three records on device 0.
-#[test]
-fn a_mirror_that_is_not_read_is_no_failure(rt: HostRuntime) -> Result<(), Fail> {
-    let alloc = rt.alloc();
-    for call in [8, 9, 10] {
-        let mut devices = with_files(alloc)?;
-        fail(&mut devices, call, false)?;
-        assert!(rt; are_found(alloc, devices)?, "at {call}");
     }
     Ok(())
 }

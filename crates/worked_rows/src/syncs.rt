@@ -1,6 +1,6 @@
 use std::alloc::{AllocError, Global};
 use std::test::Fail;
-use volume_runs::{Ran, fail, has_acks, letters, one_device, run};
+use volume_runs::{Ran, has_acks, letters, one_device, run};
 
 // Whether the run ended so: its status, what it printed, its history as two letters for each entry, the commits of its
 // acknowledgements, and how many calls of the device there were.
@@ -54,25 +54,5 @@ fn each_sync_is_acknowledged(rt: HostRuntime) -> Result<(), Fail> {
     let lines =
         b"@0 1 err exists\n@0 2 ok\n@0 3 ok 1\n@0 4 list a b c\nend commits 1 synced 1\n".as_slice();
     assert!(rt; has_ended(alloc, &second, 0, lines, b"memks1l3s1", &[1, 1], 12)?);
-    Ok(())
-}
-
-// A name of 256 bytes is a bad path, behind a sync that failed too; one of 255 bytes is none.
-#[test]
-fn a_halted_session_refuses_bad_names(rt: HostRuntime) -> Result<(), Fail> {
-    let alloc = rt.alloc();
-    let name = vec![in alloc; b'a'; 256]?;
-    let mut script = Vec::new(alloc);
-    script.extend_from_slice(b"mkfile main:/b\nsync\nmkfile main:/")?;
-    script.extend_from_slice(&name)?;
-    script.extend_from_slice(b"\nmkfile main:/")?;
-    script.extend_from_slice(&name[..255])?;
-    script.extend_from_slice(b"\n")?;
-    let mut devices = one_device(alloc)?;
-    fail(&mut devices, 9, false)?;
-    let ran = run(alloc, &script, devices)?;
-    let lines =
-        b"@0 1 ok\n@0 2 err device 0\n@0 3 err bad-path\n@0 4 err halted 0\nend commits 1 synced 0\n".as_slice();
-    assert!(rt; has_ended(alloc, &ran, 6, lines, b"mksdmbmhsh", &[], 10)?);
     Ok(())
 }
