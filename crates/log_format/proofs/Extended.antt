@@ -108,7 +108,7 @@ left_by_extend (disk ∷ disks) (suc dev) some size are le longer (left ∷ imag
 -- An extension touches the new blocks.
 touches_by_extend : {T E : Type 0} (result : Result T E) (dev size : ℕ) (old new : DevicesState) → All IsDisk (now old) → get_or (sizes_of (now old)) dev 0 ≤ size
     → ChangesDisks result (MayBeExtended dev size (now old)) (Is (changed dev (extended size) (now old))) old new → Touches (on_device dev (extension (get_or (sizes_of (now old)) dev 0) size)) old new
-touches_by_extend result dev size old new are longer goes = goes_on result (λ _ image. LeavesBut writes (now old) image) _ _ old old new (touches_none writes old) goes
+touches_by_extend result dev size old new are longer goes = goes_on result (λ _ _ image. LeavesBut writes (now old) image) _ _ old old new (touches_none writes old) goes
     (λ m disks image (some : (some : ℕ) × (some ≤ size) × (disks ≡ changed dev (extended some) (now old))) may. here some.0 disks image some.1 some.2 may)
     (λ m disks image is may. here size disks image (omega arith) is may)
   where

@@ -1,18 +1,39 @@
--- What holds of the fault of a call holds of a result that hands it on.
-use Rattle.std.proofs.Common.{◌≡◌, ℕ, Result, Ok, Err, ap, ◌∙◌, sym}
+-- What a result that hands on the fault of a call says of the devices.
+use Rattle.std.proofs.Common.{◌≡◌, ◌<◌, ℕ, Option, None, Some, Result, Ok, Err, inl, inr, ap, sym, subst, arith}
+use Rattle.std.specs.Prelude.{IfSome}
 use Rattle.std.specs.Result.{IsErrAnd}
+use Rattle.dev_model.specs.Devices.{FaultCounts}
+use Rattle.dev_model.specs.Frames.{AreAfterCalls, after_reads, after_writes}
 use Rattle.geometry.specs.declared.fault.DiskFault.{DiskFault}
-use Rattle.geometry.specs.declared.fault.DiskFault.TheVariants.{DeviceFault}
+use Rattle.geometry.specs.Faults.{failed_device, fault_device}
 
-fault_or : {T : Type 0} → DiskFault → Result T DiskFault → DiskFault
-fault_or other (Ok x) = other
-fault_or other (Err e) = e
+-- It names the device that the fault names.
+pub handed_device : {T : Type 0} (result : Result T DiskFault) (error : DiskFault) → IsErrAnd result (λ e. e ≡ error) → failed_device result ≡ fault_device error
+handed_device (Ok value) error is = absurd is
+handed_device (Err e) error is = ap fault_device is
 
-same_fault : {T : Type 0} (one other : DiskFault) → ◌≡◌ {A = Result T DiskFault} (Err one) (Err other) → one ≡ other
-unfolding fault_or
-same_fault one other is = ap (fault_or one) is
+-- Reads are calls,
+pub calls_by_reads : (device : Option ℕ) (old new : FaultCounts) → new ≡ after_reads device old → AreAfterCalls device old new
+calls_by_reads None old new is = is
+calls_by_reads (Some dev) old new is = inl is
 
--- What is said of a device's fault is said of the same fault in another result.
-pub handed_cause : {T : Type 0} (result : Result T DiskFault) (error : DiskFault) (P : ℕ → Type 0) → IsErrAnd result (λ e. e ≡ error) → ((dev : ℕ) → error ≡ DeviceFault dev → P dev) → (dev : ℕ) → result ≡ Err (DeviceFault dev) → P dev
-handed_cause (Ok value) error P is holds dev same = absurd is
-handed_cause (Err e) error P is holds dev same = holds dev (sym is ∙ same_fault e (DeviceFault dev) same)
+-- and so are writes,
+pub calls_by_writes : (device : Option ℕ) (old new : FaultCounts) → new ≡ after_writes device old → AreAfterCalls device old new
+calls_by_writes None old new is = is
+calls_by_writes (Some dev) old new is = inr is
+
+-- where calls that succeeded came before.
+pub calls_then : (device : Option ℕ) (old mid new : FaultCounts) → mid ≡ old → AreAfterCalls device mid new → AreAfterCalls device old new
+calls_then device old mid new same calls = subst (λ (f : FaultCounts). AreAfterCalls device f new) same calls
+
+-- What is said of the device that the fault names is said of the one that the result names.
+pub handed_calls : {T : Type 0} (result : Result T DiskFault) (error : DiskFault) (old new : FaultCounts) → IsErrAnd result (λ e. e ≡ error) → AreAfterCalls (fault_device error) old new → AreAfterCalls (failed_device result) old new
+handed_calls result error old new is calls = subst (λ (dev : Option ℕ). AreAfterCalls dev old new) (sym (handed_device result error is)) calls
+
+pub handed_named : {T : Type 0} (result : Result T DiskFault) (error : DiskFault) (P : ℕ → Type 0) → IsErrAnd result (λ e. e ≡ error) → IfSome (fault_device error) P → IfSome (failed_device result) P
+handed_named result error P is holds = subst (λ (dev : Option ℕ). IfSome dev P) (sym (handed_device result error is)) holds
+
+-- The named device is one of so many where it is one of them.
+pub named_below : (device : Option ℕ) (dev count : ℕ) → dev < count → IfSome device (λ failed. failed ≡ dev) → IfSome device (λ failed. failed < count)
+named_below None dev count below is = tt
+named_below (Some failed) dev count below is = omega (arith, below, is)

@@ -8,8 +8,9 @@ use Rattle.dev_model.specs.Disk.{Disk, Image, IsDisk, IsCrashImage, as_read, blo
 use Rattle.dev_model.specs.Devices.{DevicesState, now}
 use Rattle.dev_model.specs.CrashLaws.{as_read_may_be_left}
 use Rattle.dev_model.specs.Crashes.{IsQuiet, EachCrash}
-use Rattle.dev_model.specs.FrameLaws.{DisksStay, stays_now}
-use Rattle.log_format.specs.Formatting.{Step, ZeroSpares, held_behind, or_held, step_writes, steps_before}
+use Rattle.dev_model.specs.Frames.{DisksStay}
+use Rattle.dev_model.specs.FrameLaws.{stay_now}
+use Rattle.log_format.specs.Formatting.{Step, ZeroSpares, held_after, or_held, step_writes, steps_before}
 use Rattle.log_format.specs.Steps.{AllSettled, Formats, IsOfSome, IsStep, LeavesBut, LeavesSteps, Reached}
 
 -- There are as many devices as disks.
@@ -49,9 +50,9 @@ pub reached_reading : (layout : Layout) (step : Step) (old mid new : DevicesStat
 reached_reading layout step old mid new reached stays = record {
   leaves = both_parts (λ image. IsQuiet (now old) → IsOfSome layout (as_read (now old)) image) old mid new reached.leaves stays.later stays.past
       (λ m lo hi image may. reached.leaves.each mid.moment reached.leaves.later (omega arith) image (subst (λ ds. IsCrashImage ds image) (stays.same m lo hi) may));
-  held = λ d b. ap (λ (ds : List Disk). block_at (as_read ds) d b) (stays_now mid new stays) ∙ reached.held d b;
-  settled = λ quiet. subst AllSettled (sym (stays_now mid new stays)) (reached.settled quiet);
-  count = ap (λ (ds : List Disk). length ds) (stays_now mid new stays) ∙ reached.count;
+  held = λ d b. ap (λ (ds : List Disk). block_at (as_read ds) d b) (stay_now mid new stays) ∙ reached.held d b;
+  settled = λ quiet. subst AllSettled (sym (stay_now mid new stays)) (reached.settled quiet);
+  count = ap (λ (ds : List Disk). length ds) (stay_now mid new stays) ∙ reached.count;
 }
 
 not_some : (bytes : Option (List ℕ)) → bytes ≡ None → ¬ IsSome bytes
@@ -90,7 +91,7 @@ step_taken (Ok x) layout step next writes old mid new are follows reached same t
           taken.writes_so.reads d b
           ∙ ap (λ bytes. or_held bytes (block_at (as_read (now mid)) d b)) (same d b)
           ∙ ap (or_held (step_writes layout (as_read (now old)) step d b)) (reached.held d b)
-          ∙ sym (ap (λ steps. held_behind layout (as_read (now old)) steps d b) follows);
+          ∙ sym (ap (λ steps. held_after layout (as_read (now old)) steps d b) follows);
       settled = λ quiet. taken.settled;
       count = sym (read_count (now new)) ∙ (taken.writes_so.touches.each new.moment taken.writes_so.touches.later (omega arith) (as_read (now new)) (left_is_read (now new) are)).count ∙ reached.count;
     },

@@ -3,7 +3,7 @@ use Rattle.std.proofs.Common.{◌≡◌, ℕ, zero, suc, ◌+◌, ◌<◌, ◌�
 use Rattle.std.specs.Prelude.{OnOk, IsErr, nat_lt, ◌==◌}
 use Rattle.std.specs.Option.{IsSome, is_some}
 use Rattle.std.proofs.lemmas.Bool.{cases_Bool, cases_eq, cases_lt, eq-eqb, ne_eqb, lt-ltb, le-ltb, false≢true}
-use Rattle.dev_model.specs.Disk.{Disk, Image, IsDisk, IsBlock, IsCrashImage, as_read, block_at, changed, sizes_of, written}
+use Rattle.dev_model.specs.Disk.{Disk, Image, IsDisk, IsBlock, IsCrashImage, after_write, as_read, block_at, changed, sizes_of, written}
 use Rattle.dev_model.specs.Devices.{DevicesState, ChangesDisks, Is, MayBeWritten, now}
 use Rattle.dev_model.specs.Crashes.{EachCrash, IsAt}
 use Rattle.dev_model.specs.CrashLaws.{started, goes_on}
@@ -203,11 +203,11 @@ at_or_none device place bytes dev block = ⊎_elim
 is_written_at : (device place : ℕ) (bytes : List ℕ) (dev block : ℕ) → IsAt device place dev block → IsSome (on_device device (in_block place (Some bytes)) dev block)
 is_written_at device place bytes dev block at = rw (eq-eqb dev device at.0, eq-eqb block place at.1) refl
 
-leaves_written : (disks : List Disk) (device place : ℕ) (bytes any : List ℕ) → All IsDisk disks → (new : List Disk) (image : Image) → new ≡ changed device (written place any) disks → IsCrashImage new image → LeavesBut (on_device device (in_block place (Some bytes))) disks image
+leaves_written : (disks : List Disk) (device place : ℕ) (bytes any : List ℕ) → All IsDisk disks → (new : List Disk) (image : Image) → new ≡ changed device (after_write place bytes any) disks → IsCrashImage new image → LeavesBut (on_device device (in_block place (Some bytes))) disks image
 leaves_written disks device place bytes any are new image is may =
-    let before = left_by_write disks device place any are image (subst (λ ds. IsCrashImage ds image) is may) in
+    let before = left_by_write disks device place bytes any are image (subst (λ ds. IsCrashImage ds image) is may) in
     record {
-      count = left_count new image may ∙ ap (λ (ds : List Disk). length ds) is ∙ changed_count device (written place any) disks;
+      count = left_count new image may ∙ ap (λ (ds : List Disk). length ds) is ∙ changed_count device (after_write place bytes any) disks;
       but = (before.0, before.1, λ d b elsewhere. before.2 d b (λ at. elsewhere (is_written_at device place bytes d b at)));
     }
 
@@ -216,9 +216,9 @@ leaves_as_before writes disks new image is may = leaves_itself writes disks imag
 
 -- A write touches its place.
 pub touches_by_write : {T E : Type 0} (result : Result T E) (device place : ℕ) (bytes : List ℕ) (old new : DevicesState) → All IsDisk (now old)
-    → ChangesDisks result (MayBeWritten device place (now old)) (Is (changed device (written place bytes) (now old))) old new → Touches (on_device device (in_block place (Some bytes))) old new
-touches_by_write result device place bytes old new are goes = goes_on result (λ _ image. LeavesBut writes (now old) image) _ _ old old new (touches_none writes old) goes
-    (λ m disks image maybe may. ⊎_elim (λ same. leaves_as_before writes (now old) disks image same may) (λ (spoilt : (any : List ℕ) × IsBlock any × (disks ≡ changed device (written place any) (now old))). leaves_written (now old) device place bytes spoilt.0 are disks image spoilt.2 may) maybe)
+    → ChangesDisks result (MayBeWritten device place bytes (now old)) (Is (changed device (written place bytes) (now old))) old new → Touches (on_device device (in_block place (Some bytes))) old new
+touches_by_write result device place bytes old new are goes = goes_on result (λ _ _ image. LeavesBut writes (now old) image) _ _ old old new (touches_none writes old) goes
+    (λ m disks image maybe may. ⊎_elim (λ same. leaves_as_before writes (now old) disks image same may) (λ (spoilt : (any : List ℕ) × IsBlock any × (disks ≡ changed device (after_write place bytes any) (now old))). leaves_written (now old) device place bytes spoilt.0 are disks image spoilt.2 may) maybe)
     (λ m disks image is may. leaves_written (now old) device place bytes bytes are disks image is may)
   where
     writes : ℕ → ℕ → Option (List ℕ)
@@ -238,7 +238,7 @@ reads_by_write device place bytes old new within is dev block = ap (λ (ds : Lis
 
 -- A write writes its bytes at its place.
 pub writes_by_write : {T E : Type 0} (result : Result T E) (device place : ℕ) (bytes : List ℕ) (old new : DevicesState) → All IsDisk (now old) → place < get_or (sizes_of (now old)) device 0
-    → ChangesDisks result (MayBeWritten device place (now old)) (Is (changed device (written place bytes) (now old))) old new → Writes result (on_device device (in_block place (Some bytes))) old new
+    → ChangesDisks result (MayBeWritten device place bytes (now old)) (Is (changed device (written place bytes) (now old))) old new → Writes result (on_device device (in_block place (Some bytes))) old new
 writes_by_write (Err e) device place bytes old new are within goes = record { touches = touches_by_write (Err e) device place bytes old new are goes; reads = tt }
 writes_by_write (Ok x) device place bytes old new are within goes = record { touches = touches_by_write (Ok x) device place bytes old new are goes; reads = reads_by_write device place bytes old new within goes.after }
 

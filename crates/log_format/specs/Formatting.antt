@@ -77,13 +77,13 @@ steps_before Seal = Prepare ∷ Extend ∷ ZeroOthers ∷ ZeroSpares ∷ []
 steps_before Done = Seal ∷ Prepare ∷ Extend ∷ ZeroOthers ∷ ZeroSpares ∷ []
 
 -- what a place holds behind steps, the last of them first: what the last that wrote there wrote, or what was there before
-abbrev pub held_behind : Layout → Image → List Step → ℕ → ℕ → Option (List ℕ)
-held_behind layout before [] dev block = block_at before dev block
-held_behind layout before (step ∷ steps) dev block = or_held (step_writes layout before step dev block) (held_behind layout before steps dev block)
+abbrev pub held_after : Layout → Image → List Step → ℕ → ℕ → Option (List ℕ)
+held_after layout before [] dev block = block_at before dev block
+held_after layout before (step ∷ steps) dev block = or_held (step_writes layout before step dev block) (held_after layout before steps dev block)
 
 -- what a place holds when a step begins
 abbrev pub held_before : Layout → Image → Step → ℕ → ℕ → Option (List ℕ)
-held_before layout before step dev block = held_behind layout before (steps_before step) dev block
+held_before layout before step dev block = held_after layout before (steps_before step) dev block
 
 -- The image is of a step: where the step doesn't write, each place holds what the steps before it left.
 pub record IsOfStep (layout : Layout) (before : Image) (step : Step) (image : Image) : Type 0 where

@@ -1,8 +1,8 @@
-ghost use Rattle.std.specs.Prelude.{◌≡◌, ◌<◌, ◌≤◌, ◌-◌, ℕ, true, Some, Err, length, slice_index, IfOk};
-ghost use Rattle.vol_types.specs.Faults.{RoseBy};
+ghost use Rattle.std.specs.Prelude.{◌≡◌, ◌<◌, ◌≤◌, ◌-◌, ℕ, true, Some, length, slice_index, IfOk, IfSome};
 ghost use Rattle.dev_model.specs.Devices.{now};
 ghost use Rattle.dev_model.specs.Disk.{as_read, blocks_of, zeros};
-ghost use Rattle.dev_model.specs.Frames.{DisksStay};
+ghost use Rattle.dev_model.specs.Frames.{AreOnlyRead, after_reads};
+ghost use Rattle.geometry.specs.Faults.{failed_device};
 ghost use Rattle.geometry.specs.Layouts.{is_layout};
 ghost use Rattle.geometry.specs.Sessions.{session_block, session_named};
 ghost use Rattle.geometry.specs.Superblocks.{copy_in, super_block, super_copy};
@@ -78,12 +78,9 @@ pub(crate) fn find_spare<D: Devices>(
     requires { dev < length (D.state devices.old).sizes }
     ensures found { D.tells → IfOk result (λ block. block ≡ spare_block (blocks_of (as_read (now (D.state devices.old))) dev)) }
     ensures range { IfOk result (λ block. block ≤ 8) }
-    ensures stays { D.tells → DisksStay (D.state devices.old) (D.state devices.new) }
-    ensures cause { (failed : ℕ) → result ≡ Err (DiskFault.DeviceFault failed) → (failed ≡ dev) × RoseBy 1 (D.faults devices.old) (D.faults devices.new) }
-    ensures faults { D.faults devices.old ≤ D.faults devices.new }
-    ensures write_faults { D.write_faults devices.new ≡ D.write_faults devices.old }
-    ensures sizes { (D.state devices.new).sizes ≡ (D.state devices.old).sizes }
-    ensures moment { (D.state devices.old).moment ≤ (D.state devices.new).moment }
+    ensures read { AreOnlyRead D.tells (D.state devices.old) (D.state devices.new) }
+    ensures cause { (D.state devices.new).faults ≡ after_reads (failed_device result) (D.state devices.old).faults }
+    ensures device { IfSome (failed_device result) (λ failed. failed ≡ dev) }
 {
     match read_counting(alloc, devices, dev)? {
         None => Ok(8),
@@ -96,12 +93,9 @@ pub(crate) fn find_spares<D: Devices>(alloc: Global, devices: &mut D) -> Result<
     ensures count { IfOk result (λ spares. length spares.items ≡ length (D.state devices.old).sizes) }
     ensures found { D.tells → IfOk result (λ spares. (dev : ℕ) → dev < length (D.state devices.old).sizes → slice_index spares.items dev ≡ spare_block (blocks_of (as_read (now (D.state devices.old))) dev)) }
     ensures range { IfOk result (λ spares. (dev : ℕ) → slice_index spares.items dev ≤ 8) }
-    ensures stays { D.tells → DisksStay (D.state devices.old) (D.state devices.new) }
-    ensures cause { (dev : ℕ) → result ≡ Err (DiskFault.DeviceFault dev) → (dev < length (D.state devices.old).sizes) × RoseBy 1 (D.faults devices.old) (D.faults devices.new) }
-    ensures faults { D.faults devices.old ≤ D.faults devices.new }
-    ensures write_faults { D.write_faults devices.new ≡ D.write_faults devices.old }
-    ensures sizes { (D.state devices.new).sizes ≡ (D.state devices.old).sizes }
-    ensures moment { (D.state devices.old).moment ≤ (D.state devices.new).moment }
+    ensures read { AreOnlyRead D.tells (D.state devices.old) (D.state devices.new) }
+    ensures cause { (D.state devices.new).faults ≡ after_reads (failed_device result) (D.state devices.old).faults }
+    ensures device { IfSome (failed_device result) (λ dev. dev < length (D.state devices.old).sizes) }
 {
     let count = devices.count();
     let mut spares = Vec::new(alloc);

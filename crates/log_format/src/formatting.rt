@@ -1,9 +1,9 @@
 ghost use Rattle.dev_model.specs.Crashes.{EachCrashNow};
-ghost use Rattle.std.specs.Prelude.{◌≡◌, ◌<◌, ◌≤◌, ℕ, true, Ok, Err, OnOk, length};
-ghost use Rattle.vol_types.specs.Faults.{RoseBy};
+ghost use Rattle.std.specs.Prelude.{◌≡◌, ◌<◌, ◌≤◌, ℕ, true, Ok, IfSome, OnOk, length};
 ghost use Rattle.dev_model.specs.Devices.{DevicesState, now};
 ghost use Rattle.dev_model.specs.Disk.{as_read, sizes_of, zeros};
-ghost use Rattle.dev_model.specs.Frames.{DisksStay};
+ghost use Rattle.dev_model.specs.Frames.{AreAfterCalls, DisksStay, GoOn, after_writes};
+ghost use Rattle.geometry.specs.Faults.{failed_device};
 ghost use Rattle.geometry.specs.Layouts.{is_layout};
 ghost use Rattle.geometry.specs.Sessions.{session_block};
 ghost use Rattle.log_records.specs.Found.{mounts};
@@ -30,11 +30,9 @@ fn clear_supers<D: Devices>(
     requires spares { length spares.now ≡ length (D.state devices.old).sizes }
     requires others { length others.now ≡ length (D.state devices.old).sizes }
     ensures formats { D.tells → (start : DevicesState) → DisksStay start (D.state devices.old) → ArePlaces (as_read (now start)) spares.now others.now → Formats result layout.now Extend start (D.state devices.new) }
-    ensures cause { (dev : ℕ) → result ≡ Err (DiskFault.DeviceFault dev) → (dev < length (D.state devices.old).sizes) × RoseBy 1 (D.faults devices.old) (D.faults devices.new) }
-    ensures faults { D.faults devices.old ≤ D.faults devices.new }
-    ensures write_faults { D.write_faults devices.old ≤ D.write_faults devices.new }
-    ensures sizes { (D.state devices.new).sizes ≡ (D.state devices.old).sizes }
-    ensures moment { (D.state devices.old).moment ≤ (D.state devices.new).moment }
+    ensures goes_on { GoOn (D.state devices.old) (D.state devices.new) }
+    ensures cause { (D.state devices.new).faults ≡ after_writes (failed_device result) (D.state devices.old).faults }
+    ensures device { IfSome (failed_device result) (λ dev. dev < length (D.state devices.old).sizes) }
 {
     let _ = layout.metadata_replicas;
     write_copies(devices, spares, blank)?;
@@ -59,9 +57,8 @@ fn lay_out<D: Devices>(
     requires firsts { AreSupers layout.now 0 firsts.now }
     requires seconds { AreSupers layout.now 8 seconds.now }
     ensures formats { D.tells → (start : DevicesState) → Reached layout.now Extend start (D.state devices.old) → sizes_of (now start) ≡ (D.state devices.old).sizes → Formats result layout.now Done start (D.state devices.new) }
-    ensures cause { (dev : ℕ) → result ≡ Err (DiskFault.DeviceFault dev) → (dev < length (D.state devices.old).sizes) × RoseBy 1 (D.faults devices.old) (D.faults devices.new) }
-    ensures faults { D.faults devices.old ≤ D.faults devices.new }
-    ensures write_faults { D.write_faults devices.old ≤ D.write_faults devices.new }
+    ensures cause { AreAfterCalls (failed_device result) (D.state devices.old).faults (D.state devices.new).faults }
+    ensures device { IfSome (failed_device result) (λ dev. dev < length (D.state devices.old).sizes) }
     ensures moment { (D.state devices.old).moment ≤ (D.state devices.new).moment }
 {
     extend_devices(devices, layout)?;
@@ -72,19 +69,18 @@ fn lay_out<D: Devices>(
 /// Formats the devices: whatever they held, they hold the fresh volume with this layout afterwards. A device that is shorter
 /// than its number of blocks is made as long.
 ///
-/// It works in five steps, and every device is flushed behind each: the superblock copy of every device that doesn't count is
+/// It works in five steps, and every device is flushed after each: the superblock copy of every device that doesn't count is
 /// made a zero block, then the other copy; devices are extended; each metadata device gets zeros in its first bucket, but for
 /// the superblocks, and in the journal area, and session 1; and both superblock copies of every device are written. It costs a
 /// write for each block of the journal area of each metadata device. Memory is taken before the first write, two blocks a
-/// device and two more: where it is wanting, the devices are as they were.
+/// device and two more: out of memory, the devices are as they were.
 pub fn format<D: Devices>(alloc: Global, devices: &mut D, layout: &Layout) -> Result<(), DiskFault>
     requires layout { is_layout layout.now ≡ true }
     requires count { length layout.now.blocks ≡ length (D.state devices.old).sizes }
     ensures survives { D.tells → FormatSurvives layout.now (D.state devices.old) (D.state devices.new) }
     ensures done { D.tells → OnOk result (EachCrashNow (λ image. mounts image ≡ Ok (fresh_volume layout.now)) (D.state devices.new)) }
-    ensures cause { (dev : ℕ) → result ≡ Err (DiskFault.DeviceFault dev) → (dev < length (D.state devices.old).sizes) × RoseBy 1 (D.faults devices.old) (D.faults devices.new) }
-    ensures faults { D.faults devices.old ≤ D.faults devices.new }
-    ensures write_faults { D.write_faults devices.old ≤ D.write_faults devices.new }
+    ensures cause { AreAfterCalls (failed_device result) (D.state devices.old).faults (D.state devices.new).faults }
+    ensures device { IfSome (failed_device result) (λ dev. dev < length (D.state devices.old).sizes) }
     ensures past { D.tells → (m : ℕ) → m ≤ (D.state devices.old).moment → (D.state devices.new).disks m ≡ (D.state devices.old).disks m }
     ensures moment { (D.state devices.old).moment ≤ (D.state devices.new).moment }
 {

@@ -1,7 +1,8 @@
-ghost use Rattle.std.specs.Prelude.{◌≡◌, ◌<◌, ◌≤◌, ℕ, true, Err, length, slice_index, OnOk};
-ghost use Rattle.vol_types.specs.Faults.{RoseBy};
+ghost use Rattle.std.specs.Prelude.{◌≡◌, ◌<◌, ◌≤◌, ℕ, true, length, slice_index, IfSome, OnOk};
 ghost use Rattle.dev_model.specs.Disk.{zeros};
 ghost use Rattle.dev_model.specs.Devices.{IsPlace};
+ghost use Rattle.dev_model.specs.Frames.{AreAfterCalls, GoOn, after_writes};
+ghost use Rattle.geometry.specs.Faults.{failed_device};
 ghost use Rattle.geometry.specs.Layouts.{is_layout_of};
 ghost use Rattle.geometry.specs.Sessions.{session_block};
 ghost use Rattle.log_format.specs.Formatting.{prepared};
@@ -21,11 +22,9 @@ pub(crate) fn write_copies<D: Devices>(
     requires places { length places.now ≡ length (D.state devices.old).sizes }
     requires size { length bytes.now ≡ 4096 }
     ensures step { D.tells → IsStep result (on_first (length places.now) (λ dev. if_there (slice_index (D.state devices.old).sizes dev) (slice_index places.now dev) bytes.now)) (D.state devices.old) (D.state devices.new) }
-    ensures cause { (dev : ℕ) → result ≡ Err (DiskFault.DeviceFault dev) → (dev < length (D.state devices.old).sizes) × RoseBy 1 (D.faults devices.old) (D.faults devices.new) }
-    ensures faults { D.faults devices.old ≤ D.faults devices.new }
-    ensures write_faults { D.write_faults devices.old ≤ D.write_faults devices.new }
-    ensures sizes { (D.state devices.new).sizes ≡ (D.state devices.old).sizes }
-    ensures moment { (D.state devices.old).moment ≤ (D.state devices.new).moment }
+    ensures goes_on { GoOn (D.state devices.old) (D.state devices.new) }
+    ensures cause { (D.state devices.new).faults ≡ after_writes (failed_device result) (D.state devices.old).faults }
+    ensures device { IfSome (failed_device result) (λ dev. dev < length (D.state devices.old).sizes) }
 {
     let all = devices.count();
     for dev in 0..all {
@@ -38,9 +37,8 @@ pub(crate) fn write_copies<D: Devices>(
 pub(crate) fn extend_devices<D: Devices>(devices: &mut D, layout: &Layout) -> Result<(), DiskFault>
     requires count { length layout.now.blocks ≡ length (D.state devices.old).sizes }
     ensures step { D.tells → IsStep result (on_first (length layout.now.blocks) (λ dev. extension (slice_index (D.state devices.old).sizes dev) (slice_index layout.now.blocks dev))) (D.state devices.old) (D.state devices.new) }
-    ensures cause { (dev : ℕ) → result ≡ Err (DiskFault.DeviceFault dev) → (dev < length (D.state devices.old).sizes) × RoseBy 1 (D.faults devices.old) (D.faults devices.new) }
-    ensures faults { D.faults devices.old ≤ D.faults devices.new }
-    ensures write_faults { D.write_faults devices.old ≤ D.write_faults devices.new }
+    ensures cause { AreAfterCalls (failed_device result) (D.state devices.old).faults (D.state devices.new).faults }
+    ensures device { IfSome (failed_device result) (λ dev. dev < length (D.state devices.old).sizes) }
     ensures count { length (D.state devices.new).sizes ≡ length (D.state devices.old).sizes }
     ensures room { OnOk result ((dev : ℕ) → dev < length (D.state devices.old).sizes → slice_index layout.now.blocks dev ≤ slice_index (D.state devices.new).sizes dev) }
     ensures moment { (D.state devices.old).moment ≤ (D.state devices.new).moment }
@@ -66,11 +64,9 @@ pub(crate) fn prepare_devices<D: Devices>(
     requires session_size { length session.now ≡ 4096 }
     requires session { session.now ≡ session_block layout.now.id 1 }
     ensures step { D.tells → IsStep result (on_first layout.now.metadata_replicas (λ dev. prepared layout.now)) (D.state devices.old) (D.state devices.new) }
-    ensures cause { (dev : ℕ) → result ≡ Err (DiskFault.DeviceFault dev) → (dev < length (D.state devices.old).sizes) × RoseBy 1 (D.faults devices.old) (D.faults devices.new) }
-    ensures faults { D.faults devices.old ≤ D.faults devices.new }
-    ensures write_faults { D.write_faults devices.old ≤ D.write_faults devices.new }
-    ensures sizes { (D.state devices.new).sizes ≡ (D.state devices.old).sizes }
-    ensures moment { (D.state devices.old).moment ≤ (D.state devices.new).moment }
+    ensures goes_on { GoOn (D.state devices.old) (D.state devices.new) }
+    ensures cause { (D.state devices.new).faults ≡ after_writes (failed_device result) (D.state devices.old).faults }
+    ensures device { IfSome (failed_device result) (λ dev. dev < length (D.state devices.old).sizes) }
 {
     for dev in 0..layout.metadata_replicas {
         prepare_device(devices, layout, dev, blank, session)?;
@@ -90,11 +86,9 @@ pub(crate) fn seal_devices<D: Devices>(
     requires firsts { AreSupers layout.now 0 firsts.now }
     requires seconds { AreSupers layout.now 8 seconds.now }
     ensures step { D.tells → IsStep result (on_first (length layout.now.blocks) (super_copies layout.now)) (D.state devices.old) (D.state devices.new) }
-    ensures cause { (dev : ℕ) → result ≡ Err (DiskFault.DeviceFault dev) → (dev < length (D.state devices.old).sizes) × RoseBy 1 (D.faults devices.old) (D.faults devices.new) }
-    ensures faults { D.faults devices.old ≤ D.faults devices.new }
-    ensures write_faults { D.write_faults devices.old ≤ D.write_faults devices.new }
-    ensures sizes { (D.state devices.new).sizes ≡ (D.state devices.old).sizes }
-    ensures moment { (D.state devices.old).moment ≤ (D.state devices.new).moment }
+    ensures goes_on { GoOn (D.state devices.old) (D.state devices.new) }
+    ensures cause { (D.state devices.new).faults ≡ after_writes (failed_device result) (D.state devices.old).faults }
+    ensures device { IfSome (failed_device result) (λ dev. dev < length (D.state devices.old).sizes) }
 {
     let count = devices.count();
     for dev in 0..count {

@@ -1,6 +1,7 @@
-ghost use Rattle.std.specs.Prelude.{◌≡◌, ◌≢◌, ◌+◌, ◌<◌, ◌≤◌, ℕ, true, Some, Err, length, slice_index, OnOk};
-ghost use Rattle.vol_types.specs.Faults.{RoseBy};
+ghost use Rattle.std.specs.Prelude.{◌≡◌, ◌≢◌, ◌+◌, ◌<◌, ◌≤◌, ℕ, true, Some, length, slice_index, IfSome, OnOk};
 ghost use Rattle.dev_model.specs.Devices.{IsPlace};
+ghost use Rattle.dev_model.specs.Frames.{GoOn, after_reads, after_writes};
+ghost use Rattle.geometry.specs.Faults.{failed_device};
 ghost use Rattle.geometry.specs.Layouts.{is_layout_of};
 ghost use Rattle.geometry.specs.Sessions.{session_block};
 ghost use Rattle.dev_model.specs.Disk.{zeros};
@@ -21,11 +22,9 @@ pub(crate) fn write_if_there<D: Devices>(
     requires device { dev < length (D.state devices.old).sizes }
     requires size { length bytes.now ≡ 4096 }
     ensures writes { D.tells → Writes result (on_device dev (if_there (slice_index (D.state devices.old).sizes dev) place bytes.now)) (D.state devices.old) (D.state devices.new) }
-    ensures cause { (failed : ℕ) → result ≡ Err (DiskFault.DeviceFault failed) → (failed ≡ dev) × RoseBy 1 (D.faults devices.old) (D.faults devices.new) }
-    ensures faults { D.faults devices.old ≤ D.faults devices.new }
-    ensures write_faults { D.write_faults devices.old ≤ D.write_faults devices.new }
-    ensures sizes { (D.state devices.new).sizes ≡ (D.state devices.old).sizes }
-    ensures moment { (D.state devices.old).moment ≤ (D.state devices.new).moment }
+    ensures goes_on { GoOn (D.state devices.old) (D.state devices.new) }
+    ensures cause { (D.state devices.new).faults ≡ after_writes (failed_device result) (D.state devices.old).faults }
+    ensures device { IfSome (failed_device result) (λ failed. failed ≡ dev) }
 {
     if devices.blocks(dev) <= place {
         return Ok(());
@@ -41,9 +40,8 @@ pub(crate) fn extend_device<D: Devices>(
 ) -> Result<(), DiskFault>
     requires device { dev < length (D.state devices.old).sizes }
     ensures writes { D.tells → Writes result (on_device dev (extension (slice_index (D.state devices.old).sizes dev) blocks)) (D.state devices.old) (D.state devices.new) }
-    ensures cause { (failed : ℕ) → result ≡ Err (DiskFault.DeviceFault failed) → (failed ≡ dev) × RoseBy 1 (D.faults devices.old) (D.faults devices.new) }
-    ensures faults { D.faults devices.old ≤ D.faults devices.new }
-    ensures write_faults { D.write_faults devices.old ≤ D.write_faults devices.new }
+    ensures cause { (D.state devices.new).faults ≡ after_reads (failed_device result) (D.state devices.old).faults }
+    ensures device { IfSome (failed_device result) (λ failed. failed ≡ dev) }
     ensures count { length (D.state devices.new).sizes ≡ length (D.state devices.old).sizes }
     ensures room { OnOk result (blocks ≤ slice_index (D.state devices.new).sizes dev) }
     ensures others { (other : ℕ) → other ≢ dev → slice_index (D.state devices.new).sizes other ≡ slice_index (D.state devices.old).sizes other }
@@ -58,7 +56,7 @@ pub(crate) fn extend_device<D: Devices>(
     }
 }
 
-// Writes what a metadata device gets into one block behind the first: the session into block 5, zeros into others, and nothing
+// Writes what a metadata device gets into one block after the first: the session into block 5, zeros into others, and nothing
 // into block 8.
 fn prepare_block<D: Devices>(
     devices: &mut D,
@@ -77,11 +75,9 @@ fn prepare_block<D: Devices>(
     requires session_size { length session.now ≡ 4096 }
     requires session { session.now ≡ session_block layout.now.id 1 }
     ensures writes { D.tells → Writes result (on_device dev (in_block block (prepared layout.now block))) (D.state devices.old) (D.state devices.new) }
-    ensures cause { (failed : ℕ) → result ≡ Err (DiskFault.DeviceFault failed) → (failed ≡ dev) × RoseBy 1 (D.faults devices.old) (D.faults devices.new) }
-    ensures faults { D.faults devices.old ≤ D.faults devices.new }
-    ensures write_faults { D.write_faults devices.old ≤ D.write_faults devices.new }
-    ensures sizes { (D.state devices.new).sizes ≡ (D.state devices.old).sizes }
-    ensures moment { (D.state devices.old).moment ≤ (D.state devices.new).moment }
+    ensures goes_on { GoOn (D.state devices.old) (D.state devices.new) }
+    ensures cause { (D.state devices.new).faults ≡ after_writes (failed_device result) (D.state devices.old).faults }
+    ensures device { IfSome (failed_device result) (λ failed. failed ≡ dev) }
 {
     if block == 8 {
         return Ok(());
@@ -107,11 +103,9 @@ pub(crate) fn prepare_device<D: Devices>(
     requires session_size { length session.now ≡ 4096 }
     requires session { session.now ≡ session_block layout.now.id 1 }
     ensures writes { D.tells → Writes result (on_device dev (prepared layout.now)) (D.state devices.old) (D.state devices.new) }
-    ensures cause { (failed : ℕ) → result ≡ Err (DiskFault.DeviceFault failed) → (failed ≡ dev) × RoseBy 1 (D.faults devices.old) (D.faults devices.new) }
-    ensures faults { D.faults devices.old ≤ D.faults devices.new }
-    ensures write_faults { D.write_faults devices.old ≤ D.write_faults devices.new }
-    ensures sizes { (D.state devices.new).sizes ≡ (D.state devices.old).sizes }
-    ensures moment { (D.state devices.old).moment ≤ (D.state devices.new).moment }
+    ensures goes_on { GoOn (D.state devices.old) (D.state devices.new) }
+    ensures cause { (D.state devices.new).faults ≡ after_writes (failed_device result) (D.state devices.old).faults }
+    ensures device { IfSome (failed_device result) (λ failed. failed ≡ dev) }
 {
     for block in 1..16 + layout.journal {
         prepare_block(devices, layout, dev, block, blank, session)?;
@@ -132,11 +126,9 @@ pub(crate) fn seal_device<D: Devices>(
     requires first { IsSuper layout.now dev 0 first.now }
     requires second { IsSuper layout.now dev 8 second.now }
     ensures writes { D.tells → Writes result (on_device dev (super_copies layout.now dev)) (D.state devices.old) (D.state devices.new) }
-    ensures cause { (failed : ℕ) → result ≡ Err (DiskFault.DeviceFault failed) → (failed ≡ dev) × RoseBy 1 (D.faults devices.old) (D.faults devices.new) }
-    ensures faults { D.faults devices.old ≤ D.faults devices.new }
-    ensures write_faults { D.write_faults devices.old ≤ D.write_faults devices.new }
-    ensures sizes { (D.state devices.new).sizes ≡ (D.state devices.old).sizes }
-    ensures moment { (D.state devices.old).moment ≤ (D.state devices.new).moment }
+    ensures goes_on { GoOn (D.state devices.old) (D.state devices.new) }
+    ensures cause { (D.state devices.new).faults ≡ after_writes (failed_device result) (D.state devices.old).faults }
+    ensures device { IfSome (failed_device result) (λ failed. failed ≡ dev) }
 {
     let _ = layout.metadata_replicas;
     write_device(devices, dev, 0, first)?;

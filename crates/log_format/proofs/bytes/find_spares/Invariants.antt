@@ -2,7 +2,7 @@ use Rattle.std.proofs.Common.{◌≡◌, ◌<◌, ◌≤◌, ℕ, length}
 use Rattle.std.specs.Prelude.{slice_index}
 use Rattle.dev_model.specs.Devices.{now}
 use Rattle.dev_model.specs.Disk.{as_read, blocks_of}
-use Rattle.dev_model.specs.Frames.{DisksStay}
+use Rattle.dev_model.specs.Frames.{AreOnlyRead}
 use Rattle.log_format.specs.Formatting.{spare_block}
 use Rattle.log_format.proofs.bytes.find_spares.Given as goal
 
@@ -14,9 +14,6 @@ invariant-loop-dev g l =
       count : length l.spares.items ≡ l.dev;
       found : D.tells → (dev : ℕ) → dev < l.dev → slice_index l.spares.items dev ≡ spare_block (blocks_of (as_read (now (D.state first))) dev);
       range : (dev : ℕ) → slice_index l.spares.items dev ≤ 8;
-      stays : D.tells → DisksStay (D.state first) (D.state l.devices);
-      faults : D.faults first ≤ D.faults l.devices;
-      write_faults : D.write_faults l.devices ≡ D.write_faults first;
-      sizes : (D.state l.devices).sizes ≡ (D.state first).sizes;
-      moment : (D.state first).moment ≤ (D.state l.devices).moment;
+      read : AreOnlyRead D.tells (D.state first) (D.state l.devices);
+      faults : (D.state l.devices).faults ≡ (D.state first).faults;
     }

@@ -1,7 +1,7 @@
 use Rattle.std.proofs.Common.{◌≡◌, ◌∙◌, List, ℕ, length, get_or, sym, ap, refl}
 use Rattle.dev_model.specs.Disk.{Disk, as_read, blocks_of, sizes_of}
 use Rattle.dev_model.specs.Devices.{now}
-use Rattle.dev_model.specs.FrameLaws.{stays_now}
+use Rattle.dev_model.specs.FrameLaws.{stay_now}
 use Rattle.log_format.specs.Formatting.{Extend, ZeroOthers, ZeroSpares, other_block, spare_block}
 use Rattle.log_format.proofs.Stepping.{reached_first, reached_reading, read_count, step_taken}
 use Rattle.log_format.proofs.Surviving.{formats_failed, size_at, zeroing_writes}
@@ -14,7 +14,7 @@ returns-in_err-write_copies-clause-formats g c tells start stays places =
     let layout = c.args.layout.now in
     let old = D.state c.args.devices.now in
     let before = as_read (now start) in
-    let same : now old ≡ now start = stays_now start old stays in
+    let same : now old ≡ now start = stay_now start old stays in
     let agree : (D.state c.args.devices.now).sizes ≡ sizes_of (now start) = g.met.D.Devices.agree tells c.args.devices.now ∙ ap (λ (ds : List Disk). sizes_of ds) same in
     let size : (dev : ℕ) → get_or (D.state c.args.devices.now).sizes dev 0 ≡ length (blocks_of before dev) = λ dev. ap (λ (s : List ℕ). get_or s dev 0) agree ∙ size_at (now start) dev in
     let count : length (D.state c.args.devices.now).sizes ≡ length before = ap (λ (s : List ℕ). length s) agree ∙ disk_count (now start) ∙ sym (read_count (now start)) in
@@ -31,10 +31,10 @@ returns-clause-formats g c tells start stays places =
     let old = D.state c.args.devices.now in
     let mid = c.write_copies.new.devices in
     let before = as_read (now start) in
-    let same : now old ≡ now start = stays_now start old stays in
+    let same : now old ≡ now start = stay_now start old stays in
     let agree : (D.state c.args.devices.now).sizes ≡ sizes_of (now start) = g.met.D.Devices.agree tells c.args.devices.now ∙ ap (λ (ds : List Disk). sizes_of ds) same in
     let size : (dev : ℕ) → get_or (D.state c.args.devices.now).sizes dev 0 ≡ length (blocks_of before dev) = λ dev. ap (λ (s : List ℕ). get_or s dev 0) agree ∙ size_at (now start) dev in
-    let size_mid : (dev : ℕ) → get_or (D.state mid).sizes dev 0 ≡ length (blocks_of before dev) = λ dev. ap (λ (s : List ℕ). get_or s dev 0) c.write_copies.ensures.sizes ∙ size dev in
+    let size_mid : (dev : ℕ) → get_or (D.state mid).sizes dev 0 ≡ length (blocks_of before dev) = λ dev. ap (λ (s : List ℕ). get_or s dev 0) c.write_copies.ensures.goes_on.sizes ∙ size dev in
     let count : length (D.state c.args.devices.now).sizes ≡ length before = ap (λ (s : List ℕ). length s) agree ∙ disk_count (now start) ∙ sym (read_count (now start)) in
     step_taken c.write_copies-2.result layout ZeroOthers Extend _ start (D.state mid) (D.state c.write_copies-2.new.devices) (g.met.D.Devices.sound tells c.write_copies-2.new.devices) refl
     (step_taken _ layout ZeroSpares ZeroOthers _ start old (D.state mid) (g.met.D.Devices.sound tells mid) refl

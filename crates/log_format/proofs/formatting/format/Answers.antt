@@ -13,7 +13,7 @@ returns-in_err-clear_supers-clause-survives g c tells =
     let start = D.state c.args.devices.now in
     let agree : (D.state c.args.devices.now).sizes ≡ sizes_of (now start) = g.met.D.Devices.agree tells c.args.devices.now in
     let many : length (D.state c.args.devices.now).sizes ≡ length (as_read (now start)) = ap (λ (s : List ℕ). length s) agree ∙ disk_count (now start) ∙ sym (read_count (now start)) in
-    let stays = c.in_ok-spares.ensures.stays tells in
+    let stays = c.in_ok-spares.ensures.read.disks tells in
     let places = are_places (as_read (now start)) c.in_ok-spares.spares.items c.deref-2.result.now c.deref.result.now c.deref-3.result.now c.in_ok-others.others.items c.deref-2.ensures.value c.deref.ensures.value c.deref-3.ensures.value
     (c.in_ok-spares.ensures.count ∙ many) (λ dev within. c.in_ok-spares.ensures.found tells dev (omega (arith, within, many))) c.in_ok-others.ensures.others in
     let laws = laws_of layout c.in_ok-firsts.firsts.items c.in_ok-seconds.seconds.items c.in_ok-firsts.ensures.made c.in_ok-seconds.ensures.made c.in_ok-session.ensures.named in
@@ -27,7 +27,7 @@ returns-in_err-clear_supers-clause-past g c tells =
     let start = D.state c.args.devices.now in
     let agree : (D.state c.args.devices.now).sizes ≡ sizes_of (now start) = g.met.D.Devices.agree tells c.args.devices.now in
     let many : length (D.state c.args.devices.now).sizes ≡ length (as_read (now start)) = ap (λ (s : List ℕ). length s) agree ∙ disk_count (now start) ∙ sym (read_count (now start)) in
-    let stays = c.in_ok-spares.ensures.stays tells in
+    let stays = c.in_ok-spares.ensures.read.disks tells in
     let places = are_places (as_read (now start)) c.in_ok-spares.spares.items c.deref-2.result.now c.deref.result.now c.deref-3.result.now c.in_ok-others.others.items c.deref-2.ensures.value c.deref.ensures.value c.deref-3.ensures.value
     (c.in_ok-spares.ensures.count ∙ many) (λ dev within. c.in_ok-spares.ensures.found tells dev (omega (arith, within, many))) c.in_ok-others.ensures.others in
     (c.clear_supers.ensures.formats tells start stays places).leaves.past
@@ -39,13 +39,13 @@ returns-clause-survives g c tells =
     let start = D.state c.args.devices.now in
     let agree : (D.state c.args.devices.now).sizes ≡ sizes_of (now start) = g.met.D.Devices.agree tells c.args.devices.now in
     let many : length (D.state c.args.devices.now).sizes ≡ length (as_read (now start)) = ap (λ (s : List ℕ). length s) agree ∙ disk_count (now start) ∙ sym (read_count (now start)) in
-    let stays = c.in_ok-spares.ensures.stays tells in
+    let stays = c.in_ok-spares.ensures.read.disks tells in
     let places = are_places (as_read (now start)) c.in_ok-spares.spares.items c.deref-2.result.now c.deref.result.now c.deref-3.result.now c.in_ok-others.others.items c.deref-2.ensures.value c.deref.ensures.value c.deref-3.ensures.value
     (c.in_ok-spares.ensures.count ∙ many) (λ dev within. c.in_ok-spares.ensures.found tells dev (omega (arith, within, many))) c.in_ok-others.ensures.others in
     let laws = laws_of layout c.in_ok-firsts.firsts.items c.in_ok-seconds.seconds.items c.in_ok-firsts.ensures.made c.in_ok-seconds.ensures.made c.in_ok-session.ensures.named in
     let count : length layout.blocks ≡ length (as_read (now start)) = c.requires.count ∙ many in
     let cleared = (c.in_ok-clear_supers.ensures.formats tells start stays places).reached.0 in
-    let formats = c.lay_out.ensures.formats tells start cleared (sym (c.clear_supers.ensures.sizes ∙ c.find_spares.ensures.sizes ∙ agree)) in
+    let formats = c.lay_out.ensures.formats tells start cleared (sym (c.clear_supers.ensures.goes_on.sizes ∙ c.find_spares.ensures.read.sizes ∙ agree)) in
     survives_by_steps layout start (D.state c.lay_out.new.devices) c.requires.layout count laws formats.leaves
 
 pub returns-clause-done : goal.returns-clause-done
@@ -55,13 +55,13 @@ returns-clause-done g c tells =
     let start = D.state c.args.devices.now in
     let agree : (D.state c.args.devices.now).sizes ≡ sizes_of (now start) = g.met.D.Devices.agree tells c.args.devices.now in
     let many : length (D.state c.args.devices.now).sizes ≡ length (as_read (now start)) = ap (λ (s : List ℕ). length s) agree ∙ disk_count (now start) ∙ sym (read_count (now start)) in
-    let stays = c.in_ok-spares.ensures.stays tells in
+    let stays = c.in_ok-spares.ensures.read.disks tells in
     let places = are_places (as_read (now start)) c.in_ok-spares.spares.items c.deref-2.result.now c.deref.result.now c.deref-3.result.now c.in_ok-others.others.items c.deref-2.ensures.value c.deref.ensures.value c.deref-3.ensures.value
     (c.in_ok-spares.ensures.count ∙ many) (λ dev within. c.in_ok-spares.ensures.found tells dev (omega (arith, within, many))) c.in_ok-others.ensures.others in
     let laws = laws_of layout c.in_ok-firsts.firsts.items c.in_ok-seconds.seconds.items c.in_ok-firsts.ensures.made c.in_ok-seconds.ensures.made c.in_ok-session.ensures.named in
     let count : length layout.blocks ≡ length (as_read (now start)) = c.requires.count ∙ many in
     let cleared = (c.in_ok-clear_supers.ensures.formats tells start stays places).reached.0 in
-    let formats = c.lay_out.ensures.formats tells start cleared (sym (c.clear_supers.ensures.sizes ∙ c.find_spares.ensures.sizes ∙ agree)) in
+    let formats = c.lay_out.ensures.formats tells start cleared (sym (c.clear_supers.ensures.goes_on.sizes ∙ c.find_spares.ensures.read.sizes ∙ agree)) in
     done_by c.lay_out.result layout start (D.state c.lay_out.new.devices) c.requires.layout count laws formats
 
 pub returns-clause-past : goal.returns-clause-past
@@ -71,9 +71,9 @@ returns-clause-past g c tells =
     let start = D.state c.args.devices.now in
     let agree : (D.state c.args.devices.now).sizes ≡ sizes_of (now start) = g.met.D.Devices.agree tells c.args.devices.now in
     let many : length (D.state c.args.devices.now).sizes ≡ length (as_read (now start)) = ap (λ (s : List ℕ). length s) agree ∙ disk_count (now start) ∙ sym (read_count (now start)) in
-    let stays = c.in_ok-spares.ensures.stays tells in
+    let stays = c.in_ok-spares.ensures.read.disks tells in
     let places = are_places (as_read (now start)) c.in_ok-spares.spares.items c.deref-2.result.now c.deref.result.now c.deref-3.result.now c.in_ok-others.others.items c.deref-2.ensures.value c.deref.ensures.value c.deref-3.ensures.value
     (c.in_ok-spares.ensures.count ∙ many) (λ dev within. c.in_ok-spares.ensures.found tells dev (omega (arith, within, many))) c.in_ok-others.ensures.others in
     let cleared = (c.in_ok-clear_supers.ensures.formats tells start stays places).reached.0 in
-    let formats = c.lay_out.ensures.formats tells start cleared (sym (c.clear_supers.ensures.sizes ∙ c.find_spares.ensures.sizes ∙ agree)) in
+    let formats = c.lay_out.ensures.formats tells start cleared (sym (c.clear_supers.ensures.goes_on.sizes ∙ c.find_spares.ensures.read.sizes ∙ agree)) in
     formats.leaves.past

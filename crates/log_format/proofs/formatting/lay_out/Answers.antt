@@ -16,7 +16,7 @@ prepare_devices-requires-clause-fits g c =
 
 pub seal_devices-requires-clause-fits : goal.seal_devices-requires-clause-fits
 seal_devices-requires-clause-fits g c =
-    subst (λ (sizes : List ℕ). is_layout_of sizes c.args.layout.now ≡ true) (sym c.prepare_devices.ensures.sizes)
+    subst (λ (sizes : List ℕ). is_layout_of sizes c.args.layout.now ≡ true) (sym c.prepare_devices.ensures.goes_on.sizes)
     (layout_fits_on (g.D.Devices.state c.extend_devices.new.devices).sizes c.args.layout.now c.requires.layout (c.requires.count ∙ sym c.extend_devices.ensures.count)
     (λ dev within. c.in_ok-extend_devices.ensures.room dev (omega (arith, within, c.extend_devices.ensures.count))))
 

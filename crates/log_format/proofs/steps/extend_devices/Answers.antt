@@ -11,8 +11,7 @@ loop-dev-init g c =
     let first = c.args.devices.now in
     record {
       wrote = λ tells. wrote_none _ _ (no_device (λ (dev : ℕ). extension (get_or (D.state first).sizes dev 0) (get_or c.args.layout.now.blocks dev 0)));
-      faults = omega arith;
-      write_faults = omega arith;
+      faults = refl;
       count = refl;
       others = λ other le. refl;
       room = λ other le. absurd (omega (arith, le));
@@ -27,9 +26,8 @@ loop-dev-preserved g c =
     let dev = c.loop-dev.dev in
     record {
       wrote = λ tells. wrote_also _ _ _ _ _ _ (one_device_more dev (λ (dev : ℕ). extension (get_or (D.state first).sizes dev 0) (get_or c.args.layout.now.blocks dev 0))) (so_far.wrote tells) (subst (λ (size : ℕ). Wrote (on_device dev (extension size (get_or c.args.layout.now.blocks dev 0))) (D.state c.loop-dev.devices) (D.state c.extend_device.new.devices)) (so_far.others dev (omega arith))
-          (subst (λ (blocks : List ℕ). Wrote (on_device dev (extension (get_or ((D.state c.loop).sizes-dev.devices) dev 0) (get_or blocks dev 0))) (D.state c.loop-dev.devices) (D.state c.extend_device.new.devices)) c.as_slice-blocks.ensures (ok_wrote _ _ _ _ (c.in_ok-extend_device.ensures.writes tells))));
-      faults = omega (arith, so_far.faults, c.extend_device.ensures.faults);
-      write_faults = omega (arith, so_far.write_faults, c.extend_device.ensures.write_faults);
+          (subst (λ (blocks : List ℕ). Wrote (on_device dev (extension (get_or ((D.state c.loop-dev.devices).sizes) dev 0) (get_or blocks dev 0))) (D.state c.loop-dev.devices) (D.state c.extend_device.new.devices)) c.as_slice-blocks.ensures (ok_wrote _ _ _ _ (c.in_ok-extend_device.ensures.writes tells))));
+      faults = c.in_ok-extend_device.ensures.cause ∙ so_far.faults;
       count = c.extend_device.ensures.count ∙ so_far.count;
       others = λ other le. c.extend_device.ensures.others other (λ e. omega (arith, e, le)) ∙ so_far.others other (omega (arith, le));
       room = λ other le. ⊎_elim
@@ -52,7 +50,7 @@ returns-in_err-extend_device-clause-step g c tells =
     (fewer_devices dev (length c.args.layout.now.blocks) (λ (dev : ℕ). extension (get_or (D.state first).sizes dev 0) (get_or c.args.layout.now.blocks dev 0)) (omega (arith, c.loop-dev-test.true)))
     (one_of_first dev (length c.args.layout.now.blocks) (λ (dev : ℕ). extension (get_or (D.state first).sizes dev 0) (get_or c.args.layout.now.blocks dev 0)) (omega (arith, c.loop-dev-test.true)))
     (so_far.wrote tells) (subst (λ (size : ℕ). Writes c.extend_device.result (on_device dev (extension size (get_or c.args.layout.now.blocks dev 0))) (D.state c.loop-dev.devices) (D.state c.extend_device.new.devices)) (so_far.others dev (omega arith))
-    (subst (λ (blocks : List ℕ). Writes c.extend_device.result (on_device dev (extension (get_or ((D.state c.loop).sizes-dev.devices) dev 0) (get_or blocks dev 0))) (D.state c.loop-dev.devices) (D.state c.extend_device.new.devices)) c.as_slice-blocks.ensures (c.extend_device.ensures.writes tells)))
+    (subst (λ (blocks : List ℕ). Writes c.extend_device.result (on_device dev (extension (get_or ((D.state c.loop-dev.devices).sizes) dev 0) (get_or blocks dev 0))) (D.state c.loop-dev.devices) (D.state c.extend_device.new.devices)) c.as_slice-blocks.ensures (c.extend_device.ensures.writes tells)))
 
 pub returns-clause-step : goal.returns-clause-step
 returns-clause-step g c tells =
@@ -60,7 +58,7 @@ returns-clause-step g c tells =
     let first = c.args.devices.now in
     let new = D.state c.flush_devices.new.devices in
     let same : c.loop-dev.dev ≡ (length c.args.layout.now.blocks) = omega (arith, c.loop-dev-test.false) in
-    let few : length (now new) ≤ c.count-count.result = omega (arith, disk_count (now new), ap (λ (sizes : List ℕ). length sizes) (g.met.D.Devices.agree tells c.flush_devices.new.devices), ap (λ (sizes : List ℕ). length sizes) c.flush_devices.ensures.sizes, c.loop-dev.invariant.count) in
+    let few : length (now new) ≤ c.count-count.result = omega (arith, disk_count (now new), ap (λ (sizes : List ℕ). length sizes) (g.met.D.Devices.agree tells c.flush_devices.new.devices), ap (λ (sizes : List ℕ). length sizes) c.flush_devices.ensures.goes_on.sizes, c.loop-dev.invariant.count) in
     step_by_flushes c.flush_devices.result _ _ (D.state c.loop-dev.devices) new c.count-count.result
     (subst (λ n. Wrote (on_first n (λ (dev : ℕ). extension (get_or (D.state first).sizes dev 0) (get_or c.args.layout.now.blocks dev 0))) (D.state first) (D.state c.loop-dev.devices)) same (c.loop-dev.invariant.wrote tells))
-    few (c.flush_devices.ensures.stops tells) (c.flush_devices.ensures.reads tells) (c.flush_devices.ensures.settled tells)
+    few (c.flush_devices.ensures.crashes tells) (c.flush_devices.ensures.reads tells) (c.flush_devices.ensures.settled tells)

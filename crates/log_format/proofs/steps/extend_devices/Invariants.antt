@@ -9,8 +9,7 @@ invariant-loop-dev g l =
     let first = l.fn.devices in
     record {
       wrote : D.tells → Wrote (on_first l.dev ((λ dev. extension (slice_index (D.state first).sizes dev) (slice_index l.fn.layout.blocks dev)))) (D.state first) (D.state l.devices);
-      faults : D.faults first ≤ D.faults l.devices;
-      write_faults : D.write_faults first ≤ D.write_faults l.devices;
+      faults : (D.state l.devices).faults ≡ (D.state first).faults;
       count : length (D.state l.devices).sizes ≡ length (D.state first).sizes;
       others : (other : ℕ) → l.dev ≤ other → slice_index (D.state l.devices).sizes other ≡ slice_index (D.state first).sizes other;
       room : (other : ℕ) → other < l.dev → slice_index l.fn.layout.blocks other ≤ slice_index (D.state l.devices).sizes other;

@@ -1,5 +1,6 @@
-use Rattle.std.proofs.Common.{◌≡◌, ◌≤◌}
+use Rattle.std.proofs.Common.{◌≡◌}
 use Rattle.log_format.specs.Formatting.{prepared}
+use Rattle.dev_model.specs.Frames.{GoOn}
 use Rattle.log_format.specs.Steps.{Wrote, on_first}
 use Rattle.log_format.proofs.steps.prepare_devices.Given as goal
 
@@ -9,8 +10,6 @@ invariant-loop-dev g l =
     let first = l.fn.devices in
     record {
       wrote : D.tells → Wrote (on_first l.dev ((λ dev. prepared l.fn.layout))) (D.state first) (D.state l.devices);
-      faults : D.faults first ≤ D.faults l.devices;
-      write_faults : D.write_faults first ≤ D.write_faults l.devices;
-      sizes : (D.state l.devices).sizes ≡ (D.state first).sizes;
-      moment : (D.state first).moment ≤ (D.state l.devices).moment;
+      goes_on : GoOn (D.state first) (D.state l.devices);
+      faults : (D.state l.devices).faults ≡ (D.state first).faults;
     }

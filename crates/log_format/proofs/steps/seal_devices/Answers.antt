@@ -2,6 +2,7 @@ use Rattle.std.proofs.Common.{◌≡◌, ◌≤◌, ◌∙◌, List, ℕ, length
 use Rattle.dev_model.specs.Devices.{now}
 use Rattle.geometry.specs.LayoutFacts.{has_places}
 use Rattle.log_format.specs.Steps.{IsSuper, Wrote, on_first, super_copies}
+use Rattle.dev_model.specs.FrameLaws.{go_on_here, go_on_then}
 use Rattle.log_format.proofs.Written.{disk_count, fewer_devices, no_device, ok_wrote, one_device_more, one_of_first, step_by_flushes, step_failed, wrote_also, wrote_none}
 use Rattle.log_format.proofs.steps.seal_devices.Goals as goal
 
@@ -11,10 +12,8 @@ loop-dev-init g c =
     let first = c.args.devices.now in
     record {
       wrote = λ tells. wrote_none _ _ (no_device (super_copies c.args.layout.now));
-      faults = omega arith;
-      write_faults = omega arith;
-      sizes = refl;
-      moment = omega arith;
+      goes_on = go_on_here (g.D.Devices.state c.args.devices.now);
+      faults = refl;
     }
 
 pub loop-dev-preserved : goal.loop-dev-preserved
@@ -25,10 +24,8 @@ loop-dev-preserved g c =
     let dev = c.loop-dev.dev in
     record {
       wrote = λ tells. wrote_also _ _ _ _ _ _ (one_device_more dev (super_copies c.args.layout.now)) (so_far.wrote tells) (ok_wrote _ _ _ _ (c.in_ok-seal_device.ensures.writes tells));
-      faults = omega (arith, so_far.faults, c.seal_device.ensures.faults);
-      write_faults = omega (arith, so_far.write_faults, c.seal_device.ensures.write_faults);
-      sizes = c.seal_device.ensures.sizes ∙ so_far.sizes;
-      moment = omega (arith, so_far.moment, c.seal_device.ensures.moment);
+      goes_on = go_on_then _ _ _ so_far.goes_on c.seal_device.ensures.goes_on;
+      faults = c.in_ok-seal_device.ensures.cause ∙ so_far.faults;
     }
 
 pub returns-in_err-seal_device-clause-step : goal.returns-in_err-seal_device-clause-step
@@ -48,10 +45,10 @@ returns-clause-step g c tells =
     let first = c.args.devices.now in
     let new = D.state c.flush_devices.new.devices in
     let same : c.loop-dev.dev ≡ (length c.args.layout.now.blocks) = omega (arith, c.loop-dev-test.false, (has_places (g.D.Devices.state c.args.devices.now).sizes c.args.layout.now c.requires.fits).devices) in
-    let few : length (now new) ≤ c.count-count.result = omega (arith, disk_count (now new), ap (λ (sizes : List ℕ). length sizes) (g.met.D.Devices.agree tells c.flush_devices.new.devices), ap (λ (sizes : List ℕ). length sizes) c.flush_devices.ensures.sizes, ap (λ (sizes : List ℕ). length sizes) c.loop-dev.invariant.sizes) in
+    let few : length (now new) ≤ c.count-count.result = omega (arith, disk_count (now new), ap (λ (sizes : List ℕ). length sizes) (g.met.D.Devices.agree tells c.flush_devices.new.devices), ap (λ (sizes : List ℕ). length sizes) c.flush_devices.ensures.goes_on.sizes, ap (λ (sizes : List ℕ). length sizes) c.loop-dev.invariant.goes_on.sizes) in
     step_by_flushes c.flush_devices.result _ _ (D.state c.loop-dev.devices) new c.count-count.result
     (subst (λ n. Wrote (on_first n (super_copies c.args.layout.now)) (D.state first) (D.state c.loop-dev.devices)) same (c.loop-dev.invariant.wrote tells))
-    few (c.flush_devices.ensures.stops tells) (c.flush_devices.ensures.reads tells) (c.flush_devices.ensures.settled tells)
+    few (c.flush_devices.ensures.crashes tells) (c.flush_devices.ensures.reads tells) (c.flush_devices.ensures.settled tells)
 
 pub bounds-firsts-dev : goal.bounds-firsts-dev
 bounds-firsts-dev g c = omega (arith, c.requires.firsts.count, (has_places (g.D.Devices.state c.args.devices.now).sizes c.args.layout.now c.requires.fits).devices)

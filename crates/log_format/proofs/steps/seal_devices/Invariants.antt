@@ -1,4 +1,5 @@
-use Rattle.std.proofs.Common.{◌≡◌, ◌≤◌}
+use Rattle.std.proofs.Common.{◌≡◌}
+use Rattle.dev_model.specs.Frames.{GoOn}
 use Rattle.log_format.specs.Steps.{Wrote, on_first, super_copies}
 use Rattle.log_format.proofs.steps.seal_devices.Given as goal
 
@@ -8,8 +9,6 @@ invariant-loop-dev g l =
     let first = l.fn.devices in
     record {
       wrote : D.tells → Wrote (on_first l.dev ((super_copies l.fn.layout))) (D.state first) (D.state l.devices);
-      faults : D.faults first ≤ D.faults l.devices;
-      write_faults : D.write_faults first ≤ D.write_faults l.devices;
-      sizes : (D.state l.devices).sizes ≡ (D.state first).sizes;
-      moment : (D.state first).moment ≤ (D.state l.devices).moment;
+      goes_on : GoOn (D.state first) (D.state l.devices);
+      faults : (D.state l.devices).faults ≡ (D.state first).faults;
     }

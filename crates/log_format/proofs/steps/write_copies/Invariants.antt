@@ -1,5 +1,6 @@
-use Rattle.std.proofs.Common.{◌≡◌, ◌≤◌}
+use Rattle.std.proofs.Common.{◌≡◌}
 use Rattle.std.specs.Prelude.{slice_index}
+use Rattle.dev_model.specs.Frames.{GoOn}
 use Rattle.log_format.specs.Steps.{Wrote, if_there, on_first}
 use Rattle.log_format.proofs.steps.write_copies.Given as goal
 
@@ -9,8 +10,6 @@ invariant-loop-dev g l =
     let first = l.fn.devices in
     record {
       wrote : D.tells → Wrote (on_first l.dev ((λ dev. if_there (slice_index (D.state first).sizes dev) (slice_index l.fn.places dev) l.fn.bytes))) (D.state first) (D.state l.devices);
-      faults : D.faults first ≤ D.faults l.devices;
-      write_faults : D.write_faults first ≤ D.write_faults l.devices;
-      sizes : (D.state l.devices).sizes ≡ (D.state first).sizes;
-      moment : (D.state first).moment ≤ (D.state l.devices).moment;
+      goes_on : GoOn (D.state first) (D.state l.devices);
+      faults : (D.state l.devices).faults ≡ (D.state first).faults;
     }

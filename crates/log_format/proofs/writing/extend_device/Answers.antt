@@ -19,7 +19,7 @@ returns-in-Ok-clause-writes g c tells =
     let longer : get_or (sizes_of (now old)) c.args.dev 0 ≤ c.args.blocks = omega (arith, c.if-blocks.false, c.blocks-2.ensures, ap (λ (sizes : List ℕ). get_or sizes c.args.dev 0) agree) in
     as_ok c.extend.result _ _ _ _ _ c.in-Ok.is
     (subst (λ (sizes : List ℕ). Writes c.extend.result (on_device c.args.dev (extension (get_or sizes c.args.dev 0) c.args.blocks)) old (D.state c.extend.new.self)) (sym agree)
-    (writes_by_extend c.extend.result c.args.dev c.args.blocks old (D.state c.extend.new.self) (g.met.D.Devices.sound tells c.args.devices.now) within longer (c.extend.ensures.disks tells)))
+    (writes_by_extend c.extend.result c.args.dev c.args.blocks old (D.state c.extend.new.self) (g.met.D.Devices.sound tells c.args.devices.now) within longer (c.extend.ensures.call.disks tells)))
 
 pub returns-in-Err-clause-writes : goal.returns-in-Err-clause-writes
 returns-in-Err-clause-writes g c tells =
@@ -30,4 +30,4 @@ returns-in-Err-clause-writes g c tells =
     let longer : get_or (sizes_of (now old)) c.args.dev 0 ≤ c.args.blocks = omega (arith, c.if-blocks.false, c.blocks-2.ensures, ap (λ (sizes : List ℕ). get_or sizes c.args.dev 0) agree) in
     as_err c.extend.result _ _ _ _
     (subst (λ (sizes : List ℕ). Writes c.extend.result (on_device c.args.dev (extension (get_or sizes c.args.dev 0) c.args.blocks)) old (D.state c.extend.new.self)) (sym agree)
-    (writes_by_extend c.extend.result c.args.dev c.args.blocks old (D.state c.extend.new.self) (g.met.D.Devices.sound tells c.args.devices.now) within longer (c.extend.ensures.disks tells)))
+    (writes_by_extend c.extend.result c.args.dev c.args.blocks old (D.state c.extend.new.self) (g.met.D.Devices.sound tells c.args.devices.now) within longer (c.extend.ensures.call.disks tells)))

@@ -2,6 +2,7 @@ use Rattle.std.proofs.Common.{◌≡◌, ◌∙◌, true, arith, subst, sym, ref
 use Rattle.geometry.specs.LayoutFacts.{has_places}
 use Rattle.geometry.specs.Layouts.{is_layout_of}
 use Rattle.log_format.specs.Formatting.{prepared}
+use Rattle.dev_model.specs.FrameLaws.{go_on_here, go_on_then}
 use Rattle.log_format.proofs.Written.{all_blocks, failed_part, fewer_blocks, no_block, one_block_more, one_of_blocks, writes_all, wrote_alike, wrote_none, wrote_next}
 use Rattle.log_format.proofs.Preparing.{prepared_none, prepared_past}
 use Rattle.log_format.proofs.writing.prepare_device.Goals as goal
@@ -13,10 +14,8 @@ pub loop-block-init : goal.loop-block-init
 loop-block-init g c = record {
   started = omega arith;
   wrote = λ tells. wrote_none _ _ (no_block c.args.dev (prepared c.args.layout.now) 1 (prepared_none c.args.layout.now));
-  faults = omega arith;
-  write_faults = omega arith;
-  sizes = refl;
-  moment = omega arith;
+  goes_on = go_on_here (g.D.Devices.state c.args.devices.now);
+  faults = refl;
 }
 
 pub loop-block-preserved : goal.loop-block-preserved
@@ -25,14 +24,12 @@ loop-block-preserved g c =
     record {
       started = omega arith;
       wrote = λ tells. wrote_next _ _ _ _ _ _ (one_block_more c.args.dev c.loop-block.block (prepared c.args.layout.now)) (so_far.wrote tells) (c.prepare_block.ensures.writes tells).touches (c.in_ok-prepare_block.ensures.writes tells).reads;
-      faults = omega (arith, so_far.faults, c.prepare_block.ensures.faults);
-      write_faults = omega (arith, so_far.write_faults, c.prepare_block.ensures.write_faults);
-      sizes = c.prepare_block.ensures.sizes ∙ so_far.sizes;
-      moment = omega (arith, so_far.moment, c.prepare_block.ensures.moment);
+      goes_on = go_on_then _ _ _ so_far.goes_on c.prepare_block.ensures.goes_on;
+      faults = c.in_ok-prepare_block.ensures.cause ∙ so_far.faults;
     }
 
 pub prepare_block-requires-clause-fits : goal.prepare_block-requires-clause-fits
-prepare_block-requires-clause-fits g c = subst (λ sizes. is_layout_of sizes c.args.layout.now ≡ true) (sym c.loop-block.invariant.sizes) c.requires.fits
+prepare_block-requires-clause-fits g c = subst (λ sizes. is_layout_of sizes c.args.layout.now ≡ true) (sym c.loop-block.invariant.goes_on.sizes) c.requires.fits
 
 pub returns-clause-writes : goal.returns-clause-writes
 returns-clause-writes g c tells =

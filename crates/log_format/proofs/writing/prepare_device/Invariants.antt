@@ -1,5 +1,6 @@
 use Rattle.std.proofs.Common.{◌≡◌, ◌≤◌}
 use Rattle.log_format.specs.Formatting.{prepared}
+use Rattle.dev_model.specs.Frames.{GoOn}
 use Rattle.log_format.specs.Steps.{Wrote, in_first, on_device}
 use Rattle.log_format.proofs.writing.prepare_device.Given as goal
 
@@ -10,8 +11,6 @@ invariant-loop-block g l =
     record {
       started : 1 ≤ l.block;
       wrote : D.tells → Wrote (on_device l.fn.dev (in_first l.block (prepared l.fn.layout))) (D.state first) (D.state l.devices);
-      faults : D.faults first ≤ D.faults l.devices;
-      write_faults : D.write_faults first ≤ D.write_faults l.devices;
-      sizes : (D.state l.devices).sizes ≡ (D.state first).sizes;
-      moment : (D.state first).moment ≤ (D.state l.devices).moment;
+      goes_on : GoOn (D.state first) (D.state l.devices);
+      faults : (D.state l.devices).faults ≡ (D.state first).faults;
     }
