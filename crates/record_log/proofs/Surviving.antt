@@ -24,10 +24,10 @@ use Rattle.log_records.specs.Records.{log_block, record_at, record_in, record_on
 use Rattle.log_records.specs.Found.{AreMirrored, Mounted, commit_of, forest_with, forest_with_next, in_main, log_in, mounted_as, mounts, scanned_from}
 use Rattle.log_records.specs.declared.files.MadeFile.{MadeFile}
 use Rattle.record_log.specs.Durable.{HasWritten, IsOfSession, with_files}
-use Rattle.record_log.specs.Acknowledged.{acknowledged}
+use Rattle.session_history.specs.Acknowledged.{acknowledged}
 use Rattle.record_log.specs.Survives.{HasNoChanceMatch, IsAlone, IsMadeBy, IsPrefix, Survives}
-use Rattle.record_log.specs.Log.{IsSound, Log, Shown}
-use Rattle.record_log.specs.declared.acks.Ack.{Ack}
+use Rattle.record_log.specs.Log.{IsSound, Log}
+use Rattle.session_history.specs.declared.acks.Ack.{Ack}
 use Rattle.record_log.proofs.Holding.{with_commit}
 use Rattle.record_log.proofs.WrittenRecords.{may_differ_more}
 use Rattle.record_log.proofs.Images.{area_is_short, first_all, first_none, first_some, first_same, first_there, is_mounted, means_same, quiet_place, same_sizes}
@@ -239,7 +239,7 @@ module _ (opening : Mounted) (session : ℕ) (disks : List Disk) (history : Hist
   commit_total = ap length commits ∙ length-map files commit_of
 
   none_before : (place dev : ℕ) → base ≤ place → place < opening.layout.journal → dev < opening.layout.metadata_replicas → record_on opening.layout place (as_read disks) dev ≡ None
-  none_before place dev from to within = first_none opening.layout place (as_read disks) opening.layout.metadata_replicas (alone.behind place from to) dev within
+  none_before place dev from to within = first_none opening.layout place (as_read disks) opening.layout.metadata_replicas (alone.rest place from to) dev within
 
   -- a record behind the base is that of a commit
   commit_at : HasNoChanceMatch opening (as_read disks) history image → (place dev : ℕ) (file : MadeFile) → base ≤ place → place < opening.layout.journal → dev < opening.layout.metadata_replicas
@@ -310,8 +310,8 @@ module _ (opening : Mounted) (session : ℕ) (disks : List Disk) (history : Hist
             (base + scan.count, after_all opening.forest (take scan.count (commits_of opening.forest history)))
             (log_begins ∙ scan.means ∙ ap (λ (cs : History). (base + scan.count, after_all opening.forest (take scan.count cs))) (sym commits));
         alone = record {
-          behind = λ place from within. ⊎_elim
-              (λ (past : base + written < place). at_elsewhere place (λ _ to. omega (arith, past, to)) ∙ alone.behind place (omega (arith, past)) within)
+          rest = λ place from within. ⊎_elim
+              (λ (past : base + written < place). at_elsewhere place (λ _ to. omega (arith, past, to)) ∙ alone.rest place (omega (arith, past)) within)
               (λ (up_to : place ≤ base + written).
               let here : base + scan.count ≡ place = omega (arith, from, up_to, scan.no_less) in
               subst (λ n. record_at opening.layout image n ≡ None) here (scan.ends (omega (arith, here, within))))
@@ -374,19 +374,19 @@ without_files opening session before old means named behind quiet alone image ot
     (sizes_stay opening session (now old) means quiet image (opening.commits + 0) (let le : opening.commits + 0 ≤ opening.layout.journal = omega (arith, room) in le) others as_many)
     0 (omega arith) no_chance
 
--- Whatever a stop left of a session means a prefix of its commits, with those that were acknowledged by then.
-pub survives : {D : Type 0} (opening : Forest) (start : Shown) (tells : Type 0) (shown : Shown) (log : Log D) (forest : Forest) → IsSound opening start tells shown log forest → tells
-    → ((m : ℕ) → m ≤ shown.moments.moment → length (shown.moments.disks m) ≡ length shown.sizes) → start.moments.moment ≤ shown.moments.moment
-    → ((m : ℕ) → m ≤ start.moments.moment → shown.moments.disks m ≡ start.moments.disks m)
-    → Survives (mounted_as log.layout (log.base, opening)) start.moments shown.moments log.trace log.acks
-survives opening start tells shown log forest sound told steady later past means quiet alone moment lo hi image may no_chance =
-    let has = (sound.acks.stops told).each moment lo hi image may in
-    let behind = sound.records.behind told in
+-- Whatever a crash left of a session means a prefix of its commits, with those that were acknowledged by then.
+pub survives : {D : Type 0} (opening : Forest) (start : DevicesState) (tells : Type 0) (state : DevicesState) (log : Log D) (forest : Forest) → IsSound opening start tells state log forest → tells
+    → ((m : ℕ) → m ≤ state.moment → length (state.disks m) ≡ length state.sizes) → start.moment ≤ state.moment
+    → ((m : ℕ) → m ≤ start.moment → state.disks m ≡ start.disks m)
+    → Survives (mounted_as log.layout (log.base, opening)) start state log.trace log.acks
+survives opening start tells state log forest sound told steady later past means quiet alone moment lo hi image may no_chance =
+    let has = (sound.acks.crashes told).each moment lo hi image may in
+    let next = sound.records.next told in
     let volume : Mounted = mounted_as log.layout (log.base, opening) in
-    let as_many : length image ≡ length (now start.moments) = sym (image_count _ image may) ∙ steady moment hi ∙ sym (steady start.moments.moment later) ∙ ap length (past start.moments.moment (omega arith)) in
-    means_prefix volume log.session (now start.moments) log.trace log.files forest sound.files.commits sound.files.made sound.files.room means behind.0 behind.1 behind.2 quiet alone image has.count has.written
+    let as_many : length image ≡ length (now start) = sym (image_count _ image may) ∙ steady moment hi ∙ sym (steady start.moment later) ∙ ap length (past start.moment (omega arith)) in
+    means_prefix volume log.session (now start) log.trace log.files forest sound.files.commits sound.files.made sound.files.room means next.0 next.1 next.2 quiet alone image has.count has.written
     (let le : has.count ≤ length log.files = omega (arith, has.most, sound.records.written) in le)
-    (sizes_stay volume log.session (now start.moments) means quiet image (log.base + has.count) (let le : log.base + has.count ≤ log.layout.journal = omega (arith, has.most, sound.records.written, sound.files.room) in le) has.written.others as_many)
+    (sizes_stay volume log.session (now start) means quiet image (log.base + has.count) (let le : log.base + has.count ≤ log.layout.journal = omega (arith, has.most, sound.records.written, sound.files.room) in le) has.written.others as_many)
     (acknowledged log.acks moment) has.least no_chance
 
 -- While only the next session's number is written, what is left means what it meant.

@@ -1,4 +1,4 @@
--- What a stop leaves of the devices while records are written and flushed.
+-- What a crash leaves of the devices while records are written and flushed.
 use Rattle.std.proofs.Common.{◌≡◌, ℕ, ◌+◌, ◌<◌, ◌≤◌, List, slice_get, Some, Result, Ok, Err, OnOk, ◌∙◌, sym, subst, arith, ◌⊎◌, inl, inr, ⊎_elim}
 use Rattle.std.proofs.lemmas.Bool.{cases_lt}
 use Rattle.dev_model.specs.Disk.{Disk, Image, IsCrashImage}
@@ -11,8 +11,8 @@ use Rattle.record_log.specs.Durable.{HasWritten, HoldRecord, IsFrom, IsLogPlace,
 use Rattle.record_log.proofs.Holding.{HoldsRecords-kept, HoldsRecords-more}
 
 -- before the first call nothing is touched
-pub untouched : (touched : ℕ → ℕ → Type 0) (history : DevicesState) → EachCrash (λ _ _ image. IsCrashImageBut touched (now history) image) history history
-untouched touched history = started (λ _ _ image. IsCrashImageBut touched (now history) image) history (left_itself touched (now history))
+pub untouched : (touched : ℕ → ℕ → Type 0) (state : DevicesState) → EachCrash (λ _ _ image. IsCrashImageBut touched (now state) image) state state
+untouched touched state = started (λ _ _ image. IsCrashImageBut touched (now state) image) state (left_itself touched (now state))
 
 earlier_or_later : (m n : ℕ) → (m ≤ n) ⊎ (n < m)
 earlier_or_later m n = ⊎_elim (λ (later : n < m). inr later) (λ (earlier : m ≤ n). inl earlier) (cases_lt n m)
@@ -33,33 +33,34 @@ goes_further few many old mid new more first second = record {
       (earlier_or_later m mid.moment);
 }
 
--- a record behind those of before, which begin at a place
+-- a record after those of before, which begin at a place
 pub goes_at : (layout : Layout) (first place : ℕ) (old mid new : DevicesState) → first ≤ place
     → EachCrash (λ _ _ image. IsCrashImageBut (IsFrom layout first) (now old) image) old mid → EachCrash (λ _ _ image. IsCrashImageBut (IsLogPlace layout place) (now mid) image) mid new
     → EachCrash (λ _ _ image. IsCrashImageBut (IsFrom layout first) (now old) image) old new
 goes_at layout first place old mid new le = goes_further (IsLogPlace layout place) (IsFrom layout first) old mid new (λ d b at. (at.0, omega (arith, le, at.1)))
 
--- what a stop leaves in the end
+-- what a crash leaves in the end
 pub left_in_the_end : (touched : ℕ → ℕ → Type 0) (old new : DevicesState) (image : Image) → EachCrash (λ _ _ image. IsCrashImageBut touched (now old) image) old new → IsCrashImage (now new) image → IsCrashImageBut touched (now old) image
 left_in_the_end touched old new image only may = only.each new.moment only.later (omega arith) image may
 
 -- One part after another.
-pub leaves_then : (P : ℕ → Image → Type 0) (old mid new : DevicesState) → EachCrash P old mid → EachCrash P mid new → EachCrash P old new
+pub leaves_then : (P : ℕ → List Disk → Image → Type 0) (old mid new : DevicesState) → EachCrash P old mid → EachCrash P mid new → EachCrash P old new
 leaves_then P old mid new first second = record {
   later = omega (arith, first.later, second.later);
   past = λ m le. second.past m (omega (arith, le, first.later)) ∙ first.past m le;
   each = λ m lo hi image may. ⊎_elim
-      (λ (earlier : m ≤ mid.moment). first.each m lo earlier image (subst (λ ds. IsCrashImage ds image) (second.past m earlier) may))
+      (λ (earlier : m ≤ mid.moment).
+      subst (λ (ds : List Disk). P m ds image) (sym (second.past m earlier)) (first.each m lo earlier image (subst (λ ds. IsCrashImage ds image) (second.past m earlier) may)))
       (λ (later : mid.moment < m). second.each m (omega (arith, later)) hi image may)
       (earlier_or_later m mid.moment);
 }
 
 -- What is left has a weaker property too.
-pub leaves_weaker : (P Q : ℕ → Image → Type 0) (old new : DevicesState) → ((m : ℕ) → old.moment ≤ m → m ≤ new.moment → (image : Image) → P m image → Q m image) → EachCrash P old new → EachCrash Q old new
+pub leaves_weaker : (P Q : ℕ → List Disk → Image → Type 0) (old new : DevicesState) → ((m : ℕ) → old.moment ≤ m → m ≤ new.moment → (disks : List Disk) (image : Image) → P m disks image → Q m disks image) → EachCrash P old new → EachCrash Q old new
 leaves_weaker P Q old new weaker only = record {
   later = only.later;
   past = only.past;
-  each = λ m lo hi image may. weaker m lo hi image (only.each m lo hi image may);
+  each = λ m lo hi image may. weaker m lo hi (new.disks m) image (only.each m lo hi image may);
 }
 
 -- Images that may differ at few places from what was left may differ at more.
@@ -73,12 +74,12 @@ on_ok (Err e) P Q leads is = is
 
 -- Flushes alone leave nothing new, whatever is to be touched,
 pub only_flushed : (touched : ℕ → ℕ → Type 0) (old new : DevicesState) → EachCrash (λ _ _ image. IsCrashImage (now old) image) old new → EachCrash (λ _ _ image. IsCrashImageBut touched (now old) image) old new
-only_flushed touched old new flushed = leaves_weaker (λ _ image. IsCrashImage (now old) image) (λ _ image. IsCrashImageBut touched (now old) image) old new (λ m lo hi image may. left_itself touched (now old) image may) flushed
+only_flushed touched old new flushed = leaves_weaker (λ _ _ image. IsCrashImage (now old) image) (λ _ _ image. IsCrashImageBut touched (now old) image) old new (λ m lo hi disks image may. left_itself touched (now old) image may) flushed
 
--- and what touches places behind them is as if it stood alone.
-pub behind_flushes : (touched : ℕ → ℕ → Type 0) (old mid new : DevicesState) → EachCrash (λ _ _ image. IsCrashImage (now old) image) old mid → EachCrash (λ _ _ image. IsCrashImageBut touched (now mid) image) mid new
+-- and what touches places after them is as if it stood alone.
+pub after_flushes : (touched : ℕ → ℕ → Type 0) (old mid new : DevicesState) → EachCrash (λ _ _ image. IsCrashImage (now old) image) old mid → EachCrash (λ _ _ image. IsCrashImageBut touched (now mid) image) mid new
     → EachCrash (λ _ _ image. IsCrashImageBut touched (now old) image) old new
-behind_flushes touched old mid new flushed touching =
+after_flushes touched old mid new flushed touching =
     goes_further touched touched old mid new (λ d b at. at) (only_flushed touched old mid flushed) touching
 
 module _ (layout : Layout) (session : ℕ) (start : List Disk) (base : ℕ) (files : List MadeFile) where
@@ -99,33 +100,33 @@ module _ (layout : Layout) (session : ℕ) (start : List Disk) (base : ℕ) (fil
   }
 
   -- before the first record
-  pub writes_none : (count : ℕ) (history : DevicesState) → EachCrashNow (HasWritten layout session start base count files) history → Writes layout session start base count count files history history
-  writes_none count history held = record {
-    between = started (λ _ _ image. (some : ℕ) × (count ≤ some) × (some ≤ count) × HasWritten layout session start base some files image) history (λ image may. (count, omega arith, omega arith, held image may));
+  pub writes_none : (count : ℕ) (state : DevicesState) → EachCrashNow (HasWritten layout session start base count files) state → Writes layout session start base count count files state state
+  writes_none count state held = record {
+    between = started (λ _ _ image. (some : ℕ) × (count ≤ some) × (some ≤ count) × HasWritten layout session start base some files image) state (λ image may. (count, omega arith, omega arith, held image may));
     held = held;
   }
 
-  module _ (first count : ℕ) (old mid new : DevicesState) (le : first ≤ count) (so_far : Writes layout session start base first count files old mid) (stops : EachCrash (λ _ _ image. IsCrashImageBut (IsLogPlace layout (base + count)) (now mid) image) mid new) where
+  module _ (first count : ℕ) (old mid new : DevicesState) (le : first ≤ count) (so_far : Writes layout session start base first count files old mid) (crashes : EachCrash (λ _ _ image. IsCrashImageBut (IsLogPlace layout (base + count)) (now mid) image) mid new) where
     left_meanwhile : (image : Image) → IsCrashImageBut (IsLogPlace layout (base + count)) (now mid) image → HasWritten layout session start base count files image
     left_meanwhile image may = another_block count may.0 image (so_far.held may.0 may.1) may.2
 
     between_to : (last : ℕ) → count ≤ last → EachCrash (λ _ _ image. (some : ℕ) × (first ≤ some) × (some ≤ last) × HasWritten layout session start base some files image) old new
     between_to last most =
-        let P = λ (_ : ℕ) (image : Image). (some : ℕ) × (first ≤ some) × (some ≤ last) × HasWritten layout session start base some files image in
+        let P = λ (_ : ℕ) (_ : List Disk) (image : Image). (some : ℕ) × (first ≤ some) × (some ≤ last) × HasWritten layout session start base some files image in
         leaves_then P old mid new
-        (leaves_weaker (λ _ image. (some : ℕ) × (first ≤ some) × (some ≤ count) × HasWritten layout session start base some files image) P old mid (λ m lo hi image has. (has.0, has.1, omega (arith, has.2, most), has.3)) so_far.between)
-        (leaves_weaker (λ _ image. IsCrashImageBut (IsLogPlace layout (base + count)) (now mid) image) P mid new (λ m lo hi image may. (count, le, most, left_meanwhile image may)) stops)
+        (leaves_weaker (λ _ _ image. (some : ℕ) × (first ≤ some) × (some ≤ count) × HasWritten layout session start base some files image) P old mid (λ m lo hi disks image has. (has.0, has.1, omega (arith, has.2, most), has.3)) so_far.between)
+        (leaves_weaker (λ _ _ image. IsCrashImageBut (IsLogPlace layout (base + count)) (now mid) image) P mid new (λ m lo hi disks image may. (count, le, most, left_meanwhile image may)) crashes)
 
     -- where the record isn't written
     pub writes_not : Writes layout session start base first count files old new
     writes_not = record {
       between = between_to count (omega arith);
-      held = λ image may. left_meanwhile image (left_in_the_end (IsLogPlace layout (base + count)) mid new image stops may);
+      held = λ image may. left_meanwhile image (left_in_the_end (IsLogPlace layout (base + count)) mid new image crashes may);
     }
 
     -- where it is
     pub writes_one : (file : MadeFile) → slice_get files count ≡ Some file → EachCrashNow (HoldRecord layout session (base + count) (Some file)) new → Writes layout session start base first (count + 1) files old new
     writes_one file here is = record {
       between = between_to (count + 1) (omega arith);
-      held = λ image may. next_record count image (left_meanwhile image (left_in_the_end (IsLogPlace layout (base + count)) mid new image stops may)) (record { found = λ dev within. (is image may).found dev within ∙ sym here; owner = (is image may).owner });
+      held = λ image may. next_record count image (left_meanwhile image (left_in_the_end (IsLogPlace layout (base + count)) mid new image crashes may)) (record { found = λ dev within. (is image may).found dev within ∙ sym here; owner = (is image may).owner });
     }

@@ -1,4 +1,4 @@
--- What the devices hold of a session's records, whatever a stop leaves of them.
+-- What the devices hold of a session's records, whatever a crash leaves of them.
 use Rattle.std.specs.Prelude.{◌≡◌, ◌⊎◌, ℕ, ◌+◌, ◌<◌, ◌≤◌, List, [], ◌∷◌, slice_get, Option, Some, option_and_then}
 use Rattle.dev_model.specs.Disk.{Disk, Image}
 use Rattle.dev_model.specs.Crashes.{EachCrash, EachCrashNow, IsCrashImageBut}
@@ -46,13 +46,13 @@ abbrev pub IsOfSession : Layout → ℕ → ℕ → ℕ → ℕ → ℕ → Type
 IsOfSession layout session first last dev block = IsSessionPlace layout session dev block ⊎ IsFromTo layout first last dev block
 
 -- The image is one of a session that has written so many of its files' records, from its base on. Every mirror holds them,
--- sealed by the session, and it differs only there, in the next place of the log and in the session's blocks from what a stop might have left when the
+-- sealed by the session, and it differs only there, in the next place of the log and in the session's blocks from what a crash might have left when the
 -- run began.
 pub record HasWritten (layout : Layout) (session : ℕ) (start : List Disk) (base count : ℕ) (files : List MadeFile) (image : Image) : Type 0 where
   pub records : HoldsRecords layout session base count files image
   pub others : IsCrashImageBut (IsOfSession layout session base (base + count)) start image
 
--- Records are written one after the other, from the first on and up to the last: each image that a stop leaves meanwhile
+-- Records are written one after the other, from the first on and up to the last: each image that a crash leaves meanwhile
 -- is one of a session that has written some of them, and in the end all.
 pub record Writes (layout : Layout) (session : ℕ) (start : List Disk) (base first last : ℕ) (files : List MadeFile) (old new : DevicesState) : Type 0 where
   pub between : EachCrash (λ _ _ image. (count : ℕ) × (first ≤ count) × (count ≤ last) × HasWritten layout session start base count files image) old new

@@ -1,6 +1,5 @@
--- What a session answers to each operation, behind the entries before it.
-use Rattle.std.specs.Prelude.{◌≡◌, ◌⊎◌, ℕ, ◌+◌, ◌==◌, Bool, true, false, if◌then◌else◌, [], Option, Some, None}
-use Rattle.std.specs.List.{list_any}
+-- What a session answers to each operation, after the entries before it.
+use Rattle.std.specs.Prelude.{◌≡◌, ◌⊎◌, ℕ, ◌+◌, ◌==◌, Bool, if◌then◌else◌, [], Option, Some, None}
 use Rattle.std.specs.Option.{option_map_or}
 use Rattle.vol_types.specs.declared.space.Short.{Short}
 use Rattle.plain_forest.specs.Forest.{Forest}
@@ -12,24 +11,16 @@ use Rattle.plain_forest.specs.declared.operation.Op.TheVariants.{Mkfile, Ls, Syn
 use Rattle.plain_forest.specs.declared.operation.Reply.{Reply}
 use Rattle.plain_forest.specs.declared.operation.Reply.TheVariants.{Synced, Refused, NoSpace, DeviceFault, Halted}
 use Rattle.plain_forest.specs.declared.operation.Entry.{Entry}
-use Rattle.record_log.specs.declared.halt.Halt.{Halt}
+use Rattle.session_history.specs.Failures.{has_failed}
+use Rattle.session_history.specs.declared.halt.Halt.{Halt}
 
--- the reply says that a device failed
-abbrev pub is_device_fault : Reply → Bool
-is_device_fault (DeviceFault dev) = true
-is_device_fault reply = false
+-- the halt of a session after these entries: once a device has failed the session has halted, and stays so
+abbrev pub halt_after : Halt → History → Option Halt
+halt_after halt before = if has_failed before then Some halt else None
 
--- one of the entries says that a device failed
-abbrev pub has_failed : History → Bool
-has_failed history = list_any (λ entry. is_device_fault entry.reply) history
-
--- the halt of a session behind these entries: once a device has failed the session has halted, and stays so
-abbrev pub halt_behind : Halt → History → Option Halt
-halt_behind halt before = if has_failed before then Some halt else None
-
--- a log of so many places has a record at each of them: those that stood there, and the commits behind these entries
-abbrev pub is_full_behind : ℕ → ℕ → Forest → History → Bool
-is_full_behind base places opening before = base + commit_count opening before == places
+-- a log of so many places has a record at each of them: those that stood there, and the commits after these entries
+abbrev pub is_full_after : ℕ → ℕ → Forest → History → Bool
+is_full_after base places opening before = base + commit_count opening before == places
 
 -- no extent is short of a place, and the log has no buckets to count
 abbrev pub log_short : Short
@@ -51,14 +42,14 @@ abbrev pub IsSyncReply : Halt → Option Halt → ℕ → Reply → Type 0
 IsSyncReply halt (Some halted) count reply = reply ≡ Halted halted.dev halted.tick
 IsSyncReply halt None count reply = (reply ≡ Synced count) ⊎ (reply ≡ DeviceFault halt.dev)
 
--- What a session answers to an operation, behind the entries before it, halted or not; it halts so, if it does. It opened
+-- What a session answers to an operation, after the entries before it, halted or not; it halts so, if it does. It opened
 -- this forest, of so many commits, with a log of so many places.
 abbrev pub IsExactReply : Forest → ℕ → ℕ → Halt → Option Halt → History → Op → Reply → Type 0
 IsExactReply opening base places halt halted before (Mkfile path) reply =
-    reply ≡ file_reply halted (is_full_behind base places opening before) path (after_all opening before)
+    reply ≡ file_reply halted (is_full_after base places opening before) path (after_all opening before)
 IsExactReply opening base places halt halted before (Ls path) reply = reply ≡ reply_of 0 (Ls path) 0 (after_all opening before)
 IsExactReply opening base places halt halted before Sync reply = IsSyncReply halt halted (commit_count opening before) reply
 
 -- An entry has the answer of a session that halted so, if it did.
 abbrev pub IsExact : Forest → ℕ → ℕ → Halt → History → Entry → Type 0
-IsExact opening base places halt before entry = IsExactReply opening base places halt (halt_behind halt before) before entry.op entry.reply
+IsExact opening base places halt before entry = IsExactReply opening base places halt (halt_after halt before) before entry.op entry.reply

@@ -1,4 +1,4 @@
--- What a stop leaves of a session, and what it means.
+-- What a crash leaves of a session, and what it means.
 use Rattle.std.specs.Prelude.{◌≡◌, ◌⊎◌, ℕ, ◌+◌, ◌<◌, ◌≤◌, List, slice_get, Some, None, Ok}
 use Rattle.dev_model.specs.Disk.{Image, IsCrashImage, as_read}
 use Rattle.dev_model.specs.Devices.{DevicesState, now}
@@ -10,13 +10,13 @@ use Rattle.plain_forest.specs.History.{History, after_commits, commits_of, commi
 use Rattle.log_records.specs.Records.{record_at, record_on}
 use Rattle.log_records.specs.Found.{AreMirrored, Mounted, commit_of, mounted_as, mounts}
 use Rattle.log_records.specs.declared.files.MadeFile.{MadeFile}
-use Rattle.record_log.specs.Acknowledged.{acknowledged}
-use Rattle.record_log.specs.declared.acks.Ack.{Ack}
+use Rattle.session_history.specs.Acknowledged.{acknowledged}
+use Rattle.session_history.specs.declared.acks.Ack.{Ack}
 
--- Alone: nobody else has written the devices. So no block of the journal area behind the log holds a record of its place, and
+-- Alone: nobody else has written the devices. So no block of the journal area after the log holds a record of its place, and
 -- where two mirrors hold a record they hold the same.
 pub record IsAlone (layout : Layout) (commits : ℕ) (image : Image) : Type 0 where
-  pub behind : (place : ℕ) → commits ≤ place → place < layout.journal → record_at layout image place ≡ None
+  pub rest : (place : ℕ) → commits ≤ place → place < layout.journal → record_at layout image place ≡ None
   pub mirrors : AreMirrored layout image
 
 -- The commit at this place of a history made the file.
@@ -40,7 +40,7 @@ pub record IsPrefix (opening : Mounted) (history : History) (acknowledged_by_the
   pub means : mounts image ≡ Ok (mounted_as opening.layout (opening.commits + commits, after_commits opening.forest history commits))
   pub alone : IsAlone opening.layout (opening.commits + commits) image
 
--- A stop at each moment of a session leaves only images that mean a prefix of its history with all that was acknowledged by
+-- A crash at each moment of a session leaves only images that mean a prefix of its history with all that was acknowledged by
 -- then, where the devices held this volume, were quiet and the session was alone, and where no chance match is in the image.
 abbrev pub Survives : Mounted → DevicesState → DevicesState → History → List Ack → Type 0
 Survives opening old new history acks =

@@ -1,9 +1,10 @@
-ghost use Rattle.std.specs.Prelude.{◌≡◌, ◌+◌, ◌<◌, ◌≤◌, ◌↔◌, ℕ, true, Err, OnOk, length};
-ghost use Rattle.vol_types.specs.Faults.{RoseBy};
+ghost use Rattle.std.specs.Prelude.{◌≡◌, ◌+◌, ◌<◌, ◌≤◌, ◌↔◌, true, Err, OnOk, IfSome, length};
 ghost use Rattle.dev_model.specs.Devices.{now};
+ghost use Rattle.dev_model.specs.Frames.{GoOn, after_writes};
 ghost use Rattle.dev_model.specs.Crashes.{EachCrash, EachCrashNow, IsCrashImageBut};
 ghost use Rattle.geometry.specs.Layouts.{is_layout_of};
 ghost use Rattle.geometry.specs.Sessions.{IsSessionPlace};
+ghost use Rattle.record_log.specs.Beginning.{failed_begin_device};
 ghost use Rattle.record_log.specs.Durable.{NamesSession};
 
 use dev_model::Devices;
@@ -11,7 +12,7 @@ use geometry::{DiskFault, write_session};
 use log_records::Loaded;
 use std::alloc::Global;
 
-/// The greatest number of a session. Behind it none is left.
+/// The greatest number of a session. After it none is left.
 const LAST_SESSION: u64 = 4_294_967_295;
 
 /// Why no session was begun.
@@ -19,9 +20,9 @@ const LAST_SESSION: u64 = 4_294_967_295;
 pub enum BeginFault {
     /// The volume has had its last session: no number is left.
     Spent,
-    /// A call to this device failed.
+    /// A write or a flush of this device failed.
     DeviceFault(u8),
-    /// Memory was wanting.
+    /// Out of memory.
     NoMemory,
 }
 
@@ -51,12 +52,10 @@ pub fn begin_session<D: Devices>(
     ensures spent { (result ≡ Err BeginFault.Spent) ↔ (4294967295 ≤ loaded.now.session) }
     ensures nothing { result ≡ Err BeginFault.Spent → devices.new ≡ devices.old }
     ensures numbered { D.tells → OnOk result (EachCrashNow (NamesSession loaded.now.layout (loaded.now.session + 1)) (D.state devices.new)) }
-    ensures stops { D.tells → EachCrash (λ _ _ image. IsCrashImageBut (IsSessionPlace loaded.now.layout (loaded.now.session + 1)) (now (D.state devices.old)) image) (D.state devices.old) (D.state devices.new) }
-    ensures cause { (dev : ℕ) → result ≡ Err (BeginFault.DeviceFault dev) → (dev < length (D.state devices.old).sizes) × RoseBy 1 (D.faults devices.old) (D.faults devices.new) }
-    ensures faults { D.faults devices.old ≤ D.faults devices.new }
-    ensures write_faults { D.write_faults devices.old ≤ D.write_faults devices.new }
-    ensures sizes { (D.state devices.new).sizes ≡ (D.state devices.old).sizes }
-    ensures moment { (D.state devices.old).moment ≤ (D.state devices.new).moment }
+    ensures crashes { D.tells → EachCrash (λ _ _ image. IsCrashImageBut (IsSessionPlace loaded.now.layout (loaded.now.session + 1)) (now (D.state devices.old)) image) (D.state devices.old) (D.state devices.new) }
+    ensures cause { (D.state devices.new).faults ≡ after_writes (failed_begin_device result) (D.state devices.old).faults }
+    ensures device { IfSome (failed_begin_device result) (λ dev. dev < length (D.state devices.old).sizes) }
+    ensures goes_on { GoOn (D.state devices.old) (D.state devices.new) }
 {
     if loaded.session >= LAST_SESSION {
         devices.count();

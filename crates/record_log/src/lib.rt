@@ -5,22 +5,14 @@
 //! it writes no more.
 #![tactic(auto)]
 
-mod acks;
 mod beginning;
-mod halt;
 mod laws;
 mod log;
-mod opening;
-mod shorts;
 mod writing;
 
-pub use acks::{Ack, Acks};
 pub use beginning::{BeginFault, begin_session};
-pub use halt::Halt;
 pub use laws::{beginning_is_survived, reading_is_survived};
 pub use log::{Finished, RecordLog};
-pub use opening::Opening;
-pub use shorts::Shorts;
 
 #[cfg(test)]
 mod tests;

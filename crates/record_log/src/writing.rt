@@ -1,13 +1,14 @@
-ghost use Rattle.std.specs.Prelude.{◌≡◌, ◌+◌, ◌<◌, ◌≤◌, ℕ, true, Some, Err, List, length, All, OnOk};
-ghost use Rattle.vol_types.specs.Faults.{RoseBy};
+ghost use Rattle.std.specs.Prelude.{◌≡◌, ◌+◌, ◌<◌, ◌≤◌, true, Some, List, length, All, OnOk, IfSome};
 ghost use Rattle.dev_model.specs.Disk.{Disk};
 ghost use Rattle.dev_model.specs.Devices.{now};
+ghost use Rattle.dev_model.specs.Frames.{GoOn, after_writes};
 ghost use Rattle.dev_model.specs.Crashes.{EachCrash, EachCrashNow, IsCrashImageBut};
+ghost use Rattle.geometry.specs.Faults.{failed_device};
 ghost use Rattle.geometry.specs.Layouts.{is_layout_of};
 ghost use Rattle.record_log.specs.Durable.{HasWritten, HoldRecord, IsFrom, IsLogPlace, Writes};
 
 use dev_model::Devices;
-use geometry::{DiskFault, flush_devices, write_mirrors};
+use geometry::{DiskFault, flush_devices, settle_mirrors};
 use log_records::{LOG_START, MadeFile, seal_record};
 use std::alloc::Global;
 use vol_types::Layout;
@@ -25,19 +26,17 @@ pub fn write_record<D: Devices>(
     requires fits { is_layout_of (D.state devices.old).sizes layout.now ≡ true }
     requires place { place < layout.now.journal }
     requires name { length file.now.name < 256 }
-    ensures cause { (dev : ℕ) → result ≡ Err (DiskFault.DeviceFault dev) → (dev < length (D.state devices.old).sizes) × RoseBy 1 (D.faults devices.old) (D.faults devices.new) × RoseBy 1 (D.write_faults devices.old) (D.write_faults devices.new) }
-    ensures faults { D.faults devices.old ≤ D.faults devices.new }
-    ensures write_faults { D.write_faults devices.old ≤ D.write_faults devices.new }
-    ensures sizes { (D.state devices.new).sizes ≡ (D.state devices.old).sizes }
-    ensures moment { (D.state devices.old).moment ≤ (D.state devices.new).moment }
+    ensures cause { (D.state devices.new).faults ≡ after_writes (failed_device result) (D.state devices.old).faults }
+    ensures device { IfSome (failed_device result) (λ dev. dev < length (D.state devices.old).sizes) }
+    ensures goes_on { GoOn (D.state devices.old) (D.state devices.new) }
     ensures held { D.tells → OnOk result (EachCrashNow (HoldRecord layout.now session place (Some file.now)) (D.state devices.new)) }
-    ensures stops { D.tells → EachCrash (λ _ _ image. IsCrashImageBut (IsLogPlace layout.now place) (now (D.state devices.old)) image) (D.state devices.old) (D.state devices.new) }
+    ensures crashes { D.tells → EachCrash (λ _ _ image. IsCrashImageBut (IsLogPlace layout.now place) (now (D.state devices.old)) image) (D.state devices.old) (D.state devices.new) }
 {
     let mut block = vec![in alloc; 0; 4096]?;
     seal_record(alloc, &layout.id, session, place, file, &mut block)?;
     let count = devices.count();
     flush_devices(devices, count)?;
-    write_mirrors(devices, layout.metadata_replicas, LOG_START + place, &block)
+    settle_mirrors(devices, layout.metadata_replicas, LOG_START + place, &block)
 }
 
 /// Writes the records of files into the log that begins at `base`, from the first that isn't durable on, and counts those that
@@ -58,13 +57,11 @@ pub fn write_files<D: Devices>(
     ensures ok { OnOk result (durable.new ≡ length files.now) }
     ensures rises { durable.old ≤ durable.new }
     ensures most { durable.new ≤ length files.now }
-    ensures cause { (dev : ℕ) → result ≡ Err (DiskFault.DeviceFault dev) → (dev < length (D.state devices.old).sizes) × RoseBy 1 (D.faults devices.old) (D.faults devices.new) × RoseBy 1 (D.write_faults devices.old) (D.write_faults devices.new) }
-    ensures faults { D.faults devices.old ≤ D.faults devices.new }
-    ensures write_faults { D.write_faults devices.old ≤ D.write_faults devices.new }
-    ensures sizes { (D.state devices.new).sizes ≡ (D.state devices.old).sizes }
-    ensures moment { (D.state devices.old).moment ≤ (D.state devices.new).moment }
+    ensures cause { (D.state devices.new).faults ≡ after_writes (failed_device result) (D.state devices.old).faults }
+    ensures device { IfSome (failed_device result) (λ dev. dev < length (D.state devices.old).sizes) }
+    ensures goes_on { GoOn (D.state devices.old) (D.state devices.new) }
 
-    // What a stop leaves meanwhile: at first what the session had written by then, whatever it started with.
+    // What a crash leaves meanwhile: at first what the session had written by then, whatever it started with.
     ensures kept { D.tells → EachCrash (λ _ _ image. IsCrashImageBut (IsFrom layout.now (base + durable.old)) (now (D.state devices.old)) image) (D.state devices.old) (D.state devices.new) }
     ensures written { D.tells → (start : List Disk) → EachCrashNow (HasWritten layout.now session start base durable.old files.now) (D.state devices.old) → Writes layout.now session start base durable.old durable.new files.now (D.state devices.old) (D.state devices.new) }
 {

@@ -1,6 +1,7 @@
 use Rattle.std.proofs.Common.{◌≡◌, ◌+◌, ◌≤◌, ◌<◌, ◌^◌, length, Some, refl, ◌∙◌, arith}
 use Rattle.std.specs.Prelude.{slice_get}
 use Rattle.std.proofs.lemmas.Option.{slice_get_read}
+use Rattle.dev_model.specs.FrameLaws.{go_on_here, go_on_then}
 use Rattle.geometry.specs.LayoutFacts.{has_places}
 use Rattle.record_log.specs.Durable.{IsFrom}
 use Rattle.record_log.proofs.WrittenRecords.{goes_at, untouched, writes_none, writes_not, writes_one}
@@ -13,10 +14,8 @@ loop-durable-init g c =
     record {
       rises = omega arith;
       most = c.requires.some;
-      faults = omega arith;
-      write_faults = omega arith;
-      sizes = refl;
-      moment = omega arith;
+      goes_on = go_on_here history;
+      faults = refl;
       kept = λ tells. untouched (IsFrom c.args.layout.now (c.args.base + c.args.durable.now)) history;
       written = λ tells start held. writes_none c.args.layout.now c.args.session start c.args.base c.args.files.now c.args.durable.now history held;
     }
@@ -37,13 +36,11 @@ loop-durable-preserved g c =
     record {
       rises = omega (arith, so_far.rises);
       most = omega (arith, c.loop-durable-test.true);
-      faults = omega (arith, so_far.faults, c.write_record.ensures.faults);
-      write_faults = omega (arith, so_far.write_faults, c.write_record.ensures.write_faults);
-      sizes = c.write_record.ensures.sizes ∙ so_far.sizes;
-      moment = omega (arith, so_far.moment, c.write_record.ensures.moment);
-      kept = λ tells. goes_at layout (base + first) (base + count) old mid new (omega (arith, so_far.rises)) (so_far.kept tells) (c.write_record.ensures.stops tells);
+      goes_on = go_on_then old mid new so_far.goes_on c.write_record.ensures.goes_on;
+      faults = c.in_ok-write_record.ensures.cause ∙ so_far.faults;
+      kept = λ tells. goes_at layout (base + first) (base + count) old mid new (omega (arith, so_far.rises)) (so_far.kept tells) (c.write_record.ensures.crashes tells);
       written = λ tells start held.
-          writes_one layout c.args.session start base files first count old mid new so_far.rises (so_far.written tells start held) (c.write_record.ensures.stops tells)
+          writes_one layout c.args.session start base files first count old mid new so_far.rises (so_far.written tells start held) (c.write_record.ensures.crashes tells)
           c.index-files-durable.result here (c.in_ok-write_record.ensures.held tells);
     }
 
@@ -55,14 +52,14 @@ returns-in_err-write_record-clause-kept g c tells =
     let count = c.loop-durable.durable in
     goes_at c.args.layout.now (base + first) (base + count) (D.state c.args.devices.now) (D.state c.loop-durable.devices) (D.state c.write_record.new.devices)
     (let le : base + first ≤ base + count = omega (arith, c.loop-durable.invariant.rises) in le)
-    (c.loop-durable.invariant.kept tells) (c.write_record.ensures.stops tells)
+    (c.loop-durable.invariant.kept tells) (c.write_record.ensures.crashes tells)
 
 pub returns-in_err-write_record-clause-written : goal.returns-in_err-write_record-clause-written
 returns-in_err-write_record-clause-written g c tells start held =
     let D = g.D.Devices in
     let so_far = c.loop-durable.invariant in
     writes_not c.args.layout.now c.args.session start c.args.base c.args.files.now c.args.durable.now c.loop-durable.durable (D.state c.args.devices.now) (D.state c.loop-durable.devices) (D.state c.write_record.new.devices)
-    so_far.rises (so_far.written tells start held) (c.write_record.ensures.stops tells)
+    so_far.rises (so_far.written tells start held) (c.write_record.ensures.crashes tells)
 
 pub overflow_cast-durable : goal.overflow_cast-durable
 overflow_cast-durable g c =

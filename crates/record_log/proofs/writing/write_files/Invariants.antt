@@ -1,6 +1,7 @@
 use Rattle.std.proofs.Common.{◌≡◌, ◌+◌, ◌≤◌, ◌-◌, List, length}
 use Rattle.dev_model.specs.Disk.{Disk}
 use Rattle.dev_model.specs.Devices.{now}
+use Rattle.dev_model.specs.Frames.{GoOn}
 use Rattle.dev_model.specs.Crashes.{EachCrash, EachCrashNow, IsCrashImageBut}
 use Rattle.record_log.specs.Durable.{HasWritten, IsFrom, Writes}
 use Rattle.record_log.proofs.writing.write_files.Given as goal
@@ -12,10 +13,8 @@ invariant-loop-durable g l =
     record {
       rises : first.durable ≤ l.durable;
       most : l.durable ≤ length l.files;
-      faults : D.faults first.devices ≤ D.faults l.devices;
-      write_faults : D.write_faults first.devices ≤ D.write_faults l.devices;
-      sizes : (D.state l.devices).sizes ≡ (D.state first.devices).sizes;
-      moment : (D.state first.devices).moment ≤ (D.state l.devices).moment;
+      goes_on : GoOn (D.state first.devices) (D.state l.devices);
+      faults : (D.state l.devices).faults ≡ (D.state first.devices).faults;
       kept : D.tells → EachCrash (λ _ _ image. IsCrashImageBut (IsFrom l.layout (l.base + first.durable)) (now (D.state first.devices)) image) (D.state first.devices) (D.state l.devices);
       written : D.tells → (start : List Disk) → EachCrashNow (HasWritten l.layout l.session start l.base first.durable l.files) (D.state first.devices) → Writes l.layout l.session start l.base first.durable l.durable l.files (D.state first.devices) (D.state l.devices);
     }

@@ -6,31 +6,31 @@ use Rattle.log_records.specs.Records.{owner_of, record_in}
 use Rattle.geometry.specs.Mirrors.{HoldMirrors}
 use Rattle.dev_model.specs.Crashes.{EachCrashNow}
 use Rattle.record_log.specs.Durable.{HoldRecord, IsLogPlace}
-use Rattle.record_log.proofs.WrittenRecords.{behind_flushes, on_ok, only_flushed}
+use Rattle.record_log.proofs.WrittenRecords.{after_flushes, on_ok, only_flushed}
 use Rattle.record_log.proofs.writing.write_record.Goals as goal
 
-pub returns-in_err-flush_devices-clause-stops : goal.returns-in_err-flush_devices-clause-stops
-returns-in_err-flush_devices-clause-stops g c tells =
-    only_flushed (IsLogPlace c.args.layout.now c.args.place) (g.D.Devices.state c.args.devices.now) (g.D.Devices.state c.flush_devices.new.devices) (c.flush_devices.ensures.stops tells)
+pub returns-in_err-flush_devices-clause-crashes : goal.returns-in_err-flush_devices-clause-crashes
+returns-in_err-flush_devices-clause-crashes g c tells =
+    only_flushed (IsLogPlace c.args.layout.now c.args.place) (g.D.Devices.state c.args.devices.now) (g.D.Devices.state c.flush_devices.new.devices) (c.flush_devices.ensures.crashes tells)
 
 pub overflow_add-place : goal.overflow_add-place
 overflow_add-place g c =
     let has = has_places (g.D.Devices.state c.args.devices.now).sizes c.args.layout.now c.requires.fits in
     let fits : 16 + c.args.place < 2 ^ 32 = omega (arith, c.requires.place, has.journal) in record { fits = fits }
 
-pub write_mirrors-requires-clause-mirrors : goal.write_mirrors-requires-clause-mirrors
-write_mirrors-requires-clause-mirrors g c =
+pub settle_mirrors-requires-clause-mirrors : goal.settle_mirrors-requires-clause-mirrors
+settle_mirrors-requires-clause-mirrors g c =
     let has = has_places (g.D.Devices.state c.args.devices.now).sizes c.args.layout.now c.requires.fits in
-    let few : c.args.layout.now.metadata_replicas ≤ length (g.D.Devices.state c.flush_devices.new.devices).sizes = omega (arith, has.mirrors, ap length c.flush_devices.ensures.sizes) in few
+    let few : c.args.layout.now.metadata_replicas ≤ length (g.D.Devices.state c.flush_devices.new.devices).sizes = omega (arith, has.mirrors, ap length c.flush_devices.ensures.goes_on.sizes) in few
 
-pub write_mirrors-requires-clause-places : goal.write_mirrors-requires-clause-places
-write_mirrors-requires-clause-places g c dev within =
-    subst (λ (sizes : List ℕ). 16 + c.args.place < get_or sizes dev 0) (sym c.flush_devices.ensures.sizes) (journal_place (g.D.Devices.state c.args.devices.now).sizes c.args.layout.now dev c.args.place c.requires.fits within c.requires.place)
+pub settle_mirrors-requires-clause-places : goal.settle_mirrors-requires-clause-places
+settle_mirrors-requires-clause-places g c dev within =
+    subst (λ (sizes : List ℕ). 16 + c.args.place < get_or sizes dev 0) (sym c.flush_devices.ensures.goes_on.sizes) (journal_place (g.D.Devices.state c.args.devices.now).sizes c.args.layout.now dev c.args.place c.requires.fits within c.requires.place)
 
-pub returns-clause-stops : goal.returns-clause-stops
-returns-clause-stops g c tells =
-    behind_flushes (IsLogPlace c.args.layout.now c.args.place) (g.D.Devices.state c.args.devices.now) (g.D.Devices.state c.flush_devices.new.devices) (g.D.Devices.state c.write_mirrors.new.devices)
-    (c.flush_devices.ensures.stops tells) (c.write_mirrors.ensures.stops tells)
+pub returns-clause-crashes : goal.returns-clause-crashes
+returns-clause-crashes g c tells =
+    after_flushes (IsLogPlace c.args.layout.now c.args.place) (g.D.Devices.state c.args.devices.now) (g.D.Devices.state c.flush_devices.new.devices) (g.D.Devices.state c.settle_mirrors.new.devices)
+    (c.flush_devices.ensures.crashes tells) (c.settle_mirrors.ensures.crashes tells)
 
 pub returns-clause-held : goal.returns-clause-held
 returns-clause-held g c tells =
@@ -38,14 +38,14 @@ returns-clause-held g c tells =
     let place = c.args.place in
     let file = c.args.file.now in
     let block = c.deref.result.now in
-    let history = g.D.Devices.state c.write_mirrors.new.devices in
+    let history = g.D.Devices.state c.settle_mirrors.new.devices in
     let sealed = c.seal_record.new.into in
     let whole : block ≡ sealed = c.deref.ensures.value ∙ take-append-le _ sealed _ (omega arith) ∙ take_all _ sealed (omega arith) in
     let spelled : record_in layout.id place block ≡ Some file = subst (λ (b : List ℕ). record_in layout.id place b ≡ Some file) (sym whole) c.in_ok-seal_record.ensures.found in
     let owned : owner_of block ≡ Some c.args.session = subst (λ (b : List ℕ). owner_of b ≡ Some c.args.session) (sym whole) c.in_ok-seal_record.ensures.owner in
-    on_ok c.write_mirrors.result (EachCrashNow (HoldMirrors layout.metadata_replicas (16 + place) block) history) (EachCrashNow (HoldRecord layout c.args.session place (Some file)) history)
+    on_ok c.settle_mirrors.result (EachCrashNow (HoldMirrors layout.metadata_replicas (16 + place) block) history) (EachCrashNow (HoldRecord layout c.args.session place (Some file)) history)
     (λ held image may. record {
       found = λ dev within. ap (option_and_then (record_in layout.id place)) (held image may dev within) ∙ spelled;
       owner = λ dev within. ap (option_and_then owner_of) (held image may dev within) ∙ owned;
     })
-    (c.write_mirrors.ensures.held tells)
+    (c.settle_mirrors.ensures.held tells)

@@ -6,4 +6,4 @@ pub invariant_of-result : goal.invariant_of-result
 invariant_of-result g c =
     sound_begun g.O.Opening.forest g.O.Opening.start g.D.Devices.tells _ _ c.args.loaded.forest (search rules) (search rules) (search rules)
     (sound_start g.O.Opening.forest g.O.Opening.start g.D.Devices.tells _ c.args.devices c.args.loaded.layout c.args.loaded.session c.args.loaded.records c.args.loaded.forest
-    c.requires.opening c.requires.fits c.requires.room c.requires.named c.requires.begun c.requires.later c.requires.faults c.requires.write_faults)
+    c.requires.opening c.requires.fits c.requires.room c.requires.named c.requires.begun c.requires.unfailed c.requires.goes_on)
