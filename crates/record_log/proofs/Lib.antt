@@ -1,3 +1,5 @@
+pub mod Kept
+pub mod HandedBeginning
 pub mod Holding
 pub mod Names
 pub mod Sound

@@ -12,7 +12,7 @@ use Rattle.dev_model.specs.Disk.{Disk, Image, IsCrashImage, as_read}
 use Rattle.dev_model.specs.Crashes.{EachCrash, EachCrashNow, IsCrashImageBut}
 use Rattle.geometry.specs.Sessions.{IsSessionPlace, session_in}
 use Rattle.dev_model.specs.Devices.{DevicesState, FaultCounts, now, risen, with_write_fault}
-use Rattle.dev_model.specs.Frames.{AreNoFewer, GoOn, after_writes}
+use Rattle.dev_model.specs.Frames.{GoOn}
 use Rattle.dev_model.specs.FrameLaws.{go_on_then}
 use Rattle.vol_types.specs.Faults.{RoseBy}
 use Rattle.dev_model.specs.Disk.{changed}
@@ -36,7 +36,7 @@ use Rattle.vol_types.specs.declared.layout.Layout.{Layout}
 use Rattle.geometry.specs.Layouts.{is_layout_of}
 use Rattle.record_log.specs.Durable.{HasWritten, IsOfSession, Writes}
 use Rattle.session_history.specs.Acknowledged.{RiseWithin, acknowledged, synced_count}
-use Rattle.session_history.specs.Failures.{AgreesWith, AreCounted, Halts, HaveCauses, IsHaltOf, NoCommitAfterHalt, device_faults, has_failed, has_halted, is_device_fault, is_fault_of, is_halted, is_sync, shows_halt}
+use Rattle.session_history.specs.Failures.{AgreesWith, AreCounted, Halts, HaveCauses, device_faults, has_failed, has_halted, is_device_fault, is_fault_of, is_halted, is_sync, shows_halt}
 use Rattle.record_log.specs.Exact.{IsExact, IsExactReply, IsSyncReply, file_reply, halt_after, is_full_after, log_short, refusal_or}
 use Rattle.record_log.specs.Log.{HasAcknowledged, IsListing, IsSound, KeepsAcks, KeepsFiles, KeepsHistory, KeepsRecords, Log, halt_or_none}
 use Rattle.session_history.specs.declared.acks.Ack.{Ack}
@@ -202,8 +202,8 @@ halts-push (Some halt) start state trace entry halts shown = record {
 }
 
 no_commit_shown : (halted : Option Halt) (start state : DevicesState) (trace : History) (op : Op) (reply : Reply) → Halts halted start state trace → IsShown halted op reply → has_halted trace ≡ true → changes op && is_done reply ≡ false
-no_commit_shown None start state trace op reply halts shown yes = absurd (false≢true (sym halts ∙ yes))
-no_commit_shown (Some halt) start state trace op reply halts shown yes = shown.1
+no_commit_shown None start state trace op reply halts shown before = absurd (false≢true (sym halts ∙ before))
+no_commit_shown (Some halt) start state trace op reply halts shown before = shown.1
 
 -- An entry that shows no halt agrees with any.
 agrees_unshown : (halt : Halt) (op : Op) (reply : Reply) → (is_halted reply || (is_sync op && is_device_fault reply)) ≡ false → AgreesWith halt op reply
@@ -343,7 +343,7 @@ history_failure opening base places start state trace keeps dev later goes_on ha
             (rose_once (slice_index_or start.faults.writes dev 0) 0 state.faults.writes dev has.writes at_first);
         agree = All-push (λ (e : Entry). AgreesWith halt e.op e.reply) trace entry (agree_unshown halt trace keeps.halts) (λ sync. refl);
       };
-      no_commit = EachEntry-push (λ before e. has_halted before ≡ true → is_commit (after_all opening before) e ≡ false) trace entry keeps.no_commit (λ yes. refl);
+      no_commit = EachEntry-push (λ before e. has_halted before ≡ true → is_commit (after_all opening before) e ≡ false) trace entry keeps.no_commit (λ before. refl);
       causes = record {
         calls = subst (λ (counts : List ℕ). AreCounted (trace ++ entry ∷ []) start.faults.calls counts) (sym calls) (counted_once trace start.faults.calls state.faults.calls dev has.calls keeps.causes.calls);
         writes = subst (λ (counts : List ℕ). AreCounted (trace ++ entry ∷ []) start.faults.writes counts) (sym writes) (counted_once trace start.faults.writes state.faults.writes dev has.writes keeps.causes.writes);

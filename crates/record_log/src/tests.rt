@@ -5,15 +5,16 @@ ghost use Rattle.geometry.specs.Layouts.{is_layout_of};
 ghost use Rattle.geometry.specs.Sessions.{session_in};
 ghost use Rattle.record_log.specs.Log.{IsFlat};
 
-use crate::{BeginFault, Finished, Opening, RecordLog, begin_session};
+use crate::{Finished, RecordLog, begin_session};
 use dev_model::{Devices, MemDevices, Pick};
 use geometry::{is_layout, read_session, session_bytes, write_super};
 use log_records::{Loaded, load, make_file_op};
 use plain_forest::{Cause, Op, Path, Reply, Trace};
+use session_history::Opening;
 use std::alloc::Global;
 use std::marker::Brand;
 use std::test::Fail;
-use vol_types::{Blocks, Bytes, Layout, NameList};
+use vol_types::{Blocks, Bytes, Layout, NameList, Place};
 
 const ID: [u8; 16] = [7; 16];
 
@@ -25,12 +26,12 @@ fn put(devices: &mut MemDevices, dev: u8, block: u32, bytes: &[u8]) -> Result<()
     if dev >= devices.count() || block >= devices.blocks(dev) || bytes.len() != 4096 {
         return Err(Fail::from("there is no such block"));
     }
-    devices.patch(dev, block, bytes)?;
+    devices.patch(&Place { dev, block }, bytes)?;
     Ok(())
 }
 
-// A volume of no commits on two devices, with its metadata on both, last written by this session.
-fn volume_of_session(alloc: Global, session: u64) -> Result<MemDevices, Fail> {
+// A volume of no commits on two devices, with its metadata on both, last written by session 1.
+fn volume(alloc: Global) -> Result<MemDevices, Fail> {
     let layout = Layout {
         id: ID,
         blocks: Blocks::from_slice(alloc, &[1024, 1024])?,
@@ -47,13 +48,9 @@ fn volume_of_session(alloc: Global, session: u64) -> Result<MemDevices, Fail> {
     put(&mut devices, 0, 0, &block)?;
     write_super(&layout, 1, 0, 1, &mut block);
     put(&mut devices, 1, 0, &block)?;
-    session_bytes(&ID, session, &mut block);
-    put(&mut devices, 0, 4 + (session % 2) as u32, &block)?;
+    session_bytes(&ID, 1, &mut block);
+    put(&mut devices, 0, 5, &block)?;
     Ok(devices)
-}
-
-fn volume(alloc: Global) -> Result<MemDevices, Fail> {
-    volume_of_session(alloc, 1)
 }
 
 // A session over the devices that makes a file for each letter, but lists the root at `L` and syncs at `S`: what it leaves.
@@ -77,17 +74,17 @@ fn session_from<D: Devices + Drop, O: Opening>(
     requires fits { is_layout_of (D.state devices).sizes loaded.layout ≡ true }
     requires room { loaded.records ≤ loaded.layout.journal }
     requires named { D.tells → session_in loaded.layout (as_read (now (D.state devices))) ≡ Some loaded.session }
-    requires start { O.start ≡ record { moments = D.state devices; sizes = (D.state devices).sizes; faults = D.faults devices; write_faults = D.write_faults devices } }
+    requires start { O.start ≡ D.state devices }
 {
     let mut devices = devices;
     begin_session(alloc, &mut devices, &loaded)?;
     let mut log = RecordLog::<D, O>::start(alloc, devices, loaded);
     for letter in letters {
         match *letter {
-            b'L' => log.call(&root_listing(alloc)?)?,
-            b'S' => log.call(&Op::Sync)?,
-            name => log.call(&make_file_op(alloc, &Bytes::from_slice(alloc, &[name])?)?)?,
-        }
+            b'L' => log.call(root_listing(alloc)?)?,
+            b'S' => log.call(Op::Sync)?,
+            name => log.call(make_file_op(alloc, &Bytes::from_slice(alloc, &[name])?)?)?,
+        };
     }
     Ok(log.finish())
 }
@@ -142,22 +139,6 @@ fn replies_of_a_session(rt: HostRuntime) -> Result<(), Fail> {
     Ok(())
 }
 
-// Each sync that succeeds is acknowledged, at the moment behind its last flush.
-#[test]
-fn syncs_are_acknowledged(rt: HostRuntime) -> Result<(), Fail> {
-    let alloc = rt.alloc();
-    let finished = session(alloc, volume(alloc)?, b"SabSSc")?;
-    let counts: [u64; 3] = [0, 2, 2];
-    assert!(rt; finished.acks.len() == counts.len());
-    for (ack, count) in finished.acks.as_slice().iter().zip(counts.iter()) {
-        assert_eq!(rt; ack.commits, *count);
-    }
-    let moments = finished.acks.as_slice();
-    assert!(rt; moments[0].moment < moments[1].moment);
-    assert!(rt; moments[1].moment == moments[2].moment);
-    Ok(())
-}
-
 #[test]
 fn made_files_are_mounted_again(rt: HostRuntime) -> Result<(), Fail> {
     let alloc = rt.alloc();
@@ -171,37 +152,6 @@ fn made_files_are_mounted_again(rt: HostRuntime) -> Result<(), Fail> {
     assert_eq!(rt; names.len(), 2);
     assert!(rt; names.as_slice()[0].name.as_slice() == b"a".as_slice());
     assert!(rt; names.as_slice()[1].name.as_slice() == b"b".as_slice());
-    Ok(())
-}
-
-// The last number may be taken, and then there is none.
-#[test]
-fn sessions_end(rt: HostRuntime) -> Result<(), Fail> {
-    let alloc = rt.alloc();
-    let finished = session(alloc, volume_of_session(alloc, 4_294_967_294)?, b"a")?;
-    let mut devices = finished.devices.restart(Pick::AllWritten)?;
-    let loaded = load(alloc, &mut devices)?;
-    assert!(rt; loaded.session == 4_294_967_295);
-    let before = devices.moment();
-    assert!(rt; begin_session(alloc, &mut devices, &loaded) == Err(BeginFault::Spent));
-    assert!(rt; devices.moment() == before);
-    Ok(())
-}
-
-// Of 256 places the last is taken, and then the log is full.
-#[test]
-fn a_full_log(rt: HostRuntime) -> Result<(), Fail> {
-    let alloc = rt.alloc();
-    let mut letters = vec![in alloc; 0; 0]?;
-    for letter in 0..=255 {
-        if ![b'.', b'/', 0, b'L', b'S'].contains(&letter) {
-            letters.push(letter)?;
-        }
-    }
-    letters.push(b'S')?;
-    let finished = session(alloc, volume(alloc)?, &letters)?;
-    let mut devices = finished.devices.restart(Pick::AllWritten)?;
-    assert!(rt; load(alloc, &mut devices)?.records == 251);
     Ok(())
 }
 
@@ -221,20 +171,5 @@ fn a_failed_call_halts_the_session(rt: HostRuntime) -> Result<(), Fail> {
         assert!(rt; answers.len() == expected.len());
         assert!(rt; finished.halted.is_some() == expected.contains(&b'd'));
     }
-    Ok(())
-}
-
-// The number stands on both metadata devices.
-#[test]
-fn the_session_is_sealed_on_both(rt: HostRuntime) -> Result<(), Fail> {
-    let alloc = rt.alloc();
-    let finished = session(alloc, volume(alloc)?, b"")?;
-    let mut devices = finished.devices.restart(Pick::NoneWritten)?;
-    let mut zeros = vec![in alloc; 0; 4096]?;
-    let loaded = load(alloc, &mut devices)?;
-    assert!(rt; loaded.session == 2);
-    zeros.fill(0);
-    put(&mut devices, 0, 4, &zeros)?;
-    assert!(rt; load(alloc, &mut devices)?.session == 2);
     Ok(())
 }

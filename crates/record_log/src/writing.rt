@@ -1,9 +1,10 @@
 ghost use Rattle.std.specs.Prelude.{◌≡◌, ◌+◌, ◌<◌, ◌≤◌, true, Some, List, length, All, OnOk, IfSome};
-ghost use Rattle.dev_model.specs.Disk.{Disk};
+ghost use Rattle.dev_model.specs.Disk.{Disk, IsCrashImage};
 ghost use Rattle.dev_model.specs.Devices.{now};
 ghost use Rattle.dev_model.specs.Frames.{GoOn, after_writes};
 ghost use Rattle.dev_model.specs.Crashes.{EachCrash, EachCrashNow, IsCrashImageBut};
 ghost use Rattle.geometry.specs.Faults.{failed_device};
+ghost use Rattle.geometry.specs.Mirrors.{NamesOneOf};
 ghost use Rattle.geometry.specs.Layouts.{is_layout_of};
 ghost use Rattle.record_log.specs.Durable.{HasWritten, HoldRecord, IsFrom, IsLogPlace, Writes};
 
@@ -12,6 +13,17 @@ use geometry::{DiskFault, flush_devices, settle_mirrors};
 use log_records::{LOG_START, MadeFile, seal_record};
 use std::alloc::Global;
 use vol_types::Layout;
+
+// Flushes every device.
+fn flush_all<D: Devices>(devices: &mut D) -> Result<(), DiskFault>
+    ensures crashes { D.tells → EachCrash (λ _ _ image. IsCrashImage (now (D.state devices.old)) image) (D.state devices.old) (D.state devices.new) }
+    ensures cause { (D.state devices.new).faults ≡ after_writes (failed_device result) (D.state devices.old).faults }
+    ensures device { NamesOneOf (length (D.state devices.old).sizes) result }
+    ensures goes_on { GoOn (D.state devices.old) (D.state devices.new) }
+{
+    let count = devices.count();
+    flush_devices(devices, count)
+}
 
 /// Writes the record of a file at a place of the log: flushes every device, writes the record on each metadata device, and
 /// flushes these.
@@ -34,8 +46,7 @@ pub fn write_record<D: Devices>(
 {
     let mut block = vec![in alloc; 0; 4096]?;
     seal_record(alloc, &layout.id, session, place, file, &mut block)?;
-    let count = devices.count();
-    flush_devices(devices, count)?;
+    flush_all(devices)?;
     settle_mirrors(devices, layout.metadata_replicas, LOG_START + place, &block)
 }
 
