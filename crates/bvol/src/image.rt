@@ -9,7 +9,7 @@ use std::rt::Files;
 /// The bytes of a block.
 const BLOCK_SIZE: u64 = 4096;
 
-/// A file that holds a device's blocks: its whole pieces of 4,096 bytes. Only `extend` changes the bytes behind them.
+/// A file that holds a device's blocks: its whole pieces of 4,096 bytes. Only `extend` changes the bytes after them.
 #[derive(Drop)]
 pub struct Image<F: Drop> {
     file: F,
@@ -24,10 +24,17 @@ pub fn open_image<R: Files>(files: &R, path: &str) -> io::Result<Image<R::File>>
     // so no reply is written over a block.
     let mut file = opened.try_clone()?;
     let bytes = file.seek(SeekFrom::End(0))?;
-    Ok(Image {
+    Ok(image_of(file, bytes))
+}
+
+// A file of so many bytes: its blocks are its whole pieces of 4,096 bytes.
+fn image_of<F: Drop>(file: F, bytes: u64) -> Image<F>
+    ensures { result.blocks ≡ min (bytes / 4096) (2 ^ 32 - 1) }
+{
+    Image {
         file,
         blocks: whole_blocks(bytes),
-    })
+    }
 }
 
 impl Image<File> {
@@ -67,7 +74,7 @@ impl<F: FileExt + OpenFile + Drop> Image<F> {
         self.file.sync_data()
     }
 
-    /// Makes the file longer, by zero blocks in place of the bytes behind its blocks.
+    /// Makes the file longer, by zero blocks in place of the bytes after its blocks.
     pub fn extend(&mut self, blocks: u32) -> io::Result<()>
         ensures longer { OnOk result (self.new.blocks ≡ max self.old.blocks blocks) }
         ensures failed { OnErr result (self.new.blocks ≡ self.old.blocks) }

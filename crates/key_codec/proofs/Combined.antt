@@ -14,12 +14,12 @@ use Rattle.key_codec.specs.Formats.{FormatOf, ◌>>=◌, first_byte, first_bytes
 
 -- ---- steps that may fail
 
--- a step that did not fail, and the one behind it
+-- a step that did not fail, and the one after it
 pub bind_ok : {E A B : Type 0} (r : Result A E) (f : A → Result B E) (y : B) → (r >>= f) ≡ Ok y → (x : A) × (r ≡ Ok x) × (f x ≡ Ok y)
 bind_ok (Ok x) f y e = (x, refl, e)
 bind_ok (Err d) f y e = absurd cc
 
--- a step that failed, or the one behind it
+-- a step that failed, or the one after it
 pub bind_err : {E A B : Type 0} (r : Result A E) (f : A → Result B E) (fault : E) → (r >>= f) ≡ Err fault → (r ≡ Err fault) ⊎ ((x : A) × (r ≡ Ok x) × (f x ≡ Err fault))
 bind_err (Ok x) f fault e = inr (x, refl, e)
 bind_err (Err d) f fault e = let same : d ≡ fault = cc in inl (ap (λ d. Err d) same)
@@ -54,26 +54,26 @@ short_only false x fault e = absurd cc
 
 -- ---- bytes
 
-pub AreBytes-behind : (front rest : List ℕ) → AreBytes (front ++ rest) → AreBytes rest
-AreBytes-behind [] rest are = are
-AreBytes-behind (b ∷ front) rest are = AreBytes-behind front rest (λ k d lt. are (suc k) d (omega arith))
+pub AreBytes-after : (prefix rest : List ℕ) → AreBytes (prefix ++ rest) → AreBytes rest
+AreBytes-after [] rest are = are
+AreBytes-after (b ∷ prefix) rest are = AreBytes-after prefix rest (λ k d lt. are (suc k) d (omega arith))
 
-pub AreBytes-front : (front rest : List ℕ) → AreBytes (front ++ rest) → AreBytes front
-AreBytes-front front rest are = λ k d lt.
-    let same : get_or (front ++ rest) k d ≡ get_or front k d = get_or_append_left front rest d k lt in
-    subst (λ b. b < 256) same (are k d (omega (arith, length-append front rest)))
+pub AreBytes-prefix : (prefix rest : List ℕ) → AreBytes (prefix ++ rest) → AreBytes prefix
+AreBytes-prefix prefix rest are = λ k d lt.
+    let same : get_or (prefix ++ rest) k d ≡ get_or prefix k d = get_or_append_left prefix rest d k lt in
+    subst (λ b. b < 256) same (are k d (omega (arith, length-append prefix rest)))
 
--- Where two cuts of a list meet: the second is within the first part, or behind it.
-meet : (first second front rest : List ℕ) → first ++ second ≡ front ++ rest
-    → ((more : List ℕ) × (first ≡ front ++ more) × (0 < length more)) ⊎ ((middle : List ℕ) × (front ≡ first ++ middle) × (second ≡ middle ++ rest))
-meet [] second front rest e = inr (front, refl, e)
+-- Where two cuts of a list meet: the second is within the first part, or after it.
+meet : (first second prefix rest : List ℕ) → first ++ second ≡ prefix ++ rest
+    → ((more : List ℕ) × (first ≡ prefix ++ more) × (0 < length more)) ⊎ ((middle : List ℕ) × (prefix ≡ first ++ middle) × (second ≡ middle ++ rest))
+meet [] second prefix rest e = inr (prefix, refl, e)
 meet (a ∷ first) second [] rest e = inl (a ∷ first, refl, omega arith)
-meet (a ∷ first) second (b ∷ front) rest e =
+meet (a ∷ first) second (b ∷ prefix) rest e =
     let heads : a ≡ b = cc in
-    let tails : first ++ second ≡ front ++ rest = cc in
-    elim (meet first second front rest tails) [
-      | inl w ↦ let same : a ∷ first ≡ b ∷ (front ++ w.0) = cc in inl (w.0, same, w.2)
-      | inr w ↦ let same : b ∷ front ≡ a ∷ (first ++ w.0) = cc in inr (w.0, same, w.2)
+    let tails : first ++ second ≡ prefix ++ rest = cc in
+    elim (meet first second prefix rest tails) [
+      | inl w ↦ let same : a ∷ first ≡ b ∷ (prefix ++ w.0) = cc in inl (w.0, same, w.2)
+      | inr w ↦ let same : b ∷ prefix ≡ a ∷ (first ++ w.0) = cc in inr (w.0, same, w.2)
     ]
 
 -- ---- formats
@@ -82,21 +82,21 @@ meet (a ∷ first) second (b ∷ front) rest e =
 pub longer : {E A : Type 0} {short : E} (Fits : A → Type 0) (format : FormatOf E A) → IsExactBut short Fits format → (bytes more : List ℕ) (x : A) (rest : List ℕ) → AreBytes bytes → format.read bytes ≡ Ok (x, rest) → format.read (bytes ++ more) ≡ Ok (x, rest ++ more)
 longer Fits format exact bytes more x rest are e =
     let f = exact.found bytes x rest are e in
-    let whole : bytes ++ more ≡ format.spell x ++ (rest ++ more) = ap (λ b. b ++ more) f.1 ∙ append_assoc (format.spell x) rest more in
+    let whole : bytes ++ more ≡ format.encode x ++ (rest ++ more) = ap (λ b. b ++ more) f.1 ∙ append_assoc (format.encode x) rest more in
     ap format.read whole ∙ exact.only x (rest ++ more) f.0
 
--- The bytes behind what was read are bytes.
+-- The bytes after what was read are bytes.
 pub AreBytes-rest : {E A : Type 0} {short : E} (Fits : A → Type 0) (format : FormatOf E A) → IsExactBut short Fits format → (bytes : List ℕ) (x : A) (rest : List ℕ) → AreBytes bytes → format.read bytes ≡ Ok (x, rest) → AreBytes rest
 AreBytes-rest Fits format exact bytes x rest are e =
     let f = exact.found bytes x rest are e in
-    AreBytes-behind (format.spell x) rest (subst (λ b. AreBytes b) f.1 are)
+    AreBytes-after (format.encode x) rest (subst (λ b. AreBytes b) f.1 are)
 
 -- The same values fit.
 pub refit : {E A : Type 0} {short : E} (F G : A → Type 0) (format : FormatOf E A) → ((x : A) → F x → G x) → ((x : A) → G x → F x) → IsExactBut short F format → IsExactBut short G format
 refit F G format to from exact = record {
   found = λ bytes x rest are e. let f = exact.found bytes x rest are e in (to x f.0, f.1);
   only = λ x rest fits. exact.only x rest (from x fits);
-  cut = λ x front rest fits e some. exact.cut x front rest (from x fits) e some;
+  cut = λ x prefix rest fits e some. exact.cut x prefix rest (from x fits) e some;
   settled = exact.settled;
 }
 
@@ -105,11 +105,11 @@ u8_found [] x rest are e = absurd cc
 u8_found (b ∷ bytes) x rest are e =
     subst (λ (p : ℕ × List ℕ). (p.0 < 256) × (b ∷ bytes ≡ p.0 ∷ p.1)) (ok_is (b, bytes) (x, rest) e) (are 0 0 (omega arith), refl)
 
-u8_cut : (x : ℕ) (front rest : List ℕ) → x ∷ [] ≡ front ++ rest → 0 < length rest → first_byte front ≡ Err Short
+u8_cut : (x : ℕ) (prefix rest : List ℕ) → x ∷ [] ≡ prefix ++ rest → 0 < length rest → first_byte prefix ≡ Err Short
 u8_cut x [] rest e some = refl
-u8_cut x (b ∷ front) rest e some =
-    let tails : [] ≡ front ++ rest = cc in
-    absurd (omega (arith, ap length tails, length-append front rest, some))
+u8_cut x (b ∷ prefix) rest e some =
+    let tails : [] ≡ prefix ++ rest = cc in
+    absurd (omega (arith, ap length tails, length-append prefix rest, some))
 
 u8_settled : (bytes more : List ℕ) (fault : KeyFault) → fault ≢ Short → first_byte bytes ≡ Err fault → first_byte (bytes ++ more) ≡ Err fault
 u8_settled [] more fault other e = let same : fault ≡ Short = cc in absurd (other same)
@@ -121,7 +121,7 @@ unfolding u8_byte
 u8_byte-exact = record {
   found = u8_found;
   only = λ x rest fits. refl;
-  cut = λ x front rest fits e some. u8_cut x front rest e some;
+  cut = λ x prefix rest fits e some. u8_cut x prefix rest e some;
   settled = λ bytes more fault are other e. u8_settled bytes more fault other e;
 }
 
@@ -136,9 +136,9 @@ fixed_only n x rest size =
     let long : ltb (length (x ++ rest)) n ≡ false = le-ltb _ _ (omega (arith, length-append x rest)) in
     rw (long, take_at x rest n size, drop_at x rest n size) refl
 
-fixed_cut : (n : ℕ) (x front rest : List ℕ) → length x ≡ n → x ≡ front ++ rest → 0 < length rest → first_bytes n front ≡ Err Short
-fixed_cut n x front rest size e some =
-    let short : ltb (length front) n ≡ true = lt-ltb _ _ (omega (arith, ap length e, length-append front rest)) in
+fixed_cut : (n : ℕ) (x prefix rest : List ℕ) → length x ≡ n → x ≡ prefix ++ rest → 0 < length rest → first_bytes n prefix ≡ Err Short
+fixed_cut n x prefix rest size e some =
+    let short : ltb (length prefix) n ≡ true = lt-ltb _ _ (omega (arith, ap length e, length-append prefix rest)) in
     rw short refl
 
 -- So many bytes are exact.
@@ -146,7 +146,7 @@ pub fixed-exact : (n : ℕ) → IsExact (λ bytes. (length bytes ≡ n) × AreBy
 fixed-exact n = record {
   found = fixed_found n;
   only = λ x rest fits. fixed_only n x rest fits.0;
-  cut = λ x front rest fits e some. fixed_cut n x front rest fits.0 e some;
+  cut = λ x prefix rest fits e some. fixed_cut n x prefix rest fits.0 e some;
   settled = λ bytes more fault are other e. absurd (other (short_only (ltb (length bytes) n) (take n bytes, drop n bytes) fault e));
 }
 
@@ -160,9 +160,9 @@ mapped-exact {E} {A} {B} F G format make see to from exact =
           let b = bind_ok (format.read bytes) next (y, rest) e in
           let f = exact.found bytes b.0.0 b.0.1 are b.1 in
           let t = to b.0.0 f.0 in
-          subst (λ (p : B × List ℕ). G p.0 × (bytes ≡ format.spell (see p.0) ++ p.1)) (ok_is (make b.0.0, b.0.1) (y, rest) b.2) (t.0, f.1 ∙ ap (λ s. format.spell s ++ b.0.1) (sym t.1));
+          subst (λ (p : B × List ℕ). G p.0 × (bytes ≡ format.encode (see p.0) ++ p.1)) (ok_is (make b.0.0, b.0.1) (y, rest) b.2) (t.0, f.1 ∙ ap (λ s. format.encode s ++ b.0.1) (sym t.1));
       only = λ y rest fits. let f = from y fits in ap (λ r. r >>= next) (exact.only (see y) rest f.0) ∙ ap (λ z. Ok (z, rest)) f.1;
-      cut = λ y front rest fits e some. ap (λ r. r >>= next) (exact.cut (see y) front rest (from y fits).0 e some);
+      cut = λ y prefix rest fits e some. ap (λ r. r >>= next) (exact.cut (see y) prefix rest (from y fits).0 e some);
       settled = λ bytes more fault are other e.
           elim (bind_err (format.read bytes) next fault e) [
             | inl p ↦ ap (λ r. r >>= next) (exact.settled bytes more fault are other p)
@@ -179,9 +179,9 @@ checked_by-exact {E} {A} F format test bad exact =
           let b = bind_ok (format.read bytes) next (y, rest) e in
           let g = guard_ok (test b.0.0) (bad b.0.0) b.0 (y, rest) b.2 in
           let f = exact.found bytes b.0.0 b.0.1 are b.1 in
-          subst (λ (p : A × List ℕ). (F p.0 × (test p.0 ≡ true)) × (bytes ≡ format.spell p.0 ++ p.1)) g.1 ((f.0, g.0), f.1);
+          subst (λ (p : A × List ℕ). (F p.0 × (test p.0 ≡ true)) × (bytes ≡ format.encode p.0 ++ p.1)) g.1 ((f.0, g.0), f.1);
       only = λ y rest fits. ap (λ r. r >>= next) (exact.only y rest fits.0) ∙ ap (λ b. cond b (Ok (y, rest)) (Err (bad y))) fits.1;
-      cut = λ y front rest fits e some. ap (λ r. r >>= next) (exact.cut y front rest fits.0 e some);
+      cut = λ y prefix rest fits e some. ap (λ r. r >>= next) (exact.cut y prefix rest fits.0 e some);
       settled = λ bytes more fault are other e.
           elim (bind_err (format.read bytes) next fault e) [
             | inl p ↦ ap (λ r. r >>= next) (exact.settled bytes more fault are other p)
@@ -203,12 +203,12 @@ carried_err : {E F X : Type 0} (named : F → E) (read : Result X F) (fault : E)
 carried_err named (Ok y) fault e = absurd cc
 carried_err named (Err first) fault e = let same : named first ≡ fault = cc in (first, refl, same)
 
--- A format whose faults are named otherwise is exact, where a spelling that is cut keeps its fault.
+-- A format whose faults are named otherwise is exact, where a encoding that is cut keeps its fault.
 pub lifted-exact : {E F A : Type 0} {short : E} {cut : F} (P : A → Type 0) (named : F → E) (format : FormatOf F A) → named cut ≡ short → IsExactBut cut P format → IsExactBut short P (lifted named format)
 lifted-exact {E} {F} {A} {short} {cut} P named format same exact = record {
   found = λ bytes x rest are e. exact.found bytes x rest are (carried_ok named (format.read bytes) (x, rest) e);
   only = λ x rest fits. ap (carried named) (exact.only x rest fits);
-  cut = λ x front rest fits e some. ap (carried named) (exact.cut x front rest fits e some) ∙ ap (λ fault. Err fault) same;
+  cut = λ x prefix rest fits e some. ap (carried named) (exact.cut x prefix rest fits e some) ∙ ap (λ fault. Err fault) same;
   settled = λ bytes more fault are other e.
       let first = carried_err named (format.read bytes) fault e in
       ap (carried named) (exact.settled bytes more first.0 are (λ is_cut. other (sym first.2 ∙ ap named is_cut ∙ same)) first.1) ∙ ap (λ f. Err f) first.2;
@@ -227,15 +227,15 @@ followed-exact {E} {A} {B} F G first second exact then_exact =
           let are' = AreBytes-rest F first exact bytes b.0.0 b.0.1 are b.1 in
           let d = bind_ok ((second b.0.0).read b.0.1) (last b.0.0) (z, rest) b.2 in
           let g = (then_exact b.0.0).found b.0.1 d.0.0 d.0.1 are' d.1 in
-          let spelled : bytes ≡ (first.spell b.0.0 ++ (second b.0.0).spell d.0.0) ++ d.0.1 = f.1 ∙ ap (λ r. first.spell b.0.0 ++ r) g.1 ∙ sym (append_assoc (first.spell b.0.0) ((second b.0.0).spell d.0.0) d.0.1) in
-          subst (λ (p : (A × B) × List ℕ). (F p.0.0 × G p.0.0 p.0.1) × (bytes ≡ (first.spell p.0.0 ++ (second p.0.0).spell p.0.1) ++ p.1)) (ok_is ((b.0.0, d.0.0), d.0.1) (z, rest) d.2) ((f.0, g.0), spelled);
+          let encoded : bytes ≡ (first.encode b.0.0 ++ (second b.0.0).encode d.0.0) ++ d.0.1 = f.1 ∙ ap (λ r. first.encode b.0.0 ++ r) g.1 ∙ sym (append_assoc (first.encode b.0.0) ((second b.0.0).encode d.0.0) d.0.1) in
+          subst (λ (p : (A × B) × List ℕ). (F p.0.0 × G p.0.0 p.0.1) × (bytes ≡ (first.encode p.0.0 ++ (second p.0.0).encode p.0.1) ++ p.1)) (ok_is ((b.0.0, d.0.0), d.0.1) (z, rest) d.2) ((f.0, g.0), encoded);
       only = λ z rest fits.
-          ap (λ b. first.read b >>= next) (append_assoc (first.spell z.0) ((second z.0).spell z.1) rest)
-          ∙ ap (λ r. r >>= next) (exact.only z.0 ((second z.0).spell z.1 ++ rest) fits.0)
+          ap (λ b. first.read b >>= next) (append_assoc (first.encode z.0) ((second z.0).encode z.1) rest)
+          ∙ ap (λ r. r >>= next) (exact.only z.0 ((second z.0).encode z.1 ++ rest) fits.0)
           ∙ ap (λ r. r >>= last z.0) ((then_exact z.0).only z.1 rest fits.1);
-      cut = λ z front rest fits e some.
-          elim (meet (first.spell z.0) ((second z.0).spell z.1) front rest e) [
-            | inl w ↦ ap (λ r. r >>= next) (exact.cut z.0 front w.0 fits.0 w.1 w.2)
+      cut = λ z prefix rest fits e some.
+          elim (meet (first.encode z.0) ((second z.0).encode z.1) prefix rest e) [
+            | inl w ↦ ap (λ r. r >>= next) (exact.cut z.0 prefix w.0 fits.0 w.1 w.2)
             | inr w ↦ ap (λ b. first.read b >>= next) w.1 ∙ ap (λ r. r >>= next) (exact.only z.0 w.0 fits.0) ∙ ap (λ r. r >>= last z.0) ((then_exact z.0).cut z.1 w.0 rest fits.1 w.2 some)
           ];
       settled = λ bytes more fault are other e.
@@ -255,14 +255,14 @@ both-exact F G first second exact then_exact = followed-exact F (λ _ y. G y) fi
 
 -- ---- lists
 
--- Each item fits behind the one before it.
+-- Each item fits after the one before it.
 abbrev pub FitFrom : {A : Type 0} → (Option A → A → Type 0) → Option A → List A → Type 0
 FitFrom F before [] = ⊤
 FitFrom F before (x ∷ xs) = F before x × FitFrom F (Some x) xs
 
--- so many items behind another
+-- so many items after another
 abbrev pub items_from : {E A : Type 0} → (Option A → FormatOf E A) → Option A → ℕ → FormatOf E (List A)
-items_from item before n = record { spell = flat_map (item None).spell; read = read_items item before n }
+items_from item before n = record { encode = flat_map (item None).encode; read = read_items item before n }
 
 abbrev as_pair : {E A : Type 0} → A → List A × List ℕ → Result ((A × List A) × List ℕ) E
 as_pair x xs = Ok ((x, xs.0), xs.1)
@@ -280,26 +280,26 @@ paired : {E A : Type 0} (r : Result (A × List ℕ) E) (s : A × List ℕ → Re
 paired (Ok x) s = paired_again x.0 (s x)
 paired (Err fault) s = refl
 
--- The spelling of the items doesn't depend on the one before.
-abbrev pub SpellsAlike : {E A : Type 0} → (Option A → FormatOf E A) → Type 0
-SpellsAlike {E} {A} item = (before : Option A) (x : A) → (item before).spell x ≡ (item None).spell x
+-- The encoding of the items doesn't depend on the one before.
+abbrev pub EncodesAlike : {E A : Type 0} → (Option A → FormatOf E A) → Type 0
+EncodesAlike {E} {A} item = (before : Option A) (x : A) → (item before).encode x ≡ (item None).encode x
 
-seam : {E A : Type 0} (item : Option A → FormatOf E A) → SpellsAlike item → (before : Option A) (x : A) (xs : List A) → (item before).spell x ++ flat_map (item None).spell xs ≡ flat_map (item None).spell (x ∷ xs)
-seam item alike before x xs = ap (λ s. s ++ flat_map (item None).spell xs) (alike before x) ∙ sym (flat_map-cons (item None).spell x xs)
+seam : {E A : Type 0} (item : Option A → FormatOf E A) → EncodesAlike item → (before : Option A) (x : A) (xs : List A) → (item before).encode x ++ flat_map (item None).encode xs ≡ flat_map (item None).encode (x ∷ xs)
+seam item alike before x xs = ap (λ s. s ++ flat_map (item None).encode xs) (alike before x) ∙ sym (flat_map-cons (item None).encode x xs)
 
-none_only : {E A : Type 0} (item : Option A → FormatOf E A) (before : Option A) (xs : List A) (rest : List ℕ) → length xs ≡ 0 → read_items item before 0 (flat_map (item None).spell xs ++ rest) ≡ Ok (xs, rest)
+none_only : {E A : Type 0} (item : Option A → FormatOf E A) (before : Option A) (xs : List A) (rest : List ℕ) → length xs ≡ 0 → read_items item before 0 (flat_map (item None).encode xs ++ rest) ≡ Ok (xs, rest)
 none_only item before [] rest size = refl
 none_only item before (x ∷ xs) rest size = absurd (omega arith)
 
-none_cut : {A : Type 0} (spell : A → List ℕ) (xs : List A) (front rest : List ℕ) → length xs ≡ 0 → flat_map spell xs ≡ front ++ rest → 0 < length rest → ⊥
-none_cut spell [] front rest size e some = omega (arith, ap length e, length-append front rest)
-none_cut spell (x ∷ xs) front rest size e some = omega arith
+none_cut : {A : Type 0} (encode : A → List ℕ) (xs : List A) (prefix rest : List ℕ) → length xs ≡ 0 → flat_map encode xs ≡ prefix ++ rest → 0 < length rest → ⊥
+none_cut encode [] prefix rest size e some = omega (arith, ap length e, length-append prefix rest)
+none_cut encode (x ∷ xs) prefix rest size e some = omega arith
 
 none-exact : {E A : Type 0} {short : E} (F : Option A → A → Type 0) (item : Option A → FormatOf E A) (before : Option A) → IsExactBut short (λ xs. FitFrom F before xs × (length xs ≡ 0)) (items_from item before 0)
 none-exact {E} {A} F item before = record {
-  found = λ bytes xs rest are e. subst (λ (p : List A × List ℕ). (FitFrom F before p.0 × (length p.0 ≡ 0)) × (bytes ≡ flat_map (item None).spell p.0 ++ p.1)) (ok_is ([], bytes) (xs, rest) e) ((tt, refl), refl);
+  found = λ bytes xs rest are e. subst (λ (p : List A × List ℕ). (FitFrom F before p.0 × (length p.0 ≡ 0)) × (bytes ≡ flat_map (item None).encode p.0 ++ p.1)) (ok_is ([], bytes) (xs, rest) e) ((tt, refl), refl);
   only = λ xs rest fits. none_only item before xs rest fits.1;
-  cut = λ xs front rest fits e some. absurd (none_cut (item None).spell xs front rest fits.1 e some);
+  cut = λ xs prefix rest fits e some. absurd (none_cut (item None).encode xs prefix rest fits.1 e some);
   settled = λ bytes more fault are other e. absurd (ok_no_err ([], bytes) fault e);
 }
 
@@ -313,30 +313,30 @@ PairFits F before n p = F before p.0 × (FitFrom F (Some p.0) p.1 × (length p.1
 pairs : {E A : Type 0} (item : Option A → FormatOf E A) (before : Option A) (n : ℕ) (bytes : List ℕ) → read_items item before (suc n) bytes ≡ ((pair_of item before n).read bytes >>= joined)
 pairs item before n bytes = paired ((item before).read bytes) (λ x. read_items item (Some x.0) n x.1)
 
-more_only : {E A : Type 0} {short : E} (F : Option A → A → Type 0) (item : Option A → FormatOf E A) → SpellsAlike item → (before : Option A) (n : ℕ) → IsExactBut short (PairFits F before n) (pair_of item before n)
-    → (xs : List A) (rest : List ℕ) → FitFrom F before xs → length xs ≡ suc n → read_items item before (suc n) (flat_map (item None).spell xs ++ rest) ≡ Ok (xs, rest)
+more_only : {E A : Type 0} {short : E} (F : Option A → A → Type 0) (item : Option A → FormatOf E A) → EncodesAlike item → (before : Option A) (n : ℕ) → IsExactBut short (PairFits F before n) (pair_of item before n)
+    → (xs : List A) (rest : List ℕ) → FitFrom F before xs → length xs ≡ suc n → read_items item before (suc n) (flat_map (item None).encode xs ++ rest) ≡ Ok (xs, rest)
 more_only F item alike before n pair [] rest fits size = absurd (omega arith)
 more_only F item alike before n pair (x ∷ xs) rest fits size =
-    let bytes = flat_map (item None).spell (x ∷ xs) ++ rest in
-    let regrouped : bytes ≡ (pair_of item before n).spell (x, xs) ++ rest = ap (λ s. s ++ rest) (sym (seam item alike before x xs)) in
+    let bytes = flat_map (item None).encode (x ∷ xs) ++ rest in
+    let regrouped : bytes ≡ (pair_of item before n).encode (x, xs) ++ rest = ap (λ s. s ++ rest) (sym (seam item alike before x xs)) in
     pairs item before n bytes ∙ ap (λ b. (pair_of item before n).read b >>= joined) regrouped ∙ ap (λ r. r >>= joined) (pair.only (x, xs) rest (fits.0, (fits.1, omega arith)))
 
-more_cut : {E A : Type 0} {short : E} (F : Option A → A → Type 0) (item : Option A → FormatOf E A) → SpellsAlike item → (before : Option A) (n : ℕ) → IsExactBut short (PairFits F before n) (pair_of item before n)
-    → (xs : List A) (front rest : List ℕ) → FitFrom F before xs → length xs ≡ suc n → flat_map (item None).spell xs ≡ front ++ rest → 0 < length rest → read_items item before (suc n) front ≡ Err short
-more_cut F item alike before n pair [] front rest fits size e some = absurd (omega arith)
-more_cut F item alike before n pair (x ∷ xs) front rest fits size e some =
-    pairs item before n front ∙ ap (λ r. r >>= joined) (pair.cut (x, xs) front rest (fits.0, (fits.1, omega arith)) (seam item alike before x xs ∙ e) some)
+more_cut : {E A : Type 0} {short : E} (F : Option A → A → Type 0) (item : Option A → FormatOf E A) → EncodesAlike item → (before : Option A) (n : ℕ) → IsExactBut short (PairFits F before n) (pair_of item before n)
+    → (xs : List A) (prefix rest : List ℕ) → FitFrom F before xs → length xs ≡ suc n → flat_map (item None).encode xs ≡ prefix ++ rest → 0 < length rest → read_items item before (suc n) prefix ≡ Err short
+more_cut F item alike before n pair [] prefix rest fits size e some = absurd (omega arith)
+more_cut F item alike before n pair (x ∷ xs) prefix rest fits size e some =
+    pairs item before n prefix ∙ ap (λ r. r >>= joined) (pair.cut (x, xs) prefix rest (fits.0, (fits.1, omega arith)) (seam item alike before x xs ∙ e) some)
 
-more-exact : {E A : Type 0} {short : E} (F : Option A → A → Type 0) (item : Option A → FormatOf E A) → SpellsAlike item → (before : Option A) (n : ℕ) → IsExactBut short (PairFits F before n) (pair_of item before n) → IsExactBut short (λ xs. FitFrom F before xs × (length xs ≡ suc n)) (items_from item before (suc n))
+more-exact : {E A : Type 0} {short : E} (F : Option A → A → Type 0) (item : Option A → FormatOf E A) → EncodesAlike item → (before : Option A) (n : ℕ) → IsExactBut short (PairFits F before n) (pair_of item before n) → IsExactBut short (λ xs. FitFrom F before xs × (length xs ≡ suc n)) (items_from item before (suc n))
 more-exact {E} {A} F item alike before n pair = record {
   found = λ bytes xs rest are e.
       let b = bind_ok ((pair_of item before n).read bytes) joined (xs, rest) (sym (pairs item before n bytes) ∙ e) in
       let f = pair.found bytes b.0.0 b.0.1 are b.1 in
-      let spelled : bytes ≡ flat_map (item None).spell (b.0.0.0 ∷ b.0.0.1) ++ b.0.1 = f.1 ∙ ap (λ s. s ++ b.0.1) (seam item alike before b.0.0.0 b.0.0.1) in
+      let encoded : bytes ≡ flat_map (item None).encode (b.0.0.0 ∷ b.0.0.1) ++ b.0.1 = f.1 ∙ ap (λ s. s ++ b.0.1) (seam item alike before b.0.0.0 b.0.0.1) in
       let size : length (b.0.0.0 ∷ b.0.0.1) ≡ suc n = ap suc f.0.1.1 in
-      subst (λ (p : List A × List ℕ). (FitFrom F before p.0 × (length p.0 ≡ suc n)) × (bytes ≡ flat_map (item None).spell p.0 ++ p.1)) (ok_is (b.0.0.0 ∷ b.0.0.1, b.0.1) (xs, rest) b.2) (((f.0.0, f.0.1.0), size), spelled);
+      subst (λ (p : List A × List ℕ). (FitFrom F before p.0 × (length p.0 ≡ suc n)) × (bytes ≡ flat_map (item None).encode p.0 ++ p.1)) (ok_is (b.0.0.0 ∷ b.0.0.1, b.0.1) (xs, rest) b.2) (((f.0.0, f.0.1.0), size), encoded);
   only = λ xs rest fits. more_only F item alike before n pair xs rest fits.0 fits.1;
-  cut = λ xs front rest fits e some. more_cut F item alike before n pair xs front rest fits.0 fits.1 e some;
+  cut = λ xs prefix rest fits e some. more_cut F item alike before n pair xs prefix rest fits.0 fits.1 e some;
   settled = λ bytes more fault are other e.
       elim (bind_err ((pair_of item before n).read bytes) joined fault (sym (pairs item before n bytes) ∙ e)) [
         | inl p ↦ pairs item before n (bytes ++ more) ∙ ap (λ r. r >>= joined) (pair.settled bytes more fault are other p)
@@ -344,18 +344,18 @@ more-exact {E} {A} F item alike before n pair = record {
       ];
 }
 
-items_from-exact : {E A : Type 0} {short : E} (F : Option A → A → Type 0) (item : Option A → FormatOf E A) → SpellsAlike item → ((before : Option A) → IsExactBut short (F before) (item before)) → (n : ℕ) (before : Option A) → IsExactBut short (λ xs. FitFrom F before xs × (length xs ≡ n)) (items_from item before n)
+items_from-exact : {E A : Type 0} {short : E} (F : Option A → A → Type 0) (item : Option A → FormatOf E A) → EncodesAlike item → ((before : Option A) → IsExactBut short (F before) (item before)) → (n : ℕ) (before : Option A) → IsExactBut short (λ xs. FitFrom F before xs × (length xs ≡ n)) (items_from item before n)
 items_from-exact F item alike exact zero before = none-exact F item before
 items_from-exact {E} {A} F item alike exact (suc n) before =
     more-exact F item alike before n (followed-exact (F before) (λ x xs. FitFrom F (Some x) xs × (length xs ≡ n)) (item before) (λ x. items_from item (Some x) n) (exact before) (λ x. items_from-exact F item alike exact n (Some x)))
 
 -- A list of so many items is exact.
-pub items-exact : {E A : Type 0} {short : E} (F : Option A → A → Type 0) (item : Option A → FormatOf E A) → SpellsAlike item → ((before : Option A) → IsExactBut short (F before) (item before)) → (n : ℕ) → IsExactBut short (λ xs. FitFrom F None xs × (length xs ≡ n)) (items item n)
+pub items-exact : {E A : Type 0} {short : E} (F : Option A → A → Type 0) (item : Option A → FormatOf E A) → EncodesAlike item → ((before : Option A) → IsExactBut short (F before) (item before)) → (n : ℕ) → IsExactBut short (λ xs. FitFrom F None xs × (length xs ≡ n)) (items item n)
 unfolding items
 items-exact F item alike exact n = items_from-exact F item alike exact n None
 
--- Two spellings at the front of the same bytes are one.
-pub spellings_meet : {E A : Type 0} {short : E} (F : A → Type 0) (format : FormatOf E A) → IsExactBut short F format → (x y : A) (rest others : List ℕ) → F x → F y → format.spell x ++ rest ≡ format.spell y ++ others → (x ≡ y) × (rest ≡ others)
-spellings_meet F format exact x y rest others fits other_fits e =
+-- Two encodings at the start of the same bytes are one.
+pub encodings_meet : {E A : Type 0} {short : E} (F : A → Type 0) (format : FormatOf E A) → IsExactBut short F format → (x y : A) (rest others : List ℕ) → F x → F y → format.encode x ++ rest ≡ format.encode y ++ others → (x ≡ y) × (rest ≡ others)
+encodings_meet F format exact x y rest others fits other_fits e =
     let one = ok_is (x, rest) (y, others) (sym (exact.only x rest fits) ∙ ap format.read e ∙ exact.only y others other_fits) in
     (ap (λ p. p.0) one, ap (λ p. p.1) one)

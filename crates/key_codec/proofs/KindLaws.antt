@@ -18,7 +18,7 @@ use Rattle.key_codec.specs.declared.fault.KeyFault.TheVariants.{Range, Order}
 use Rattle.key_codec.specs.Exact.{IsExact}
 use Rattle.key_codec.specs.Formats.{u8_byte, u32_le, u64_le, checked, ranged, followed, both, items, counted, is_above}
 use Rattle.key_codec.specs.Kinds.{file_kind, snap_state, flag, name, inode_fields, link_item, names_fields, pointer_item, digest_item, extent_fields, hole_fields, sub_item, subs_fields, snap_fields, live_fields, is_bucket_start, place_item, node_fields}
-use Rattle.key_codec.proofs.Combined.{refit, mapped-exact, checked-exact, followed-exact, both-exact, SpellsAlike}
+use Rattle.key_codec.proofs.Combined.{refit, mapped-exact, checked-exact, followed-exact, both-exact, EncodesAlike}
 use Rattle.key_codec.proofs.FieldLaws.{u32_le-exact, u64_le-exact, ranged-exact, byte_within-exact, file_kind-exact, snap_state-exact, flag-exact, name-exact}
 use Rattle.key_codec.proofs.ListLaws.{above_from_test, test_from_above, RisesBy, AreRising, rising-exact, each-exact, counted-exact, both_of_each}
 
@@ -80,7 +80,7 @@ live-exact = mapped-exact (λ (p : ℕ × ℕ). IsU32 p.0 × IsInRange 0 16 p.1)
 
 -- ---- names
 
--- A name behind another is exact.
+-- A name after another is exact.
 name_after-exact : (k : ℕ) (before : Option (List ℕ)) → IsExact (λ bytes. (AreBytes bytes × IsName bytes) × IsAbove name_cmp before bytes) (checked (name k) (is_above name_cmp before) Order)
 name_after-exact k before = refit (λ bytes. (AreBytes bytes × IsName bytes) × (is_above name_cmp before bytes ≡ true)) (λ bytes. (AreBytes bytes × IsName bytes) × IsAbove name_cmp before bytes) (checked (name k) (is_above name_cmp before) Order)
     (λ bytes fits. (fits.0, above_from_test name_cmp before bytes fits.1)) (λ bytes fits. (fits.0, test_from_above name_cmp before bytes fits.1))
@@ -102,7 +102,7 @@ link-exact before =
     (both-exact IsU64 (λ (p : FileKind × List ℕ). ⊤ × ((AreBytes p.1 × IsName p.1) × IsAbove name_cmp old p.1)) u64_le (both (file_kind 3) last) u64_le-exact
     (both-exact (λ (kind : FileKind). ⊤) (λ bytes. (AreBytes bytes × IsName bytes) × IsAbove name_cmp old bytes) (file_kind 3) last (file_kind-exact 3) (name_after-exact 4 old)))
 
-link_alike : SpellsAlike link_item
+link_alike : EncodesAlike link_item
 unfolding link_item
 link_alike before link = refl
 
@@ -130,7 +130,7 @@ sub-exact before =
     (both-exact IsU64 (λ (p : Bool × List ℕ). ⊤ × ((AreBytes p.1 × IsName p.1) × IsAbove name_cmp old p.1)) u64_le (both (flag 4) last) u64_le-exact
     (both-exact (λ (yes : Bool). ⊤) (λ bytes. (AreBytes bytes × IsName bytes) × IsAbove name_cmp old bytes) (flag 4) last (flag-exact 4) (name_after-exact 5 old))))
 
-sub_alike : SpellsAlike sub_item
+sub_alike : EncodesAlike sub_item
 unfolding sub_item
 sub_alike before sub = refl
 
@@ -146,7 +146,7 @@ subs-exact = refit (λ subs. AreRising IsSub name_cmp (λ s. s.name) subs × IsI
 abbrev IsPointer : Pointer → Type 0
 IsPointer pointer = PointerFits pointer × IsDevice pointer.place.dev
 
--- A device behind another is exact.
+-- A device after another is exact.
 device_after-exact : (before : Option ℕ) → IsExact (λ dev. IsDevice dev × IsAbove nat_cmp before dev) (checked (ranged 3 u8_byte 0 7) (is_above nat_cmp before) Order)
 device_after-exact before = refit (λ dev. IsInRange 0 7 dev × (is_above nat_cmp before dev ≡ true)) (λ dev. IsDevice dev × IsAbove nat_cmp before dev) (checked (ranged 3 u8_byte 0 7) (is_above nat_cmp before) Order)
     (λ dev fits. (omega (arith, fits.0.1), above_from_test nat_cmp before dev fits.1)) (λ dev fits. ((omega arith, omega (arith, fits.0)), test_from_above nat_cmp before dev fits.1))
@@ -163,7 +163,7 @@ pointer-exact before =
     (λ p fits. (((fits.0.1, fits.1), (fits.0.0.block, fits.0.0.generation)), refl))
     (both-exact (λ dev. IsDevice dev × IsAbove nat_cmp old dev) (λ (p : ℕ × ℕ). IsU32 p.0 × IsU32 p.1) first (both u32_le u32_le) (device_after-exact old) (both-exact IsU32 IsU32 u32_le u32_le u32_le-exact u32_le-exact))
 
-pointer_alike : SpellsAlike pointer_item
+pointer_alike : EncodesAlike pointer_item
 unfolding pointer_item
 pointer_alike before pointer = refl
 
@@ -204,7 +204,7 @@ place-exact before = mapped-exact (λ (p : ℕ × ℕ). IsInRange 0 7 p.0 × (Is
     (λ p fits. (((omega arith, omega (arith, fits.1.device)), (fits.0, eq-eqb (p.block % 16) 0 fits.1.first)), refl))
     (both-exact (IsInRange 0 7) (λ n. IsU32 n × (is_bucket_start n ≡ true)) (ranged 4 u8_byte 0 7) (checked u32_le is_bucket_start (Range 5)) (byte_within-exact 4 0 7 (lit< tt)) (checked-exact IsU32 u32_le is_bucket_start (Range 5) u32_le-exact))
 
-place_alike : SpellsAlike place_item
+place_alike : EncodesAlike place_item
 unfolding place_item
 place_alike before place = refl
 

@@ -9,7 +9,7 @@ use Rattle.std.proofs.lemmas.List.Elements.{All-from_recursion, recursion_from_A
 use Rattle.vol_types.specs.Ranges.{IsAbove, RiseFrom, Rise}
 use Rattle.key_codec.specs.Exact.{IsExactBut, IsExact}
 use Rattle.key_codec.specs.Formats.{FormatOf, Format, u8_byte, ranged, followed, items, counted, is_above}
-use Rattle.key_codec.proofs.Combined.{refit, mapped-exact, followed-exact, FitFrom, SpellsAlike, items-exact}
+use Rattle.key_codec.proofs.Combined.{refit, mapped-exact, followed-exact, FitFrom, EncodesAlike, items-exact}
 use Rattle.key_codec.proofs.FieldLaws.{byte_within-exact}
 
 less_from_test : (order : Ordering) → is_lt order ≡ true → order ≡ Less
@@ -46,7 +46,7 @@ rising_whole P cmp key before [] each rise = tt
 rising_whole P cmp key before (x ∷ xs) each rise = ((each.0, rise.0), rising_whole P cmp key (Some x) xs each.1 rise.1)
 
 -- So many rising members are exact.
-pub rising-exact : {E A X : Type 0} {short : E} (P : A → Type 0) (cmp : X → X → Ordering) (key : A → X) (item : Option A → FormatOf E A) → SpellsAlike item → ((before : Option A) → IsExactBut short (RisesBy P cmp key before) (item before)) → (n : ℕ) → IsExactBut short (λ xs. AreRising P cmp key xs × (length xs ≡ n)) (items item n)
+pub rising-exact : {E A X : Type 0} {short : E} (P : A → Type 0) (cmp : X → X → Ordering) (key : A → X) (item : Option A → FormatOf E A) → EncodesAlike item → ((before : Option A) → IsExactBut short (RisesBy P cmp key before) (item before)) → (n : ℕ) → IsExactBut short (λ xs. AreRising P cmp key xs × (length xs ≡ n)) (items item n)
 rising-exact {E} {A} P cmp key item alike exact n = refit (λ xs. FitFrom (RisesBy P cmp key) None xs × (length xs ≡ n)) (λ xs. AreRising P cmp key xs × (length xs ≡ n)) (items item n)
     (λ xs fits. let parts = rising_parts P cmp key None xs fits.0 in ((All-from_recursion P xs parts.0, parts.1), fits.1))
     (λ xs fits. (rising_whole P cmp key None xs (recursion_from_All P xs fits.0.0) fits.0.1, fits.1))
@@ -61,13 +61,13 @@ each_whole P before [] each = tt
 each_whole P before (x ∷ xs) each = (each.0, each_whole P (Some x) xs each.1)
 
 -- So many members are exact.
-pub each-exact : {E A : Type 0} {short : E} (P : A → Type 0) (item : Option A → FormatOf E A) → SpellsAlike item → ((before : Option A) → IsExactBut short P (item before)) → (n : ℕ) → IsExactBut short (λ xs. All P xs × (length xs ≡ n)) (items item n)
+pub each-exact : {E A : Type 0} {short : E} (P : A → Type 0) (item : Option A → FormatOf E A) → EncodesAlike item → ((before : Option A) → IsExactBut short P (item before)) → (n : ℕ) → IsExactBut short (λ xs. All P xs × (length xs ≡ n)) (items item n)
 each-exact {E} {A} P item alike exact n = refit (λ xs. FitFrom (λ _ x. P x) None xs × (length xs ≡ n)) (λ xs. All P xs × (length xs ≡ n)) (items item n)
     (λ xs fits. (All-from_recursion P xs (each_parts P None xs fits.0), fits.1))
     (λ xs fits. (each_whole P None xs (recursion_from_All P xs fits.0), fits.1))
     (items-exact (λ _ x. P x) item alike exact n)
 
--- A list behind its count is exact.
+-- A list after its count is exact.
 pub counted-exact : {A : Type 0} (P : List A → Type 0) (k most : ℕ) (item : Option A → Format A) → most < 256 → ((n : ℕ) → IsExact (λ xs. P xs × (length xs ≡ n)) (items item n)) → IsExact (λ xs. P xs × IsInRange 1 most (length xs)) (counted k most item)
 unfolding counted
 counted-exact {A} P k most item small exact = mapped-exact (λ (p : ℕ × List A). IsInRange 1 most p.0 × (P p.1 × (length p.1 ≡ p.0))) (λ xs. P xs × IsInRange 1 most (length xs)) (followed (ranged k u8_byte 1 most) (items item)) (λ p. p.1) (λ xs. (length xs, xs))

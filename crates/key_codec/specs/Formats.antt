@@ -1,4 +1,4 @@
--- What a format is, and how formats are made of formats: how values are spelled as bytes, and how they are read from the left up to the first fault.
+-- What a format is, and how formats are made of formats: how values are encoded as bytes, and how they are read from the left up to the first fault.
 use Rattle.std.specs.Prelude.{ℕ, zero, suc, Bool, true, ◌++◌, List, [], ◌∷◌, length, take, drop, Option, Some, None, Result, Ok, Err, nat_lt, if◌then◌else◌}
 use Rattle.std.specs.List.{flat_map}
 use Rattle.std.specs.Int.{Width, w32, w64, byte_len, from_le_bytes, to_le_bytes, is_in_range}
@@ -7,9 +7,9 @@ use Rattle.std.specs.declared.cmp.Ordering.{Ordering}
 use Rattle.key_codec.specs.declared.fault.KeyFault.{KeyFault}
 use Rattle.key_codec.specs.declared.fault.KeyFault.TheVariants.{Short, Range}
 
--- A format spells each value as bytes, and reads one off the front of bytes: it gives the value and the bytes behind it, or the first fault, which is of type E.
+-- A format encodes each value as bytes, and reads one off the start of bytes: it gives the value and the bytes after it, or the first fault, which is of type E.
 pub record FormatOf (E A : Type 0) : Type 0 where
-  pub spell : A → List ℕ
+  pub encode : A → List ℕ
   pub read : List ℕ → Result (A × List ℕ) E
 
 -- a format of keys or their parts
@@ -22,27 +22,27 @@ abbrev pub ◌>>=◌ : {E A B : Type 0} → Result A E → (A → Result B E) �
 (Ok x) >>= f = f x
 (Err fault) >>= f = Err fault
 
--- the first byte, and those behind it
+-- the first byte, and those after it
 abbrev pub first_byte : List ℕ → Result (ℕ × List ℕ) KeyFault
 first_byte [] = Err Short
 first_byte (b ∷ rest) = Ok (b, rest)
 
--- so many bytes, and those behind them
+-- so many bytes, and those after them
 abbrev pub first_bytes : ℕ → List ℕ → Result (List ℕ × List ℕ) KeyFault
 first_bytes n bytes = if nat_lt (length bytes) n then Err Short else Ok (take n bytes, drop n bytes)
 
 -- a number in one byte
 unfoldable pub u8_byte : Format ℕ
-u8_byte = record { spell = λ n. n ∷ []; read = first_byte }
+u8_byte = record { encode = λ n. n ∷ []; read = first_byte }
 
 -- so many bytes as they are
 abbrev pub fixed : ℕ → Format (List ℕ)
-fixed n = record { spell = λ bytes. bytes; read = first_bytes n }
+fixed n = record { encode = λ bytes. bytes; read = first_bytes n }
 
--- a value that stands for another: made from what is read, and seen as what is spelled
+-- a value that stands for another: made from what is read, and seen as what is encoded
 abbrev pub mapped : {E A B : Type 0} → FormatOf E A → (A → B) → (B → A) → FormatOf E B
 mapped format make see = record {
-  spell = λ y. format.spell (see y);
+  encode = λ y. format.encode (see y);
   read = λ bytes. do
     x ← format.read bytes
     Ok (make x.0, x.1);
@@ -67,7 +67,7 @@ raw n = fixed n
 -- a value that passes a test, with the fault of each that doesn't
 abbrev pub checked_by : {E A : Type 0} → FormatOf E A → (A → Bool) → (A → E) → FormatOf E A
 checked_by format test fault = record {
-  spell = format.spell;
+  encode = format.encode;
   read = λ bytes. do
     x ← format.read bytes
     if test x.0 then Ok x else Err (fault x.0);
@@ -84,7 +84,7 @@ ranged k format least most = checked format (is_in_range least most) (Range k)
 -- one field and then another, whose format may depend on the first one's value
 abbrev pub followed : {E A B : Type 0} → FormatOf E A → (A → FormatOf E B) → FormatOf E (A × B)
 followed first second = record {
-  spell = λ x. first.spell x.0 ++ (second x.0).spell x.1;
+  encode = λ x. first.encode x.0 ++ (second x.0).encode x.1;
   read = λ bytes. do
     x ← first.read bytes
     y ← (second x.0).read x.1
@@ -103,9 +103,9 @@ read_items item before (suc n) bytes = do
   xs ← read_items item (Some x.0) n x.1
   Ok (x.0 ∷ xs.0, xs.1)
 
--- a list of so many items, spelled one behind the other
+-- a list of so many items, encoded one after the other
 unfoldable pub items : {E A : Type 0} → (Option A → FormatOf E A) → ℕ → FormatOf E (List A)
-items item n = record { spell = flat_map (item None).spell; read = read_items item None n }
+items item n = record { encode = flat_map (item None).encode; read = read_items item None n }
 
 -- field number k: a count from 1 to the most, in one byte, and then so many items
 unfoldable pub counted : {A : Type 0} → ℕ → ℕ → (Option A → Format A) → Format (List A)
@@ -118,7 +118,7 @@ carried named (Err fault) = Err (named fault)
 
 -- a format whose faults are named otherwise
 abbrev pub lifted : {E F A : Type 0} → (F → E) → FormatOf F A → FormatOf E A
-lifted named format = record { spell = format.spell; read = λ bytes. carried named (format.read bytes) }
+lifted named format = record { encode = format.encode; read = λ bytes. carried named (format.read bytes) }
 
 -- whether the value is above the one before it, if there was one
 abbrev pub is_above : {X : Type 0} → (X → X → Ordering) → Option X → X → Bool

@@ -22,20 +22,20 @@ kind_number (Some value) = kind_of value
 -- the bytes of a value's fields
 unfoldable pub fields_of : Option Value → List ℕ
 fields_of None = []
-fields_of (Some (Inode inode)) = kinds.inode_fields.spell inode
-fields_of (Some (Names links)) = kinds.names_fields.spell links
-fields_of (Some (Extent extent)) = kinds.extent_fields.spell extent
-fields_of (Some (Hole blocks)) = kinds.hole_fields.spell blocks
+fields_of (Some (Inode inode)) = kinds.inode_fields.encode inode
+fields_of (Some (Names links)) = kinds.names_fields.encode links
+fields_of (Some (Extent extent)) = kinds.extent_fields.encode extent
+fields_of (Some (Hole blocks)) = kinds.hole_fields.encode blocks
 fields_of (Some White) = []
-fields_of (Some (Subs subs)) = kinds.subs_fields.spell subs
-fields_of (Some (Snap snap)) = kinds.snap_fields.spell snap
-fields_of (Some (Live live)) = kinds.live_fields.spell live
-fields_of (Some (Back extent)) = kinds.position.spell extent
+fields_of (Some (Subs subs)) = kinds.subs_fields.encode subs
+fields_of (Some (Snap snap)) = kinds.snap_fields.encode snap
+fields_of (Some (Live live)) = kinds.live_fields.encode live
+fields_of (Some (Back extent)) = kinds.position.encode extent
 fields_of (Some Gone) = []
-fields_of (Some (Counter next)) = u64_le.spell next
-fields_of (Some (Node node)) = kinds.node_fields.spell node
+fields_of (Some (Counter next)) = u64_le.encode next
+fields_of (Some (Node node)) = kinds.node_fields.encode node
 
--- The key has a spelling: its position and the fields of its value have their widths, and are in range.
+-- The key has a encoding: its position and the fields of its value have their widths, and are in range.
 pub record IsKey (pos : Pos) (value : Option Value) : Type 0 where
   pub pos_fits : PosFits pos
   pub value_fits : KeyValueFits value
@@ -78,23 +78,23 @@ abbrev pub read_by : Option FieldsReader → ℕ → FieldsReader
 read_by None kind bytes = Err (Kind kind)
 read_by (Some reader) kind bytes = reader bytes
 
--- the fields of a kind, read off the front of the bytes
+-- the fields of a kind, read off the start of the bytes
 unfoldable pub read_fields : ℕ → FieldsReader
 read_fields kind = read_by (slice_get readers kind) kind
 
 -- the fields of the kind of this number
 abbrev pub fields : ℕ → Format (Option Value)
-fields kind = record { spell = fields_of; read = read_fields kind }
+fields kind = record { encode = fields_of; read = read_fields kind }
 
 -- a key: its position, the number of its kind, and the fields of that kind
 unfoldable pub key_format : Format Key
 key_format = mapped (both kinds.position (followed u8_byte fields)) (λ x. record { pos = x.0; value = x.1.1 }) (λ key. (key.pos, (kind_number key.value, key.value)))
 
--- the one spelling of a key
-abbrev pub spelling : Pos → Option Value → List ℕ
-spelling pos value = key_format.spell (record { pos = pos; value = value })
+-- the one encoding of a key
+abbrev pub encoding : Pos → Option Value → List ℕ
+encoding pos value = key_format.encode (record { pos = pos; value = value })
 
--- the key at the front of the bytes with the number of its bytes, or the first fault
+-- the key at the start of the bytes with the number of its bytes, or the first fault
 unfoldable pub key_in : List ℕ → Result KeyRead KeyFault
 key_in bytes = do
   x ← key_format.read bytes

@@ -14,7 +14,7 @@ pub enum KeyFault {
     Range(u8),
     /// A name or a device isn't above the one before it.
     Order,
-    /// Memory was wanting. It says nothing of the bytes.
+    /// Out of memory. It says nothing of the bytes.
     NoMemory,
 }
 

@@ -8,7 +8,7 @@ use crate::KeyFault;
 use std::alloc::AllocError;
 use vol_types::{Bytes, FileKind, SnapState};
 
-/// The byte in front, and the rest.
+/// The byte at the start, and the rest.
 #[tactic(auto, unfolding(crate::specs::Formats::u8_byte))]
 pub fn u8_at(bytes: &[u8]) -> Result<(u8, &[u8]), KeyFault>
     ensures { Gives (λ x. (x.0, x.1.now)) result (u8_byte.read bytes.now) }
@@ -27,8 +27,8 @@ pub fn u32_at(bytes: &[u8]) -> Result<(u32, &[u8]), KeyFault>
     if bytes.len() < 4 {
         return Err(KeyFault::Short);
     }
-    let (front, rest) = bytes.split_at(4);
-    let number = u32::from_le_bytes([front[0], front[1], front[2], front[3]]);
+    let (prefix, rest) = bytes.split_at(4);
+    let number = u32::from_le_bytes([prefix[0], prefix[1], prefix[2], prefix[3]]);
     Ok((number, rest))
 }
 
@@ -40,9 +40,9 @@ pub fn u64_at(bytes: &[u8]) -> Result<(u64, &[u8]), KeyFault>
     if bytes.len() < 8 {
         return Err(KeyFault::Short);
     }
-    let (front, rest) = bytes.split_at(8);
+    let (prefix, rest) = bytes.split_at(8);
     let number = u64::from_le_bytes([
-        front[0], front[1], front[2], front[3], front[4], front[5], front[6], front[7],
+        prefix[0], prefix[1], prefix[2], prefix[3], prefix[4], prefix[5], prefix[6], prefix[7],
     ]);
     Ok((number, rest))
 }
@@ -141,7 +141,7 @@ pub(crate) fn flag_at(field: u8, bytes: &[u8]) -> Result<(bool, &[u8]), KeyFault
     Ok((code == 1, rest))
 }
 
-/// The bytes of a name behind their length, which is field number `field`, and the rest.
+/// The bytes of a name after their length, which is field number `field`, and the rest.
 #[tactic(auto, unfolding(crate::specs::Kinds::name))]
 pub(crate) fn name_at(field: u8, bytes: &[u8]) -> Result<(&[u8], &[u8]), KeyFault>
     ensures { Gives (λ x. (x.0.now, x.1.now)) result ((name field).read bytes.now) }
@@ -153,7 +153,7 @@ pub(crate) fn name_at(field: u8, bytes: &[u8]) -> Result<(&[u8], &[u8]), KeyFaul
 /// Appends a byte. What stood in `into` before stands there still, whatever comes; so with all calls that append.
 #[tactic(auto, using(crate::proofs::Appending::appending), unfolding(crate::specs::Formats::u8_byte))]
 pub fn put_u8(into: &mut Bytes, number: u8) -> Result<(), AllocError>
-    ensures ok { OnOk result (into.new ≡ into.old ++ u8_byte.spell number) }
+    ensures ok { OnOk result (into.new ≡ into.old ++ u8_byte.encode number) }
     ensures kept { into.new ≡ into.old ++ drop (length into.old) into.new }
 {
     into.push(number)?;
@@ -163,7 +163,7 @@ pub fn put_u8(into: &mut Bytes, number: u8) -> Result<(), AllocError>
 /// Appends a number in four bytes.
 #[tactic(auto, using(crate::proofs::Appending::appending), unfolding(crate::specs::Formats::u32_le))]
 pub fn put_u32(into: &mut Bytes, number: u32) -> Result<(), AllocError>
-    ensures ok { OnOk result (into.new ≡ into.old ++ u32_le.spell number) }
+    ensures ok { OnOk result (into.new ≡ into.old ++ u32_le.encode number) }
     ensures width { number < 2 ^ 32 }
     ensures kept { into.new ≡ into.old ++ drop (length into.old) into.new }
 {
@@ -173,7 +173,7 @@ pub fn put_u32(into: &mut Bytes, number: u32) -> Result<(), AllocError>
 /// Appends a number in eight bytes.
 #[tactic(auto, using(crate::proofs::Appending::appending), unfolding(crate::specs::Formats::u64_le))]
 pub fn put_u64(into: &mut Bytes, number: u64) -> Result<(), AllocError>
-    ensures ok { OnOk result (into.new ≡ into.old ++ u64_le.spell number) }
+    ensures ok { OnOk result (into.new ≡ into.old ++ u64_le.encode number) }
     ensures width { number < 2 ^ 64 }
     ensures kept { into.new ≡ into.old ++ drop (length into.old) into.new }
 {

@@ -18,7 +18,7 @@ pub(crate) trait Item: Drop {
     /// That its fields have their widths, as those of each in the code have.
     ghost Fits: { Self → Type 0 };
 
-    /// The member in front, and the rest.
+    /// The member at the start, and the rest.
     fn read<'a>(
         alloc: Global,
         before: Option<&Self>,
@@ -29,7 +29,7 @@ pub(crate) trait Item: Drop {
     /// Appends the member.
     fn put(&self, into: &mut Bytes) -> Result<(), AllocError>
         requires { Writable self.now }
-        ensures ok { OnOk result (into.new ≡ into.old ++ (format None).spell self.now) }
+        ensures ok { OnOk result (into.new ≡ into.old ++ (format None).encode self.now) }
         ensures width { OnOk result (Fits self.now) }
         ensures kept { into.new ≡ into.old ++ drop (length into.old) into.new };
 }
@@ -70,7 +70,7 @@ pub(crate) fn counted_at<T: Item>(
 #[tactic(auto, using(crate::proofs::Appending::appending), unfolding(crate::specs::Formats::items))]
 pub(crate) fn put_items<T: Item>(into: &mut Bytes, members: &[T]) -> Result<(), AllocError>
     requires { All T.Writable members.now }
-    ensures ok { OnOk result (into.new ≡ into.old ++ (items T.format (length members.now)).spell members.now) }
+    ensures ok { OnOk result (into.new ≡ into.old ++ (items T.format (length members.now)).encode members.now) }
     ensures width { OnOk result (All T.Fits members.now) }
     ensures kept { into.new ≡ into.old ++ drop (length into.old) into.new }
 {
@@ -80,12 +80,12 @@ pub(crate) fn put_items<T: Item>(into: &mut Bytes, members: &[T]) -> Result<(), 
     Ok(())
 }
 
-/// Appends the count of the members, and the members. It is spelled alike under each field number and greatest count.
+/// Appends the count of the members, and the members. It is encoded alike under each field number and greatest count.
 #[tactic(auto, using(crate::proofs::Appending::appending), unfolding(crate::specs::Formats::counted, crate::specs::Formats::ranged))]
 pub(crate) fn put_counted<T: Item>(into: &mut Bytes, members: &[T]) -> Result<(), AllocError>
     requires few { length members.now ≤ 255 }
     requires each { All T.Writable members.now }
-    ensures ok { OnOk result (into.new ≡ into.old ++ (counted 1 8 T.format).spell members.now) }
+    ensures ok { OnOk result (into.new ≡ into.old ++ (counted 1 8 T.format).encode members.now) }
     ensures width { OnOk result (All T.Fits members.now) }
     ensures kept { into.new ≡ into.old ++ drop (length into.old) into.new }
 {

@@ -13,7 +13,7 @@ use crate::items::{counted_at, items_at, put_counted, put_items};
 use std::alloc::{AllocError, Global};
 use vol_types::{Bytes, Extent, FileKind, Inode, Live, NodePtr, Pos, Snap};
 
-/// The position in front, and the rest.
+/// The position at the start, and the rest.
 #[tactic(auto, unfolding(crate::specs::Kinds::position))]
 pub fn position_at(bytes: &[u8]) -> Result<(Pos, &[u8]), KeyFault>
     ensures { Gives (λ x. (x.0, x.1.now)) result (position.read bytes.now) }
@@ -34,7 +34,7 @@ pub fn position_at(bytes: &[u8]) -> Result<(Pos, &[u8]), KeyFault>
 /// Appends the position.
 #[tactic(auto, using(crate::proofs::Appending::appending), unfolding(crate::specs::Kinds::position))]
 pub fn put_position(into: &mut Bytes, pos: &Pos) -> Result<(), AllocError>
-    ensures ok { OnOk result (into.new ≡ into.old ++ position.spell pos.now) }
+    ensures ok { OnOk result (into.new ≡ into.old ++ position.encode pos.now) }
     ensures width { OnOk result (PosFits pos.now) }
     ensures kept { into.new ≡ into.old ++ drop (length into.old) into.new }
 {
@@ -43,7 +43,7 @@ pub fn put_position(into: &mut Bytes, pos: &Pos) -> Result<(), AllocError>
     put_u32(into, pos.snapshot)
 }
 
-/// The inode in front, and the rest.
+/// The inode at the start, and the rest.
 #[tactic(auto, unfolding(crate::specs::Kinds::inode_fields))]
 pub(crate) fn inode_at(bytes: &[u8]) -> Result<(Inode, &[u8]), KeyFault>
     ensures { Gives (λ x. (x.0, x.1.now)) result (inode_fields.read bytes.now) }
@@ -77,7 +77,7 @@ fn most_bytes(kind: FileKind) -> u64
 /// Appends the inode.
 #[tactic(auto, using(crate::proofs::Appending::appending), unfolding(crate::specs::Kinds::inode_fields, crate::specs::Kinds::file_kind, crate::specs::Formats::ranged))]
 pub(crate) fn put_inode(into: &mut Bytes, inode: &Inode) -> Result<(), AllocError>
-    ensures ok { OnOk result (into.new ≡ into.old ++ inode_fields.spell inode.now) }
+    ensures ok { OnOk result (into.new ≡ into.old ++ inode_fields.encode inode.now) }
     ensures kept { into.new ≡ into.old ++ drop (length into.old) into.new }
 {
     put_u8(into, inode.kind.code())?;
@@ -85,7 +85,7 @@ pub(crate) fn put_inode(into: &mut Bytes, inode: &Inode) -> Result<(), AllocErro
     put_u64(into, inode.size)
 }
 
-/// The extent in front, and the rest.
+/// The extent at the start, and the rest.
 #[tactic(auto, unfolding(crate::specs::Kinds::extent_fields))]
 pub(crate) fn extent_at(alloc: Global, bytes: &[u8]) -> Result<(Extent, &[u8]), KeyFault>
     ensures { Gives (λ x. (x.0, x.1.now)) result (extent_fields.read bytes.now) }
@@ -100,7 +100,7 @@ pub(crate) fn extent_at(alloc: Global, bytes: &[u8]) -> Result<(Extent, &[u8]), 
 #[tactic(auto, using(crate::proofs::Appending::appending), unfolding(crate::specs::Kinds::extent_fields, crate::specs::Formats::counted, crate::specs::Formats::ranged))]
 pub(crate) fn put_extent(into: &mut Bytes, extent: &Extent) -> Result<(), AllocError>
     requires { IsExtent extent.now }
-    ensures ok { OnOk result (into.new ≡ into.old ++ extent_fields.spell extent.now) }
+    ensures ok { OnOk result (into.new ≡ into.old ++ extent_fields.encode extent.now) }
     ensures width { OnOk result (ExtentFits extent.now) }
     ensures kept { into.new ≡ into.old ++ drop (length into.old) into.new }
 {
@@ -109,7 +109,7 @@ pub(crate) fn put_extent(into: &mut Bytes, extent: &Extent) -> Result<(), AllocE
     put_items(into, extent.digests.as_slice())
 }
 
-/// The snapshot id in front, and the rest.
+/// The snapshot id at the start, and the rest.
 #[tactic(auto, unfolding(crate::specs::Kinds::snap_fields))]
 pub(crate) fn snap_at(bytes: &[u8]) -> Result<(Snap, &[u8]), KeyFault>
     ensures { Gives (λ x. (x.0, x.1.now)) result (snap_fields.read bytes.now) }
@@ -132,7 +132,7 @@ pub(crate) fn snap_at(bytes: &[u8]) -> Result<(Snap, &[u8]), KeyFault>
 /// Appends the snapshot id.
 #[tactic(auto, using(crate::proofs::Appending::appending), unfolding(crate::specs::Kinds::snap_fields, crate::specs::Kinds::snap_state, crate::specs::Formats::ranged))]
 pub(crate) fn put_snap(into: &mut Bytes, snap: &Snap) -> Result<(), AllocError>
-    ensures ok { OnOk result (into.new ≡ into.old ++ snap_fields.spell snap.now) }
+    ensures ok { OnOk result (into.new ≡ into.old ++ snap_fields.encode snap.now) }
     ensures width { OnOk result (SnapFits snap.now) }
     ensures kept { into.new ≡ into.old ++ drop (length into.old) into.new }
 {
@@ -142,7 +142,7 @@ pub(crate) fn put_snap(into: &mut Bytes, snap: &Snap) -> Result<(), AllocError>
     put_u8(into, snap.state.code())
 }
 
-/// The bucket in front, and the rest.
+/// The bucket at the start, and the rest.
 #[tactic(auto, unfolding(crate::specs::Kinds::live_fields))]
 pub(crate) fn live_at(bytes: &[u8]) -> Result<(Live, &[u8]), KeyFault>
     ensures { Gives (λ x. (x.0, x.1.now)) result (live_fields.read bytes.now) }
@@ -155,7 +155,7 @@ pub(crate) fn live_at(bytes: &[u8]) -> Result<(Live, &[u8]), KeyFault>
 /// Appends the bucket.
 #[tactic(auto, using(crate::proofs::Appending::appending), unfolding(crate::specs::Kinds::live_fields, crate::specs::Formats::ranged))]
 pub(crate) fn put_live(into: &mut Bytes, live: &Live) -> Result<(), AllocError>
-    ensures ok { OnOk result (into.new ≡ into.old ++ live_fields.spell live.now) }
+    ensures ok { OnOk result (into.new ≡ into.old ++ live_fields.encode live.now) }
     ensures width { OnOk result (live.now.generation < 2 ^ 32) }
     ensures kept { into.new ≡ into.old ++ drop (length into.old) into.new }
 {
@@ -163,7 +163,7 @@ pub(crate) fn put_live(into: &mut Bytes, live: &Live) -> Result<(), AllocError>
     put_u8(into, live.blocks)
 }
 
-/// The pointer to a node in front, and the rest.
+/// The pointer to a node at the start, and the rest.
 #[tactic(auto, unfolding(crate::specs::Kinds::node_fields))]
 pub fn node_at(alloc: Global, bytes: &[u8]) -> Result<(NodePtr, &[u8]), KeyFault>
     ensures { Gives (λ x. (x.0, x.1.now)) result (node_fields.read bytes.now) }
@@ -185,7 +185,7 @@ pub fn node_at(alloc: Global, bytes: &[u8]) -> Result<(NodePtr, &[u8]), KeyFault
 #[tactic(auto, using(crate::proofs::Appending::appending), unfolding(crate::specs::Kinds::node_fields, crate::specs::Formats::counted, crate::specs::Formats::ranged))]
 pub fn put_node(into: &mut Bytes, node: &NodePtr) -> Result<(), AllocError>
     requires { IsNode node.now }
-    ensures ok { OnOk result (into.new ≡ into.old ++ node_fields.spell node.now) }
+    ensures ok { OnOk result (into.new ≡ into.old ++ node_fields.encode node.now) }
     ensures width { OnOk result (NodeFits node.now) }
     ensures kept { into.new ≡ into.old ++ drop (length into.old) into.new }
 {

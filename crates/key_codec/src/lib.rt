@@ -1,4 +1,4 @@
-//! Keys as bytes: each key has one spelling, and reading gives the key that is spelled or the first fault from the left.
+//! Keys as bytes: each key has one encoding, and reading gives the key that is encoded or the first fault from the left.
 //!
 //! A key is a position (inode u64, offset u64, snapshot u32), the number of its kind in a byte, and the fields of its
 //! value. Numbers are little-endian. Kind 0 is a key without a value, which stands for one that is removed.
@@ -36,7 +36,7 @@ mod writing;
 pub use fault::KeyFault;
 pub use fields::{put_u8, put_u32, put_u64, u8_at, u32_at, u64_at};
 pub use kinds::{node_at, position_at, put_node, put_position};
-pub use laws::{key_lengths, keys_are_exact, one_spelling};
+pub use laws::{key_lengths, keys_are_exact, one_encoding};
 pub use reading::{KeyRead, fields_at, get_key};
 pub use writing::put_key;
 

@@ -2,7 +2,7 @@ ghost use Rattle.std.specs.Prelude.{◌≡◌, ◌≤◌, ◌++◌, ℕ, List, O
 ghost use Rattle.vol_types.specs.Lengths.{key_length_of};
 ghost use Rattle.vol_types.specs.declared.positions.Pos.{Pos as APos};
 ghost use Rattle.vol_types.specs.declared.values.Value.{Value as AValue};
-ghost use Rattle.key_codec.specs.Keys.{IsKey, spelling, read_fields, key_format, key_in};
+ghost use Rattle.key_codec.specs.Keys.{IsKey, encoding, read_fields, key_format, key_in};
 ghost use Rattle.key_codec.specs.Reading.{Gives};
 
 use crate::KeyFault;
@@ -12,7 +12,7 @@ use crate::kinds::{extent_at, inode_at, live_at, node_at, position_at, snap_at};
 use std::alloc::Global;
 use vol_types::{Key, Pos, Value};
 
-/// A key that was read off the front of bytes.
+/// A key that was read off the start of bytes.
 #[derive(Debug, PartialEq, Eq, Drop)]
 pub struct KeyRead {
     pub pos: Pos,
@@ -22,14 +22,14 @@ pub struct KeyRead {
     pub used: usize,
 }
 
-/// The key at the front of the bytes, whatever follows it, or the first fault from the left. It takes memory for the
+/// The key at the start of the bytes, whatever follows it, or the first fault from the left. It takes memory for the
 /// lists and names of the value, and one pass over the bytes that it uses.
 pub fn get_key(alloc: Global, from: &[u8]) -> Result<KeyRead, KeyFault>
-    // What is read is a key, and the bytes that it takes are its spelling.
-    ensures found { IfOk result (λ read. IsKey read.pos read.value × (read.used ≤ length from.now) × (take read.used from.now ≡ spelling read.pos read.value)) }
-    // What is spelled so is read, whatever follows it, unless memory is wanting.
-    ensures only { (pos : APos) (value : Option AValue) (rest : List ℕ) → IsKey pos value → from.now ≡ spelling pos value ++ rest → Gives (λ read. read) result (Ok (record { pos = pos; value = value; used = key_length_of value })) }
-    // Which fault it is, unless memory is wanting.
+    // What is read is a key, and the bytes that it takes are its encoding.
+    ensures found { IfOk result (λ read. IsKey read.pos read.value × (read.used ≤ length from.now) × (take read.used from.now ≡ encoding read.pos read.value)) }
+    // What is encoded so is read, whatever follows it, unless out of memory.
+    ensures only { (pos : APos) (value : Option AValue) (rest : List ℕ) → IsKey pos value → from.now ≡ encoding pos value ++ rest → Gives (λ read. read) result (Ok (record { pos = pos; value = value; used = key_length_of value })) }
+    // Which fault it is, unless out of memory.
     ensures exact { Gives (λ read. read) result (key_in from.now) }
 {
     read_key(alloc, from)
@@ -47,7 +47,7 @@ fn read_key(alloc: Global, from: &[u8]) -> Result<KeyRead, KeyFault>
     })
 }
 
-// The key in front, and the rest.
+// The key at the start, and the rest.
 #[tactic(auto, unfolding(crate::specs::Keys::key_format))]
 fn key_at(alloc: Global, bytes: &[u8]) -> Result<(Key, &[u8]), KeyFault>
     ensures { Gives (λ x. (x.0, x.1.now)) result (key_format.read bytes.now) }
@@ -58,7 +58,7 @@ fn key_at(alloc: Global, bytes: &[u8]) -> Result<(Key, &[u8]), KeyFault>
     Ok((Key { pos, value }, rest))
 }
 
-/// The value of this kind whose fields are in front, and the rest. Kind 0 has none.
+/// The value of this kind whose fields are at the start, and the rest. Kind 0 has none.
 #[tactic(auto, unfolding(crate::specs::Keys::read_fields, crate::specs::Kinds::names_fields, crate::specs::Kinds::subs_fields, crate::specs::Kinds::hole_fields))]
 pub fn fields_at(alloc: Global, kind: u8, bytes: &[u8]) -> Result<(Option<Value>, &[u8]), KeyFault>
     ensures { Gives (λ x. (x.0, x.1.now)) result (read_fields kind bytes.now) }

@@ -29,7 +29,7 @@ fn digit_of(digit: u8) -> Option<u8> {
     }
 }
 
-// Appends the bytes that the digits spell, two digits for each, with blanks anywhere.
+// Appends the bytes that the digits encode, two digits for each, with blanks anywhere.
 fn put_hex(bytes: &mut Vec<u8>, digits: &str) -> Result<(), AllocError> {
     let mut high = None;
     for digit in digits.as_bytes() {
@@ -46,27 +46,27 @@ fn put_hex(bytes: &mut Vec<u8>, digits: &str) -> Result<(), AllocError> {
     Ok(())
 }
 
-// A key at the least position, whose kind and fields the digits spell.
+// A key at the least position, whose kind and fields the digits encode.
 fn key_of(alloc: Global, digits: &str) -> Result<Vec<u8>, AllocError> {
     let mut bytes = Vec::from_slice(alloc, &[0; 20])?;
     put_hex(&mut bytes, digits)?;
     Ok(bytes)
 }
 
-// Whether a key at the least position is spelled so.
+// Whether a key at the least position is encoded so.
 fn is_least(alloc: Global, digits: &str, value: Option<Value>) -> Result<bool, Fail> {
-    is_spelled(alloc, &key_of(alloc, digits)?, LEAST, value)
+    is_encoded(alloc, &key_of(alloc, digits)?, LEAST, value)
 }
 
-// Whether a key at the greatest position is spelled so.
+// Whether a key at the greatest position is encoded so.
 fn is_greatest(alloc: Global, digits: &str, value: Option<Value>) -> Result<bool, Fail> {
     let mut bytes = Vec::from_slice(alloc, &[0xff; 20])?;
     put_hex(&mut bytes, digits)?;
-    is_spelled(alloc, &bytes, GREATEST, value)
+    is_encoded(alloc, &bytes, GREATEST, value)
 }
 
-// Whether the bytes, with one more behind them, are read as this key, and the key that was read is appended as they are.
-fn is_spelled(alloc: Global, bytes: &[u8], pos: Pos, value: Option<Value>) -> Result<bool, Fail> {
+// Whether the bytes, with one more after them, are read as this key, and the key that was read is appended as they are.
+fn is_encoded(alloc: Global, bytes: &[u8], pos: Pos, value: Option<Value>) -> Result<bool, Fail> {
     let mut longer = Vec::from_slice(alloc, bytes)?;
     longer.push(0xaa)?;
     let read = get_key(alloc, &longer)
@@ -84,11 +84,11 @@ fn is_spelled(alloc: Global, bytes: &[u8], pos: Pos, value: Option<Value>) -> Re
     Ok(read == key && into.as_slice() == kept.as_slice())
 }
 
-// Whether the key is spelled so.
+// Whether the key is encoded so.
 fn is_vector(alloc: Global, digits: &str, pos: Pos, value: Option<Value>) -> Result<bool, Fail> {
     let mut bytes = Vec::new(alloc);
     put_hex(&mut bytes, digits)?;
-    is_spelled(alloc, &bytes, pos, value)
+    is_encoded(alloc, &bytes, pos, value)
 }
 
 #[test]
@@ -405,7 +405,7 @@ fn least_and_greatest_places(rt: HostRuntime) -> Result<(), Fail> {
         "03 10 03 05 ffffffff ffffffff 06 ffffffff ffffffff 07 ffffffff ffffffff",
     )?;
     bytes.extend_from_slice(&[0xff; 128])?;
-    assert!(rt; is_spelled(alloc, &bytes, GREATEST, Some(Value::Extent(greatest)))?);
+    assert!(rt; is_encoded(alloc, &bytes, GREATEST, Some(Value::Extent(greatest)))?);
     let least = NodePtr {
         birth: 0,
         level: 0,
@@ -480,7 +480,7 @@ fn least_and_greatest_names(rt: HostRuntime) -> Result<(), Fail> {
             name: Bytes::from(name),
         })?;
     }
-    assert!(rt; is_spelled(alloc, &bytes, GREATEST, Some(Value::Names(links)))?);
+    assert!(rt; is_encoded(alloc, &bytes, GREATEST, Some(Value::Names(links)))?);
     Ok(())
 }
 
@@ -515,7 +515,7 @@ fn least_and_greatest_subvolumes(rt: HostRuntime) -> Result<(), Fail> {
             name: Bytes::from(name),
         })?;
     }
-    assert!(rt; is_spelled(alloc, &bytes, GREATEST, Some(Value::Subs(subs)))?);
+    assert!(rt; is_encoded(alloc, &bytes, GREATEST, Some(Value::Subs(subs)))?);
     Ok(())
 }
 

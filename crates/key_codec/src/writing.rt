@@ -1,7 +1,7 @@
 ghost use Rattle.std.specs.Prelude.{◌≡◌, ◌++◌, length, drop, OnOk, OnErr, Some, option_copied};
 ghost use Rattle.vol_types.specs.Ranges.{IsKeyValue, IsValue};
 ghost use Rattle.vol_types.specs.Widths.{ValueFits};
-ghost use Rattle.key_codec.specs.Keys.{IsKey, spelling, fields_of, kind_number};
+ghost use Rattle.key_codec.specs.Keys.{IsKey, encoding, fields_of, kind_number};
 ghost use Rattle.key_codec.specs.Kinds.{names_fields, subs_fields, hole_fields};
 
 use crate::fields::{put_u8, put_u32, put_u64};
@@ -10,7 +10,7 @@ use crate::kinds::{put_extent, put_inode, put_live, put_node, put_position, put_
 use std::alloc::{AllocError, Global};
 use vol_types::{Bytes, Pos, Value};
 
-/// Appends the one spelling of the key, in one pass over its value. The bytes grow in their own memory. An `Err` changes
+/// Appends the one encoding of the key, in one pass over its value. The bytes grow in their own memory. An `Err` changes
 /// nothing.
 pub fn put_key(
     _alloc: Global,
@@ -19,7 +19,7 @@ pub fn put_key(
     value: Option<&Value>,
 ) -> Result<(), AllocError>
     requires { IsKeyValue (option_copied value) }
-    ensures ok { OnOk result (into.new ≡ into.old ++ spelling pos.now (option_copied value.entry)) }
+    ensures ok { OnOk result (into.new ≡ into.old ++ encoding pos.now (option_copied value.entry)) }
     ensures err { OnErr result (into.new ≡ into.old) }
     // What is written is read again, since it is a key.
     ensures key { OnOk result (IsKey pos.now (option_copied value.entry)) }
@@ -35,7 +35,7 @@ pub fn put_key(
 #[tactic(auto, using(crate::proofs::Appending::appending), unfolding(crate::specs::Keys::key_format, crate::specs::Keys::fields_of))]
 fn put_parts(into: &mut Bytes, pos: &Pos, value: Option<&Value>) -> Result<(), AllocError>
     requires { IsKeyValue (option_copied value) }
-    ensures ok { OnOk result (into.new ≡ into.old ++ spelling pos.now (option_copied value.entry)) }
+    ensures ok { OnOk result (into.new ≡ into.old ++ encoding pos.now (option_copied value.entry)) }
     ensures key { OnOk result (IsKey pos.now (option_copied value.entry)) }
     ensures kept { into.new ≡ into.old ++ drop (length into.old) into.new }
 {

@@ -61,17 +61,17 @@ pub all_present : (entries : Entries) → All (λ key. IsSome key.value) (keys_i
 all_present [] = All-nil (λ key. IsSome key.value)
 all_present (e ∷ entries) = All-cons (λ key. IsSome key.value) (key_of e) (keys_in entries) refl (all_present entries)
 
--- entries that are put after those that are there, the least position first, stand behind them
-put_behind : (done left : Entries) → IsMap pos_cmp (done ++ left) → with_keys (keys_in left) done ≡ done ++ left
-put_behind done [] rises = sym (append-nil done)
-put_behind done (e ∷ left) rises =
+-- entries that are put after those that are there, the least position first, stand after them
+put_after : (done left : Entries) → IsMap pos_cmp (done ++ left) → with_keys (keys_in left) done ≡ done ++ left
+put_after done [] rises = sym (append-nil done)
+put_after done (e ∷ left) rises =
     let joined = append_assoc done (e ∷ []) left in
     let put = insert_entry-greatest pos_total e.0 e.1 left done rises in
-    ap (with_keys (keys_in left)) put ∙ put_behind (done ++ e ∷ []) left (subst (IsMap pos_cmp) (sym joined) rises) ∙ joined
+    ap (with_keys (keys_in left)) put ∙ put_after (done ++ e ∷ []) left (subst (IsMap pos_cmp) (sym joined) rises) ∙ joined
 
 -- the keys of a map make it from nothing
 pub keys_make : (entries : Entries) → IsMap pos_cmp entries → with_keys (keys_in entries) [] ≡ entries
-keys_make entries rises = put_behind [] entries rises
+keys_make entries rises = put_after [] entries rises
 
 -- a node with keys put that it covers is one
 pub node-with_keys : (keys : List Key) (node : Node) → IsNode node → All (λ key. IsWithin node.least node.greatest key.pos) keys → All (λ key. IsKeyValue key.value) keys → IsNode (with_entries node (with_keys keys node.entries))

@@ -44,15 +44,15 @@ btree_of-code Deleted = refl
 btree_of-code Counters = refl
 
 -- The next member isn't read.
-pub ends : {A : Type 0} (fault : RecordFault) (item : Option A → FormatOf RecordFault A) (front : List A) (count i : ℕ) (rest : List ℕ) (whole : Result (List A × List ℕ) RecordFault) → i < count
-    → Fails fault ((item (last_of front)).read rest) → IsReadTo item front (count - i) rest whole → Fails fault whole
-ends records.Short item front count i rest whole lt read so_far = stops records.Short item front count i rest whole lt read so_far
-ends records.Order item front count i rest whole lt read so_far = stops records.Order item front count i rest whole lt read so_far
-ends (records.Key fault) item front count i rest whole lt read so_far = stops (records.Key fault) item front count i rest whole lt read so_far
-ends records.Roots item front count i rest whole lt read so_far = stops records.Roots item front count i rest whole lt read so_far
-ends records.Field item front count i rest whole lt read so_far = stops records.Field item front count i rest whole lt read so_far
-ends records.Long item front count i rest whole lt read so_far = stops records.Long item front count i rest whole lt read so_far
-ends records.NoMemory item front count i rest whole lt read so_far = tt
+pub ends : {A : Type 0} (fault : RecordFault) (item : Option A → FormatOf RecordFault A) (prefix : List A) (count i : ℕ) (rest : List ℕ) (whole : Result (List A × List ℕ) RecordFault) → i < count
+    → Fails fault ((item (last_of prefix)).read rest) → IsReadTo item prefix (count - i) rest whole → Fails fault whole
+ends records.Short item prefix count i rest whole lt read so_far = stops records.Short item prefix count i rest whole lt read so_far
+ends records.Order item prefix count i rest whole lt read so_far = stops records.Order item prefix count i rest whole lt read so_far
+ends (records.Key fault) item prefix count i rest whole lt read so_far = stops (records.Key fault) item prefix count i rest whole lt read so_far
+ends records.Roots item prefix count i rest whole lt read so_far = stops records.Roots item prefix count i rest whole lt read so_far
+ends records.Field item prefix count i rest whole lt read so_far = stops records.Field item prefix count i rest whole lt read so_far
+ends records.Long item prefix count i rest whole lt read so_far = stops records.Long item prefix count i rest whole lt read so_far
+ends records.NoMemory item prefix count i rest whole lt read so_far = tt
 
 -- A key's part is read of a record, and so is a root.
 pub ruleset carried_by = (gives_key, gives_root)

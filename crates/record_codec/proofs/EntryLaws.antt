@@ -13,10 +13,10 @@ use Rattle.vol_types.specs.Lengths.{key_length_of}
 use Rattle.vol_types.specs.Widths.{PosFits}
 use Rattle.key_codec.specs.Exact.{IsExactBut}
 use Rattle.key_codec.specs.Formats.{u8_byte, u32_le, u64_le, checked, followed, both, items}
-use Rattle.key_codec.specs.Keys.{spelling, key_format}
+use Rattle.key_codec.specs.Keys.{encoding, key_format}
 use Rattle.key_codec.specs.Kinds as kinds
-use Rattle.key_codec.proofs.Combined.{mapped-exact, checked-exact, followed-exact, both-exact, SpellsAlike, spellings_meet}
-use Rattle.key_codec.proofs.LengthLaws.{length-members, length-node, length-spelling}
+use Rattle.key_codec.proofs.Combined.{mapped-exact, checked-exact, followed-exact, both-exact, EncodesAlike, encodings_meet}
+use Rattle.key_codec.proofs.LengthLaws.{length-members, length-node, length-encoding}
 use Rattle.key_codec.proofs.ListLaws.{each-exact}
 use Rattle.record_codec.specs.declared.entries.EntryRecord.{EntryRecord}
 use Rattle.record_codec.specs.declared.fault.RecordFault.TheVariants.{Short, Field}
@@ -39,7 +39,7 @@ update_item-exact before = mapped-exact (λ (p : (Btree × ℕ) × (Pos × Optio
     (both-exact (λ tree. ⊤) IsByte btree byte btree-exact byte-exact)
     (λ place. both-exact PosFits (IsValueIn place.0 place.1) position (value_in place.0 place.1) position-exact (value_in-exact place.0 place.1)))
 
-update_item-alike : SpellsAlike update_item
+update_item-alike : EncodesAlike update_item
 unfolding update_item
 update_item-alike before update = refl
 
@@ -90,29 +90,29 @@ entry-exact = mapped-exact (λ (p : ℕ × (ℕ × (ℕ × (ℕ × Lists)))). Is
     (both-exact IsU64 AreLists u64_field (both roots (listing update_item)) u64_field-exact
     (both-exact (λ xs. All IsRoot xs × (length xs ≡ 9)) (λ updates. All IsAnUpdate updates × (length updates < 2 ^ 32)) roots (listing update_item) roots-exact updates-exact)))))
 
--- An entry is spelled as its numbers, its roots, the number of its updates, and each update.
-pub entry_spelled : (entry : EntryRecord) → u64_le.spell entry.sequence ++ (u64_le.spell entry.oldest ++ (u64_le.spell entry.session ++ (u64_le.spell entry.commits ++ (flat_map kinds.node_fields.spell entry.roots ++ (u32_le.spell (length entry.updates) ++ flat_map (λ update. (btree_code update.btree ∷ update.level ∷ []) ++ spelling update.pos update.value) entry.updates))))) ≡ entry_format.spell entry
+-- An entry is encoded as its numbers, its roots, the number of its updates, and each update.
+pub entry_encoded : (entry : EntryRecord) → u64_le.encode entry.sequence ++ (u64_le.encode entry.oldest ++ (u64_le.encode entry.session ++ (u64_le.encode entry.commits ++ (flat_map kinds.node_fields.encode entry.roots ++ (u32_le.encode (length entry.updates) ++ flat_map (λ update. (btree_code update.btree ∷ update.level ∷ []) ++ encoding update.pos update.value) entry.updates))))) ≡ entry_format.encode entry
 unfolding entry_format u64_field roots listing items u32_field root update_item btree value_in position byte u8_byte key_format
-entry_spelled entry = refl
+entry_encoded entry = refl
 
--- Two spellings of entries at the front of the same bytes are one.
-pub entries_meet : (entry other : EntryRecord) (rest other_rest : List ℕ) → IsEntry entry → IsEntry other → entry_format.spell entry ++ rest ≡ entry_format.spell other ++ other_rest → (entry ≡ other) × (rest ≡ other_rest)
-entries_meet entry other rest other_rest is other_is e = spellings_meet IsEntry entry_format entry-exact entry other rest other_rest is other_is e
+-- Two encodings of entries at the start of the same bytes are one.
+pub entries_meet : (entry other : EntryRecord) (rest other_rest : List ℕ) → IsEntry entry → IsEntry other → entry_format.encode entry ++ rest ≡ entry_format.encode other ++ other_rest → (entry ≡ other) × (rest ≡ other_rest)
+entries_meet entry other rest other_rest is other_is e = encodings_meet IsEntry entry_format entry-exact entry other rest other_rest is other_is e
 
 -- ---- lengths
 
-length-update : (update : Update) → length ((update_item None).spell update) ≡ 2 + key_length_of update.value
+length-update : (update : Update) → length ((update_item None).encode update) ≡ 2 + key_length_of update.value
 unfolding update_item btree position value_in byte u8_byte key_format
-length-update update = omega (arith, length-spelling update.pos update.value)
+length-update update = omega (arith, length-encoding update.pos update.value)
 
-length-root : (node : NodePtr) → length ((root_item None).spell node) ≡ 10 + 5 * length node.places
+length-root : (node : NodePtr) → length ((root_item None).encode node) ≡ 10 + 5 * length node.places
 unfolding root
 length-root node = length-node node
 
 -- An entry is as long as its roots and updates say.
-pub length-entry : (entry : EntryRecord) → length (entry_format.spell entry) ≡ entry_length_of entry.roots entry.updates
+pub length-entry : (entry : EntryRecord) → length (entry_format.encode entry) ≡ entry_length_of entry.roots entry.updates
 unfolding entry_format u64_field roots listing items u32_field u32_le u64_le
 length-entry entry =
-    let of_roots = flat_map (root_item None).spell entry.roots in
-    let of_updates = flat_map (update_item None).spell entry.updates in
-    omega (arith, length-append of_roots (u32_le.spell (length entry.updates) ++ of_updates), length-append (u32_le.spell (length entry.updates)) of_updates, length-members (root_item None).spell (λ node. 10 + 5 * length node.places) entry.roots length-root, length-members (update_item None).spell (λ update. 2 + key_length_of update.value) entry.updates length-update)
+    let of_roots = flat_map (root_item None).encode entry.roots in
+    let of_updates = flat_map (update_item None).encode entry.updates in
+    omega (arith, length-append of_roots (u32_le.encode (length entry.updates) ++ of_updates), length-append (u32_le.encode (length entry.updates)) of_updates, length-members (root_item None).encode (λ node. 10 + 5 * length node.places) entry.roots length-root, length-members (update_item None).encode (λ update. 2 + key_length_of update.value) entry.updates length-update)

@@ -130,7 +130,7 @@ value_in-exact tree level = mapped-exact (λ (p : ℕ × Option Value). (IsByte 
     (followed-exact (λ kind. IsByte kind × (stands tree level kind ≡ true)) IsOfKind (checked_by byte (stands tree level) (λ kind. Key (Kind kind))) (λ kind. lifted key_fault (fields kind))
     (checked_by-exact IsByte byte (stands tree level) (λ kind. Key (Kind kind)) byte-exact) (λ kind. lifted-exact (IsOfKind kind) key_fault (fields kind) refl (fields-exact kind)))
 
--- A list behind its count is exact.
+-- A list after its count is exact.
 pub listing-exact : {A : Type 0} (P : List A → Type 0) (item : Option A → FormatOf RecordFault A) → ((n : ℕ) → IsExactBut Short (λ xs. P xs × (length xs ≡ n)) (items item n)) → IsExactBut Short (λ xs. P xs × (length xs < 2 ^ 32)) (listing item)
 unfolding listing
 listing-exact {A} P item exact = mapped-exact (λ (p : ℕ × List A). IsU32 p.0 × (P p.1 × (length p.1 ≡ p.0))) (λ xs. P xs × (length xs < 2 ^ 32)) (followed u32_field (items item)) (λ p. p.1) (λ xs. (length xs, xs))

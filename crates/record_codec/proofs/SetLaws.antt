@@ -16,10 +16,10 @@ use Rattle.vol_types.specs.Sets.{set_length_of}
 use Rattle.vol_types.specs.Widths.{PosFits}
 use Rattle.key_codec.specs.Exact.{IsExactBut}
 use Rattle.key_codec.specs.Formats.{u8_byte, u32_le, u64_le, checked, followed, both, items, is_above}
-use Rattle.key_codec.specs.Keys.{spelling, key_format}
+use Rattle.key_codec.specs.Keys.{encoding, key_format}
 use Rattle.key_codec.specs.Kinds as kinds
-use Rattle.key_codec.proofs.Combined.{mapped-exact, checked-exact, followed-exact, both-exact, SpellsAlike, spellings_meet}
-use Rattle.key_codec.proofs.LengthLaws.{length-members, length-position, length-spelling}
+use Rattle.key_codec.proofs.Combined.{mapped-exact, checked-exact, followed-exact, both-exact, EncodesAlike, encodings_meet}
+use Rattle.key_codec.proofs.LengthLaws.{length-members, length-position, length-encoding}
 use Rattle.key_codec.proofs.ListLaws.{above_from_test, test_from_above, RisesBy, AreRising, rising-exact}
 use Rattle.record_codec.specs.declared.fault.RecordFault.TheVariants.{Short, Order}
 use Rattle.record_codec.specs.declared.sets.SetHead.{SetHead}
@@ -67,7 +67,7 @@ key_item-exact head before = mapped-exact (λ (p : Pos × Option Value). (PosFit
     (both-exact (λ pos. PosFits pos × (is_next head before pos ≡ true)) (IsValueIn head.btree head.level) (checked position (is_next head before) Order) (value_in head.btree head.level)
     (checked-exact PosFits position (is_next head before) Order position-exact) (value_in-exact head.btree head.level))
 
-key_item-alike : (head : SetHead) → SpellsAlike (key_item head)
+key_item-alike : (head : SetHead) → EncodesAlike (key_item head)
 unfolding key_item
 key_item-alike head before key = refl
 
@@ -112,26 +112,26 @@ set-exact = mapped-exact (λ (p : SetHead × List Key). HeadFits p.0 × (AreKeys
     ))
     (followed-exact HeadFits (λ head keys. AreKeysOf head keys × (length keys < 2 ^ 32)) set_head (λ head. listing (key_item head)) set_head-exact keys-exact)
 
--- A set is spelled as its head, the number of its keys, and each key.
-pub set_spelled : (set : SetRecord) → set_head.spell (head_of set) ++ (u32_le.spell (length set.keys) ++ flat_map (λ key. spelling key.pos key.value) set.keys) ≡ set_format.spell set
+-- A set is encoded as its head, the number of its keys, and each key.
+pub set_encoded : (set : SetRecord) → set_head.encode (head_of set) ++ (u32_le.encode (length set.keys) ++ flat_map (λ key. encoding key.pos key.value) set.keys) ≡ set_format.encode set
 unfolding set_format listing items u32_field key_item value_in position byte key_format
-set_spelled set = refl
+set_encoded set = refl
 
--- Two spellings of sets at the front of the same bytes are one.
-pub sets_meet : (set other : SetRecord) (rest other_rest : List ℕ) → IsSet set → IsSet other → set_format.spell set ++ rest ≡ set_format.spell other ++ other_rest → (set ≡ other) × (rest ≡ other_rest)
-sets_meet set other rest other_rest is other_is e = spellings_meet IsSet set_format set-exact set other rest other_rest is other_is e
+-- Two encodings of sets at the start of the same bytes are one.
+pub sets_meet : (set other : SetRecord) (rest other_rest : List ℕ) → IsSet set → IsSet other → set_format.encode set ++ rest ≡ set_format.encode other ++ other_rest → (set ≡ other) × (rest ≡ other_rest)
+sets_meet set other rest other_rest is other_is e = encodings_meet IsSet set_format set-exact set other rest other_rest is other_is e
 
 -- ---- lengths
 
-length-key : (head : SetHead) (key : Key) → length ((key_item head None).spell key) ≡ key_length_of key.value
+length-key : (head : SetHead) (key : Key) → length ((key_item head None).encode key) ≡ key_length_of key.value
 unfolding key_item position value_in byte key_format
-length-key head key = length-spelling key.pos key.value
+length-key head key = length-encoding key.pos key.value
 
 -- A set is as long as its keys say.
-pub length-set : (set : SetRecord) → length (set_format.spell set) ≡ set_length_of set.keys
+pub length-set : (set : SetRecord) → length (set_format.encode set) ≡ set_length_of set.keys
 unfolding set_format set_head u64_field btree byte zeros position listing items u32_field u8_byte u32_le u64_le
 length-set set =
-    let keys = flat_map (key_item (head_of set) None).spell set.keys in
-    let least = kinds.position.spell set.least in
-    let greatest = kinds.position.spell set.greatest in
-    omega (arith, length-append least greatest, length-append (least ++ greatest) (u32_le.spell (length set.keys) ++ keys), length-position set.least, length-position set.greatest, length-members (key_item (head_of set) None).spell (λ key. key_length_of key.value) set.keys (length-key (head_of set)))
+    let keys = flat_map (key_item (head_of set) None).encode set.keys in
+    let least = kinds.position.encode set.least in
+    let greatest = kinds.position.encode set.greatest in
+    omega (arith, length-append least greatest, length-append (least ++ greatest) (u32_le.encode (length set.keys) ++ keys), length-position set.least, length-position set.greatest, length-members (key_item (head_of set) None).encode (λ key. key_length_of key.value) set.keys (length-key (head_of set)))

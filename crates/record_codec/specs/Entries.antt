@@ -35,7 +35,7 @@ pub record EntryFits (entry : EntryRecord) : Type 0 where
   pub roots : All NodeFits entry.roots
   pub updates : All UpdateFits entry.updates
 
--- The entry has a spelling.
+-- The entry has a encoding.
 pub record IsEntry (entry : EntryRecord) : Type 0 where
   pub fits : EntryFits entry
   pub in_range : IsEntryInRange entry
@@ -53,7 +53,7 @@ unfoldable pub update_item : Option Update → FormatOf RecordFault Update
 update_item before = mapped (followed (both btree byte) (λ place. both position (value_in place.0 place.1)))
     (λ x. record { btree = x.0.0; level = x.0.1; pos = x.1.0; value = x.1.1 }) (λ u. ((u.btree, u.level), (u.pos, u.value)))
 
--- an entry: its sequence, the oldest sequence that is needed, up to its own, its session, the number of commits before it, the roots, and the updates behind their number
+-- an entry: its sequence, the oldest sequence that is needed, up to its own, its session, the number of commits before it, the roots, and the updates after their number
 unfoldable pub entry_format : FormatOf RecordFault EntryRecord
 entry_format = mapped (followed u64_field (λ sequence. both (checked u64_field (λ oldest. nat_le oldest sequence) Field) (both u64_field (both u64_field (both roots (listing update_item))))))
     (λ x. record { sequence = x.0; oldest = x.1.0; session = x.1.1.0; commits = x.1.1.1.0; roots = x.1.1.1.1.0; updates = x.1.1.1.1.1 })
@@ -65,6 +65,14 @@ entry_in bytes = do
   x ← entry_format.read bytes
   all_read x
 
--- the bytes of an entry: 32 for its four numbers, those of each root, 4 for the number of updates, and for each update 2 for its btree and level besides its key
+-- the bytes of a root
+abbrev pub root_length_of : NodePtr → ℕ
+root_length_of root = 10 + 5 * length root.places
+
+-- the bytes of an update: 2 for its btree and level besides its key
+abbrev pub update_length_of : Update → ℕ
+update_length_of update = 2 + key_length_of update.value
+
+-- the bytes of an entry: 32 for its four numbers, those of each root, 4 for the number of updates, and those of each update
 abbrev pub entry_length_of : List NodePtr → List Update → ℕ
-entry_length_of roots updates = 36 + sum_by (λ root. 10 + 5 * length root.places) roots + sum_by (λ update. 2 + key_length_of update.value) updates
+entry_length_of roots updates = 36 + sum_by root_length_of roots + sum_by update_length_of updates

@@ -31,7 +31,7 @@ u64_field = lifted key_fault u64_le
 unfoldable pub position : FormatOf RecordFault Pos
 position = lifted key_fault kinds.position
 
--- a pointer to a root, spelled as the fields of a node's key
+-- a pointer to a root, encoded as the fields of a node's key
 unfoldable pub root : FormatOf RecordFault NodePtr
 root = lifted root_fault kinds.node_fields
 

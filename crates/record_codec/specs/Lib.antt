@@ -1,4 +1,5 @@
 pub mod Entries
 pub mod Fields
+pub mod LengthLaws
 pub mod Reading
 pub mod Sets

@@ -1,4 +1,4 @@
--- When the code reads what a format of records reads, and how a record names the fault of a part of a key. Want of memory says nothing.
+-- When the code reads what a format of records reads, and how a record names the fault of a part of a key. Being out of memory says nothing.
 use Rattle.std.specs.Prelude.{◌≡◌, ⊤, Result, Ok, Err}
 use Rattle.key_codec.specs.declared.fault.KeyFault.{KeyFault}
 use Rattle.key_codec.specs.declared.fault.KeyFault.TheVariants as of_keys
@@ -21,7 +21,7 @@ root_fault (of_keys.Range field) = Roots
 root_fault of_keys.Order = Roots
 root_fault of_keys.NoMemory = NoMemory
 
--- Reading ends in this fault, or memory was wanting.
+-- Reading ends in this fault, or it is out of memory.
 abbrev pub Fails : {Y : Type 0} → RecordFault → Result Y RecordFault → Type 0
 Fails Short read = read ≡ Err Short
 Fails Order read = read ≡ Err Order
@@ -31,7 +31,7 @@ Fails Field read = read ≡ Err Field
 Fails Long read = read ≡ Err Long
 Fails NoMemory read = ⊤
 
--- The result, seen by view, is what reading gives, or memory was wanting.
+-- The result, seen by view, is what reading gives, or it is out of memory.
 abbrev pub Gives : {X Y : Type 0} → (X → Y) → Result X RecordFault → Result Y RecordFault → Type 0
 Gives view (Ok x) read = read ≡ Ok (view x)
 Gives view (Err fault) read = Fails fault read

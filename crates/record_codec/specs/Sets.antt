@@ -1,5 +1,5 @@
--- What a set of a node is on disk: which keys of the node's range it holds, and how they are spelled.
-use Rattle.std.specs.Prelude.{ℕ, ◌<◌, ◌^◌, Bool, List, [], ◌∷◌, length, map, All, Option, option_map, Result, Ok, Err, ◌&&◌}
+-- What a set of a node is on disk: which keys of the node's range it holds, and how they are encoded.
+use Rattle.std.specs.Prelude.{ℕ, ◌<◌, ◌^◌, Bool, List, [], ◌∷◌, length, map, All, Option, option_copied, option_map, Result, Ok, Err, ◌&&◌}
 use Rattle.std.specs.Ordering.{is_le}
 use Rattle.vol_types.specs.declared.keys.Key.{Key}
 use Rattle.vol_types.specs.declared.positions.Pos.{Pos}
@@ -9,6 +9,7 @@ use Rattle.vol_types.specs.Widths.{PosFits, KeyValueFits}
 use Rattle.key_codec.specs.Formats.{FormatOf, ◌>>=◌, mapped, checked, followed, both, is_above}
 use Rattle.record_codec.specs.declared.fault.RecordFault.{RecordFault}
 use Rattle.record_codec.specs.declared.fault.RecordFault.TheVariants.{Order, Long}
+use Rattle.record_codec.specs.declared.sets.KeyRef.{KeyRef}
 use Rattle.record_codec.specs.declared.sets.SetHead.{SetHead}
 use Rattle.record_codec.specs.declared.sets.SetRecord.{SetRecord}
 use Rattle.record_codec.specs.Fields.{byte, u64_field, position, zeros, btree, value_in, listing}
@@ -38,12 +39,20 @@ pub record HeadFits (head : SetHead) : Type 0 where
 abbrev pub head_of : SetRecord → SetHead
 head_of set = record { birth = set.birth; btree = set.btree; level = set.level; least = set.least; greatest = set.greatest }
 
+-- a key that is lent
+abbrev pub lent_key : KeyRef → Key
+lent_key key = record { pos = key.pos.now; value = option_copied key.value }
+
+-- the set of keys that are lent
+abbrev pub lent_set : SetHead → List KeyRef → SetRecord
+lent_set head keys = record { birth = head.birth; btree = head.btree; level = head.level; least = head.least; greatest = head.greatest; keys = map lent_key keys }
+
 -- The parts of the set have their widths.
 pub record SetFits (set : SetRecord) : Type 0 where
   pub head : HeadFits (head_of set)
   pub keys : All KeyFits set.keys
 
--- The set has a spelling.
+-- The set has a encoding.
 pub record IsSet (set : SetRecord) : Type 0 where
   pub fits : SetFits set
   pub in_range : IsSetInRange set

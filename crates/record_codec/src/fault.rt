@@ -18,9 +18,9 @@ pub enum RecordFault {
     Roots,
     /// Another number is out of its range.
     Field,
-    /// Bytes stand behind the last key.
+    /// Bytes stand after the last key.
     Long,
-    /// Memory was wanting. It says nothing of the bytes.
+    /// Out of memory. It says nothing of the bytes.
     NoMemory,
 }
 

@@ -23,7 +23,7 @@ fn key_part<T>(read: Result<T, KeyFault>) -> Result<T, RecordFault>
     }
 }
 
-/// The byte in front, and the rest.
+/// The byte at the start, and the rest.
 #[tactic(auto, using(crate::proofs::Carried::carried_by), unfolding(crate::specs::Fields::byte))]
 pub(crate) fn byte_at(bytes: &[u8]) -> Result<(u8, &[u8]), RecordFault>
     ensures { Gives (λ x. (x.0, x.1.now)) result (byte.read bytes.now) }
@@ -47,7 +47,7 @@ pub(crate) fn long_number_at(bytes: &[u8]) -> Result<(u64, &[u8]), RecordFault>
     key_part(u64_at(bytes))
 }
 
-/// The position in front, and the rest.
+/// The position at the start, and the rest.
 #[tactic(auto, using(crate::proofs::Carried::carried_by), unfolding(crate::specs::Fields::position))]
 pub(crate) fn pos_at(bytes: &[u8]) -> Result<(Pos, &[u8]), RecordFault>
     ensures { Gives (λ x. (x.0, x.1.now)) result (position.read bytes.now) }
@@ -55,7 +55,7 @@ pub(crate) fn pos_at(bytes: &[u8]) -> Result<(Pos, &[u8]), RecordFault>
     key_part(position_at(bytes))
 }
 
-/// The pointer to a root in front, and the rest.
+/// The pointer to a root at the start, and the rest.
 #[tactic(auto, using(crate::proofs::Carried::carried_by), unfolding(crate::specs::Fields::root))]
 pub(crate) fn root_at(alloc: Global, bytes: &[u8]) -> Result<(NodePtr, &[u8]), RecordFault>
     ensures { Gives (λ x. (x.0, x.1.now)) result (root.read bytes.now) }
@@ -66,7 +66,7 @@ pub(crate) fn root_at(alloc: Global, bytes: &[u8]) -> Result<(NodePtr, &[u8]), R
     }
 }
 
-/// What stands behind two bytes that are zero.
+/// What stands after two bytes that are zero.
 #[tactic(auto, unfolding(crate::specs::Fields::zeros))]
 pub(crate) fn zeros_at(bytes: &[u8]) -> Result<&[u8], RecordFault>
     ensures { Gives (λ rest. (tt, rest.now)) result (zeros.read bytes.now) }
@@ -79,7 +79,7 @@ pub(crate) fn zeros_at(bytes: &[u8]) -> Result<&[u8], RecordFault>
     Ok(rest)
 }
 
-/// The btree in front, and the rest.
+/// The btree at the start, and the rest.
 #[tactic(auto, using(crate::proofs::Carried::btrees_by), unfolding(crate::specs::Fields::btree))]
 pub(crate) fn btree_at(bytes: &[u8]) -> Result<(Btree, &[u8]), RecordFault>
     ensures { Gives (λ x. (x.0, x.1.now)) result (btree.read bytes.now) }
@@ -91,7 +91,7 @@ pub(crate) fn btree_at(bytes: &[u8]) -> Result<(Btree, &[u8]), RecordFault>
     }
 }
 
-/// The value in front, of a key at this level of the btree, and the rest.
+/// The value at the start, of a key at this level of the btree, and the rest.
 #[tactic(auto, unfolding(crate::specs::Fields::value_in))]
 pub(crate) fn value_at(
     alloc: Global,
@@ -108,7 +108,7 @@ pub(crate) fn value_at(
     fields_of_kind_at(alloc, kind, rest)
 }
 
-// The value of this kind whose fields are in front, and the rest.
+// The value of this kind whose fields are at the start, and the rest.
 #[tactic(auto, using(crate::proofs::Carried::carried_by))]
 fn fields_of_kind_at(
     alloc: Global,

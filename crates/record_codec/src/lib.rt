@@ -1,5 +1,5 @@
-//! The records of a volume as bytes: the sets of a node's bucket and the entries of the journal. Each has one spelling,
-//! and reading gives the record that is spelled or the first fault from the left.
+//! The records of a volume as bytes: the sets of a node's bucket and the entries of the journal. Each has one encoding,
+//! and reading gives the record that is encoded or the first fault from the left.
 //!
 //! Numbers are little-endian. A position, a key and its fields are those of `key_codec`.
 //!
@@ -31,16 +31,18 @@ mod entries;
 mod fault;
 mod fields;
 mod laws;
+mod lengths;
 mod members;
 mod sets;
 
 pub use entries::{EntryRecord, get_entry, put_entry};
 pub use fault::RecordFault;
 pub use laws::{
-    entries_are_exact, entry_lengths, one_entry_spelling, one_set_spelling, set_lengths,
-    sets_are_exact,
+    entries_are_exact, entry_lengths, lengths_add, one_entry_encoding, one_set_encoding,
+    set_lengths, sets_are_exact,
 };
-pub use sets::{SetRecord, get_set, put_set};
+pub use lengths::{entry_length, update_length};
+pub use sets::{KeyRef, SetHead, SetRecord, get_set, put_lent_set, put_set};
 
 #[cfg(test)]
 mod tests;

@@ -11,13 +11,9 @@ use key_codec::put_u32;
 use std::alloc::{AllocError, Global};
 use vol_types::{Bytes, Listing};
 
-/// A member of a record's list. How it is read depends on the record's head, of type `H`, and may depend on the member
-/// before it.
-pub(crate) trait Member<H>: Drop {
-    ghost format: { H → Option Self → FormatOf AFault Self };
-
-    /// How it is spelled, under each head.
-    ghost spell: { Self → List ℕ };
+/// A member of a record's list, as it is written.
+pub(crate) trait Written {
+    ghost encode: { Self → List ℕ };
 
     /// What the member must be to be written.
     ghost Writable: { Self → Type 0 };
@@ -25,7 +21,19 @@ pub(crate) trait Member<H>: Drop {
     /// That its parts have their widths, as those of each in the code have.
     ghost Fits: { Self → Type 0 };
 
-    /// The member in front, and the rest.
+    /// Appends the member.
+    fn put(&self, alloc: Global, into: &mut Bytes) -> Result<(), AllocError>
+        requires { Writable self.now }
+        ensures ok { OnOk result (into.new ≡ into.old ++ encode self.now) }
+        ensures width { OnOk result (Fits self.now) };
+}
+
+/// A member of a record's list, as it is read. How it is read depends on the record's head, of type `H`, and may depend
+/// on the member before it.
+pub(crate) trait Member<H>: Drop {
+    ghost format: { H → Option Self → FormatOf AFault Self };
+
+    /// The member at the start, and the rest.
     fn read<'a>(
         alloc: Global,
         head: &H,
@@ -33,12 +41,6 @@ pub(crate) trait Member<H>: Drop {
         bytes: &'a [u8],
     ) -> Result<(Self, &'a [u8]), RecordFault>
         ensures { Gives (λ x. (x.0, x.1.now)) result ((format head.now (option_copied before.entry)).read bytes.now) };
-
-    /// Appends the member.
-    fn put(&self, alloc: Global, into: &mut Bytes) -> Result<(), AllocError>
-        requires { Writable self.now }
-        ensures ok { OnOk result (into.new ≡ into.old ++ spell self.now) }
-        ensures width { OnOk result (Fits self.now) };
 }
 
 /// So many members, and the rest. It takes memory as members come, whatever the count says.
@@ -74,13 +76,13 @@ pub(crate) fn listing_at<'a, H, T: Member<H>>(
 }
 
 /// Appends the members.
-pub(crate) fn put_members<H, T: Member<H>>(
+pub(crate) fn put_members<T: Written>(
     alloc: Global,
     into: &mut Bytes,
     members: &[T],
 ) -> Result<(), AllocError>
     requires { All T.Writable members.now }
-    ensures ok { OnOk result (into.new ≡ into.old ++ flat_map T.spell members.now) }
+    ensures ok { OnOk result (into.new ≡ into.old ++ flat_map T.encode members.now) }
     ensures width { OnOk result (All T.Fits members.now) }
 {
     for member in members {

@@ -53,7 +53,7 @@ fn digit_of(digit: u8) -> Option<u8> {
     }
 }
 
-// The bytes that the digits spell, two digits for each, with blanks anywhere.
+// The bytes that the digits encode, two digits for each, with blanks anywhere.
 fn bytes_of(alloc: Global, digits: &str) -> Result<Vec<u8>, AllocError> {
     let mut bytes = Vec::new(alloc);
     let mut high = None;
@@ -245,7 +245,7 @@ fn other_bytes_in_an_entry(rt: HostRuntime) -> Result<(), Fail> {
     Ok(())
 }
 
-// What an entry whose one update ends behind its kind gives, for each kind up to 13.
+// What an entry whose one update ends after its kind gives, for each kind up to 13.
 fn kinds_letters(alloc: Global, btree: u8, level: u8) -> Result<Vec<u8>, Fail> {
     let mut letters = Vec::new(alloc);
     for kind in 0..14 {
@@ -509,5 +509,43 @@ fn an_entry_of_sixty_commits(rt: HostRuntime) -> Result<(), Fail> {
     assert_eq!(rt; entry.updates.len(), 180);
     let written = put_entry(alloc, &entry)?;
     assert_eq!(rt; written.as_slice(), payload.as_slice());
+    Ok(())
+}
+
+// The expected bytes are written down by the table of the format.
+#[test]
+fn lent_keys_are_written(rt: HostRuntime) -> Result<(), Fail> {
+    let alloc = rt.alloc();
+    let head = SetHead {
+        birth: 7,
+        btree: Btree::Extents,
+        level: 1,
+        least: Pos::LEAST,
+        greatest: Pos::GREATEST,
+    };
+    let pos = pos_of(5, 16, 9);
+    let written = put_lent_set(
+        alloc,
+        &head,
+        &[KeyRef {
+            pos: &pos,
+            value: None,
+        }],
+    )?;
+    let wanted = "\
+        0700000000000000000100000000000000000000000000000000000000000000ffffffffffffffffffffffffffffffffffff\
+        ffff01000000050000000000000010000000000000000900000000";
+    let wanted = bytes_of(alloc, wanted)?;
+    assert_eq!(rt; written.as_slice(), wanted.as_slice());
+    Ok(())
+}
+
+#[test]
+fn lengths_of_the_entry(rt: HostRuntime) -> Result<(), Fail> {
+    let alloc = rt.alloc();
+    let payload = bytes_of(alloc, ENTRY)?;
+    let entry = get_entry(alloc, &payload).ok().ok_or("it is an entry")?;
+    let length = entry_length(entry.roots.as_slice(), entry.updates.as_slice());
+    assert!(rt; length == payload.len() as u64);
     Ok(())
 }

@@ -29,10 +29,10 @@ all_above : (k : ℕ) (snaps : Snaps) → AllByRecursion (λ y. nat_cmp k y ≡ 
 all_above k [] all = tt
 all_above k (e ∷ snaps) all = (ranked k e.0 Less (sym all.0), all_above k snaps all.1)
 
-first_least : (e : ℕ × Snap) (snaps : Snaps) → IsMap nat_cmp (e ∷ snaps) → AllAbove e.0 snaps
+pub first_least : (e : ℕ × Snap) (snaps : Snaps) → IsMap nat_cmp (e ∷ snaps) → AllAbove e.0 snaps
 first_least e snaps rises = all_above e.0 snaps (sorted_head nat_cmp e.0 (keys_of snaps) rises)
 
-others_rise : (e : ℕ × Snap) (snaps : Snaps) → IsMap nat_cmp (e ∷ snaps) → IsMap nat_cmp snaps
+pub others_rise : (e : ℕ × Snap) (snaps : Snaps) → IsMap nat_cmp (e ∷ snaps) → IsMap nat_cmp snaps
 others_rise e snaps rises = sorted_tail nat_cmp e.0 (keys_of snaps) rises
 
 -- what is found among greater ids is greater
@@ -45,7 +45,7 @@ found_above k id (e ∷ snaps) snap all is = here (e.0 == id) refl (subst (λ b.
     here false other found later = later found
 
 -- an id that isn't the first one is looked for among the others
-past : (e : ℕ × Snap) (snaps : Snaps) (id : ℕ) → (e.0 == id) ≡ false → chain_of (e ∷ snaps) id ≡ chain_of snaps id
+pub past : (e : ℕ × Snap) (snaps : Snaps) (id : ℕ) → (e.0 == id) ≡ false → chain_of (e ∷ snaps) id ≡ chain_of snaps id
 past e snaps id other = ap (λ b. cond b (id ∷ chain_of snaps e.1.parent) (chain_of snaps id)) other
 
 -- an id that is too small to be there has no chain
@@ -114,7 +114,7 @@ above_in_chain snaps a above some has is =
     ∙ ⊎_elim (λ (none : above ≡ 0). absurd (some none)) (λ (there : IsSome (value_at nat_cmp above snaps)). subst (λ n. list_any (nat_eq n) (chain_of snaps above) ≡ true) is (first_in_chain snaps above there)) has
 
 -- all ids of a chain are above what all ids are above
-chain_above_all : (k id : ℕ) (snaps : Snaps) → AllAbove k snaps → AllByRecursion (λ y. nat_cmp k y ≡ Less) (chain_of snaps id)
+pub chain_above_all : (k id : ℕ) (snaps : Snaps) → AllAbove k snaps → AllByRecursion (λ y. nat_cmp k y ≡ Less) (chain_of snaps id)
 chain_above_all k id [] all = tt
 chain_above_all k id (e ∷ snaps) all = here (e.0 == id) refl (chain_above_all k e.1.parent snaps all.1) (chain_above_all k id snaps all.1)
   where

@@ -1,5 +1,15 @@
 pub mod Snaps
 pub mod Splits
+pub mod Updates
+pub mod Links
+pub mod Changes
+pub mod Walks
+pub mod Rising
+pub mod Nearest
+pub mod MapLaws
+pub mod Removals
 pub mod ChainLaws
 pub mod TreeLaws
+pub mod Places
 pub mod SplitLaws
+pub mod RemovalLaws

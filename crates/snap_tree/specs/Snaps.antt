@@ -1,10 +1,13 @@
--- Snapshot ids as trees, and the chain of an id up to its root.
-use Rattle.std.specs.Prelude.{◌≡◌, ℕ, ◌<◌, ◌^◌, Bool, true, ◌&&◌, ◌||◌, ◌==◌, nat_lt, nat_eq, Option, Some, None, is_some, IsSome, List, [], ◌∷◌, if◌then◌else◌}
-use Rattle.std.specs.List.{fold, list_all, list_any}
+-- Snapshot ids as trees, the chain of an id up to its root, and the number of live leaves.
+use Rattle.std.specs.Prelude.{◌≡◌, ℕ, ◌<◌, ◌^◌, Bool, true, false, ◌&&◌, ◌||◌, ◌==◌, nat_lt, nat_eq, Option, Some, None, is_some, IsSome, List, [], ◌∷◌, if◌then◌else◌}
+use Rattle.std.specs.List.{fold, list_all, list_any, count_by}
+use Rattle.std.specs.Map.{values_of}
 use Rattle.std.specs.Ordering.{nat_cmp}
 use Rattle.vol_types.specs.Maps.{IsMap, value_at, with_value}
 use Rattle.vol_types.specs.declared.keys.Key.{Key}
 use Rattle.vol_types.specs.declared.values.Snap.{Snap}
+use Rattle.vol_types.specs.declared.values.SnapState.{SnapState}
+use Rattle.vol_types.specs.declared.values.SnapState.TheVariants.{LiveLeaf, Interior, DeadLeaf}
 use Rattle.vol_types.specs.declared.values.Value.{Value}
 use Rattle.vol_types.specs.declared.values.Value.TheVariants as values
 
@@ -50,7 +53,7 @@ pub record IsSnapTree (snaps : Snaps) : Type 0 where
   pub rises : IsMap nat_cmp snaps
   pub trees : are_trees snaps ≡ true
 
--- an id, its parent, its grandparent and so on up to the root, where a parent stands behind its children, since its id
+-- an id, its parent, its grandparent and so on up to the root, where a parent stands after its children, since its id
 -- is greater; nothing where the id isn't there
 abbrev pub chain_of : Snaps → ℕ → List ℕ
 chain_of [] id = []
@@ -63,3 +66,27 @@ is_ancestor_of snaps ancestor id = list_any (nat_eq ancestor) (chain_of snaps id
 -- the chain of a parent; nothing where it is 0, which stands for none
 abbrev pub chain_above : Snaps → ℕ → List ℕ
 chain_above snaps parent = if parent == 0 then [] else chain_of snaps parent
+
+-- the parent that a record names, if it names one
+abbrev pub named_parent : Option Snap → Option ℕ
+named_parent None = None
+named_parent (Some snap) = if snap.parent == 0 then None else Some snap.parent
+
+-- the parent of an id; none where the id is a root or isn't there
+abbrev pub parent_of : Snaps → ℕ → Option ℕ
+parent_of snaps id = named_parent (value_at nat_cmp id snaps)
+
+-- the chain of an id that may be none
+abbrev pub chain_of_maybe : Snaps → Option ℕ → List ℕ
+chain_of_maybe snaps None = []
+chain_of_maybe snaps (Some id) = chain_of snaps id
+
+-- whether a state is that of a live leaf
+abbrev pub is_live : SnapState → Bool
+is_live LiveLeaf = true
+is_live Interior = false
+is_live DeadLeaf = false
+
+-- how many ids are live leaves
+abbrev pub live_leaves : Snaps → ℕ
+live_leaves snaps = count_by (λ snap. is_live snap.state) (values_of snaps)

@@ -1,16 +1,17 @@
 -- What is known of an id in trees: its parent is none, or greater and there.
-use Rattle.std.proofs.Common.{◌≡◌, ℕ, ◌+◌, ◌-◌, ◌^◌, ◌<◌, Bool, true, false, cond, Some, [], ◌∷◌, refl, ap, subst, arith, inl, inr, ⊎_elim}
+use Rattle.std.proofs.Common.{◌≡◌, ℕ, ◌+◌, ◌-◌, ◌^◌, ◌<◌, Bool, true, false, cond, Some, [], ◌∷◌, refl, ap, ◌∙◌, subst, arith, inl, inr, ⊎_elim}
 use Rattle.std.specs.Prelude.{◌⊎◌, ◌==◌, ◌&&◌, ◌||◌, nat_lt, is_some, IsSome}
 use Rattle.std.specs.List.{list_all}
 use Rattle.std.specs.Ordering.{nat_cmp}
 use Rattle.std.proofs.lemmas.Bool.{eqb-true, eq-eqb, ne_eqb, ltb-true}
 use Rattle.std.proofs.lemmas.Option.{same_Some, none-some as none_some}
-use Rattle.vol_types.specs.Maps.{value_at}
+use Rattle.vol_types.specs.Maps.{IsMap, value_at}
 use Rattle.vol_types.specs.declared.values.Snap.{Snap}
 use Rattle.snap_tree.specs.Snaps.{Snaps, is_there, is_joined, are_trees}
 use Rattle.snap_tree.specs.ChainLaws.{same_test}
+use Rattle.snap_tree.specs.MapLaws.{trees_from_found}
 
-both : (a b : Bool) → (a && b) ≡ true → (a ≡ true) × (b ≡ true)
+pub both : (a b : Bool) → (a && b) ≡ true → (a ≡ true) × (b ≡ true)
 both true b is = (refl, is)
 both false b is = absurd (cc)
 
@@ -58,3 +59,51 @@ falls snaps id parent some has fits =
     (λ (up : (id < parent) × IsSome (value_at nat_cmp parent snaps)).
     let end : cond (parent == 0) 0 (2 ^ 32 - parent + 1) ≡ 2 ^ 32 - parent + 1 = ap (λ b. cond b 0 (2 ^ 32 - parent + 1)) (ne_eqb parent 0 (λ none. omega (arith, up.0, none))) in
     omega (arith, start, end, up.0, fits)) has
+
+-- a record is joined where what it names is there, and its parent is above it
+pub joined_from : (snaps : Snaps) (id : ℕ) (snap : Snap) → is_there snaps snap.parent ≡ true → (snap.parent == 0 || nat_lt id snap.parent) ≡ true → is_there snaps snap.first_child ≡ true → is_there snaps snap.second_child ≡ true → is_joined snaps id snap ≡ true
+joined_from snaps id snap parent above first second =
+    ap (λ b. b && (snap.parent == 0 || nat_lt id snap.parent) && is_there snaps snap.first_child && is_there snaps snap.second_child) parent
+    ∙ ap (λ b. b && is_there snaps snap.first_child && is_there snaps snap.second_child) above ∙ ap (λ b. b && is_there snaps snap.second_child) first ∙ second
+
+-- What a record that is joined names is there, and its parent is above it.
+pub record Joins (snaps : Snaps) (id : ℕ) (snap : Snap) : Type 0 where
+  pub parent : is_there snaps snap.parent ≡ true
+  pub above : (snap.parent == 0 || nat_lt id snap.parent) ≡ true
+  pub first : is_there snaps snap.first_child ≡ true
+  pub second : is_there snaps snap.second_child ≡ true
+
+pub joins : (snaps : Snaps) (id : ℕ) (snap : Snap) → is_joined snaps id snap ≡ true → Joins snaps id snap
+joins snaps id snap joined =
+    let above = snap.parent == 0 || nat_lt id snap.parent in
+    let last = both (is_there snaps snap.parent && above && is_there snaps snap.first_child) (is_there snaps snap.second_child) joined in
+    let third = both (is_there snaps snap.parent && above) (is_there snaps snap.first_child) last.0 in
+    let two = both (is_there snaps snap.parent) above third.0 in
+    record { parent = two.0; above = two.1; first = third.1; second = last.1 }
+
+-- an id that is there is so as a number that is named
+pub there_from_found : (snaps : Snaps) (id : ℕ) → IsSome (value_at nat_cmp id snaps) → is_there snaps id ≡ true
+there_from_found snaps id there = ap (λ b. id == 0 || b) there ∙ last (id == 0)
+  where
+    last : (b : Bool) → (b || true) ≡ true
+    last true = refl
+    last false = refl
+
+module _ (old new : Snaps) (more : (x : ℕ) → IsSome (value_at nat_cmp x old) → IsSome (value_at nat_cmp x new)) where
+  pub there_more : (id : ℕ) → is_there old id ≡ true → is_there new id ≡ true
+  there_more id there = here (id == 0) refl there
+    where
+      here : (b : Bool) → (id == 0) ≡ b → (b || is_some (value_at nat_cmp id old)) ≡ true → (id == 0 || is_some (value_at nat_cmp id new)) ≡ true
+      here true none found = ap (λ b. b || is_some (value_at nat_cmp id new)) none
+      here false some found = there_from_found new id (more id found)
+
+  -- a record stays joined where nothing is taken away
+  pub joined_more : (id : ℕ) (snap : Snap) → is_joined old id snap ≡ true → is_joined new id snap ≡ true
+  joined_more id snap joined =
+      let parts = joins old id snap joined in
+      joined_from new id snap (there_more snap.parent parts.parent) parts.above (there_more snap.first_child parts.first) (there_more snap.second_child parts.second)
+
+  -- trees with changed and new records are trees where these are joined
+  pub trees_more : IsMap nat_cmp new → are_trees old ≡ true → ((x : ℕ) (snap : Snap) → value_at nat_cmp x new ≡ Some snap → (value_at nat_cmp x old ≡ Some snap) ⊎ (is_joined new x snap ≡ true)) → are_trees new ≡ true
+  trees_more rises trees each =
+      trees_from_found new rises (λ x snap is. ⊎_elim (λ (was : value_at nat_cmp x old ≡ Some snap). joined_more x snap (found_joined old old x snap trees was)) (λ (joined : is_joined new x snap ≡ true). joined) (each x snap is))

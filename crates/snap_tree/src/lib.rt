@@ -5,11 +5,17 @@
 #![tactic(auto)]
 
 mod fault;
+mod laws;
+mod links;
 mod split;
+mod steps;
 mod tree;
+mod update;
 
 pub use fault::SnapFault;
+pub use laws::{chains_rise, nearest_ancestor_is_first, removals_drop_one_id, splits_make_trees};
 pub use split::Split;
+pub use steps::Steps;
 pub use tree::SnapTree;
 
 #[cfg(test)]

@@ -1,12 +1,15 @@
-//! Trees of ids by tables: chains, ancestry, splits and each refusal.
+//! Trees of ids by tables: records, chains, ancestry, splits, updates and each refusal.
 
 ghost use Rattle.std.specs.Prelude.{IfOk, All};
 ghost use Rattle.snap_tree.specs.Snaps.{IsSnapKey};
+ghost use Rattle.snap_tree.specs.Updates.{IsFitting};
 
 use super::*;
 use std::alloc::{AllocError, Global};
 use std::test::Fail;
-use vol_types::{Btree, Key, Keys, Listing, Pos, Snap, SnapState, Update, Value};
+use vol_types::{
+    Btree, Duplicate, Key, Keys, Listing, Pos, Snap, SnapState, Update, Updates, Value,
+};
 
 /// An id with its parent, its children and its state.
 type Row = (u32, u32, u32, u32, SnapState);
@@ -21,14 +24,14 @@ const TREES: [Row; 6] = [
     (100, 0, 99, 98, SnapState::Interior),
 ];
 
-fn value_of(row: Row) -> Value {
+fn snap_of(row: Row) -> Snap {
     let (_, parent, first_child, second_child, state) = row;
-    Value::Snap(Snap {
+    Snap {
         parent,
         first_child,
         second_child,
         state,
-    })
+    }
 }
 
 fn snap_keys(alloc: Global, rows: &[Row]) -> Result<Keys, AllocError>
@@ -95,7 +98,9 @@ fn ancestors(rt: HostRuntime) -> Result<(), Fail> {
     Ok(())
 }
 
-fn update_of(row: Row) -> Update {
+fn update_of(row: Row) -> Update
+    ensures { IsFitting result }
+{
     Update {
         btree: Btree::Snapshots,
         level: 0,
@@ -104,7 +109,7 @@ fn update_of(row: Row) -> Update {
             offset: row.0 as u64,
             snapshot: 0,
         },
-        value: Some(value_of(row)),
+        value: Some(Value::Snap(snap_of(row))),
     }
 }
 
@@ -162,6 +167,230 @@ fn no_trees(rt: HostRuntime) -> Result<(), Fail> {
     ] {
         let tree = SnapTree::of(alloc, &snap_keys(alloc, &rows)?);
         assert!(rt; matches!(tree, Err(SnapFault::NoNode)));
+    }
+    Ok(())
+}
+
+// The updates that give ids these records, and then take one away, if it isn't 0.
+fn updates_of(alloc: Global, rows: &[Row], gone: u32) -> Result<Updates, AllocError>
+    ensures { IfOk result (All IsFitting) }
+{
+    let mut updates = put_updates(alloc, rows)?;
+    if gone == 0 {
+        return Ok(updates);
+    }
+    updates.push(removal(gone))?;
+    Ok(updates)
+}
+
+fn put_updates(alloc: Global, rows: &[Row]) -> Result<Updates, AllocError>
+    ensures { IfOk result (All IsFitting) }
+{
+    let mut updates = Updates::new(alloc);
+    for &(id, parent, first_child, second_child, state) in rows {
+        updates.push(Update {
+            btree: Btree::Snapshots,
+            level: 0,
+            pos: Pos {
+                inode: 0,
+                offset: id as u64,
+                snapshot: 0,
+            },
+            value: Some(Value::Snap(Snap {
+                parent,
+                first_child,
+                second_child,
+                state,
+            })),
+        })?;
+    }
+    Ok(updates)
+}
+
+fn removal(id: u32) -> Update
+    ensures { IsFitting result }
+{
+    Update {
+        btree: Btree::Snapshots,
+        level: 0,
+        pos: Pos {
+            inode: 0,
+            offset: id as u64,
+            snapshot: 0,
+        },
+        value: None,
+    }
+}
+
+#[test]
+fn records(rt: HostRuntime) -> Result<(), Fail> {
+    let alloc = rt.alloc();
+    let tree = SnapTree::of(alloc, &snap_keys(alloc, &TREES)?)?;
+    assert_eq!(rt; tree.len(), 6);
+    assert_eq!(rt; tree.live_leaves(), 3);
+    assert!(rt; !tree.is_empty());
+    assert!(rt; SnapTree::new(alloc).is_empty());
+    let mut rows = TREES.iter();
+    for (id, snap) in tree.iter() {
+        let row = rows.next().ok_or("there are no more ids than rows")?;
+        assert_eq!(rt; *id, row.0);
+        assert!(rt; snap_of(*row) == *snap);
+    }
+    for (id, parent) in [(95, Some(98)), (98, Some(100)), (97, None), (94, None)] {
+        assert_eq!(rt; tree.parent(id), parent);
+    }
+    Ok(())
+}
+
+// Whether updates are made, and the chain of 89 is this afterwards.
+fn goes(tree: &mut SnapTree, updates: &Updates, chain: &[u32]) -> Result<bool, SnapFault>
+    requires { All IsFitting updates.now }
+{
+    tree.apply(updates)?;
+    Ok(tree.chain(89)?.as_slice() == chain)
+}
+
+#[test]
+fn updates(rt: HostRuntime) -> Result<(), Fail> {
+    let alloc = rt.alloc();
+    let mut tree = SnapTree::of(alloc, &snap_keys(alloc, &TREES)?)?;
+    // a snapshot of 96 and a root of its own; then 95 goes, which leaves 98 with one child; and then 98
+    let split = tree.split_leaf(96, 90)?;
+    assert!(rt; goes(&mut tree, &split.updates, &[89, 96, 98, 100])?);
+    let before = tree.copy(alloc)?;
+    let root = updates_of(alloc, &[(88, 0, 0, 0, SnapState::LiveLeaf)], 0)?;
+    assert!(rt; goes(&mut tree, &root, &[89, 96, 98, 100])?);
+    let one = updates_of(alloc, &[(98, 100, 96, 0, SnapState::Interior)], 95)?;
+    assert!(rt; goes(&mut tree, &one, &[89, 96, 98, 100])?);
+    let none = updates_of(
+        alloc,
+        &[
+            (96, 100, 90, 89, SnapState::Interior),
+            (100, 0, 99, 96, SnapState::Interior),
+        ],
+        98,
+    )?;
+    assert!(rt; goes(&mut tree, &none, &[89, 96, 100])?);
+    assert_eq!(rt; tree.live_leaves(), 5);
+    assert_eq!(rt; before.len(), 8);
+    Ok(())
+}
+
+// Whether updates are refused, and nothing has changed.
+fn is_refused(tree: &mut SnapTree, updates: &Updates) -> bool
+    requires { All IsFitting updates.now }
+{
+    tree.apply(updates).err() == Some(SnapFault::NoNode) && tree.len() == 6
+}
+
+#[test]
+fn refused_updates(rt: HostRuntime) -> Result<(), Fail> {
+    let alloc = rt.alloc();
+    let mut tree = SnapTree::of(alloc, &snap_keys(alloc, &TREES)?)?;
+    // a parent that is missing, one below its child, a child that is missing, and an id that goes and is named
+    for (row, gone) in [
+        ((90, 94, 0, 0, SnapState::LiveLeaf), 0),
+        ((97, 96, 0, 0, SnapState::LiveLeaf), 0),
+        ((91, 0, 96, 94, SnapState::Interior), 0),
+        ((90, 0, 0, 0, SnapState::LiveLeaf), 98),
+    ] {
+        assert!(rt; is_refused(&mut tree, &updates_of(alloc, &[row], gone)?));
+    }
+    Ok(())
+}
+
+/// How many ids a large tree has. They are the greatest ones.
+const MANY: u32 = 4096;
+
+// A chain: each id but the greatest is under the next one.
+fn long_row(id: u32) -> Row {
+    let parent = if id < u32::MAX { id + 1 } else { 0 };
+    (id, parent, 0, 0, SnapState::LiveLeaf)
+}
+
+// A tree in which each id but the greatest is under one that is half as far from the greatest.
+fn wide_row(id: u32) -> Row {
+    let far = u32::MAX - id;
+    let parent = if far > 0 { u32::MAX - (far - 1) / 2 } else { 0 };
+    (id, parent, 0, 0, SnapState::LiveLeaf)
+}
+
+// How far two ids of a chain are apart.
+fn in_long(above: u32, id: u32) -> Option<u32> {
+    if id <= above { Some(above - id) } else { None }
+}
+
+// How far two ids of the wide tree are apart, by going up from the lower one.
+fn in_wide(above: u32, id: u32) -> Option<u32> {
+    let mut at = u32::MAX - id;
+    for steps in 0..32 {
+        if at == u32::MAX - above {
+            return Some(steps);
+        }
+        if at == 0 {
+            return None;
+        }
+        at = (at - 1) / 2;
+    }
+    None
+}
+
+fn many_rows(alloc: Global, is_long: bool) -> Result<Vec<Row>, AllocError> {
+    let mut rows = Vec::new(alloc);
+    for far in 0..MANY {
+        let id = u32::MAX - far;
+        rows.push(if is_long { long_row(id) } else { wide_row(id) })?;
+    }
+    Ok(rows)
+}
+
+// The first of 10,000 searches that finds something else, or follows other links than one for each one in the binary
+// digits of how far up the ancestor is.
+fn first_wrong(tree: &SnapTree, is_long: bool) -> Option<u32> {
+    for case in 0..10_000 {
+        let above = u32::MAX - (case * 101) % MANY;
+        let id = u32::MAX - (case * 37) % MANY;
+        let mut steps = Steps::new();
+        let found = tree.is_ancestor_counted(above, id, &mut steps);
+        let far = if is_long {
+            in_long(above, id)
+        } else {
+            in_wide(above, id)
+        };
+        if found != far.is_some() || steps.followed > 12 {
+            return Some(case);
+        }
+        if let Some(far) = far {
+            if steps.followed != far.count_ones() as u64 {
+                return Some(case);
+            }
+        }
+    }
+    None
+}
+
+// Splits the lowest one of many ids, and gives how many links lead up from its snapshot to the greatest one.
+fn split_lowest(tree: &mut SnapTree) -> Result<u64, SnapFault> {
+    let lowest = u32::MAX - (MANY - 1);
+    let split = tree.split_leaf(lowest, lowest - 1)?;
+    tree.apply(&split.updates)?;
+    let mut steps = Steps::new();
+    if !tree.is_ancestor_counted(u32::MAX, split.copy, &mut steps) {
+        return Err(SnapFault::NoNode);
+    }
+    Ok(steps.followed)
+}
+
+#[test]
+fn many_ids(rt: HostRuntime) -> Result<(), Fail> {
+    let alloc = rt.alloc();
+    // 4,096 ids up are one link, and 13 are three
+    for (is_long, links) in [(true, 1), (false, 3)] {
+        let rows = many_rows(alloc, is_long)?;
+        let mut tree = SnapTree::of(alloc, &snap_keys(alloc, rows.as_slice())?)?;
+        assert_eq!(rt; first_wrong(&tree, is_long), None);
+        assert_eq!(rt; split_lowest(&mut tree)?, links);
+        assert_eq!(rt; tree.live_leaves(), 4097);
     }
     Ok(())
 }

@@ -4,12 +4,12 @@ use Rattle.std.proofs.lemmas.List.Elements.{All-from_get_or}
 use Rattle.vol_types.specs.Widths.{AreBytes}
 use Rattle.key_codec.specs.declared.fault.KeyFault.{KeyFault}
 use Rattle.key_codec.specs.declared.reading.KeyRead.{KeyRead}
-use Rattle.key_codec.specs.Keys.{IsKey, spelling, key_in}
+use Rattle.key_codec.specs.Keys.{IsKey, encoding, key_in}
 use Rattle.key_codec.specs.Reading.{Gives}
 use Rattle.key_codec.proofs.KeyLaws.{key_found, key_again}
 use Rattle.key_codec.proofs.reading.get_key.Goals as goal
 
-found : (bytes : List ℕ) (result : Result KeyRead KeyFault) → AreBytes bytes → Gives (λ read. read) result (key_in bytes) → IfOk result (λ read. IsKey read.pos read.value × (read.used ≤ length bytes) × (take read.used bytes ≡ spelling read.pos read.value))
+found : (bytes : List ℕ) (result : Result KeyRead KeyFault) → AreBytes bytes → Gives (λ read. read) result (key_in bytes) → IfOk result (λ read. IsKey read.pos read.value × (read.used ≤ length bytes) × (take read.used bytes ≡ encoding read.pos read.value))
 found bytes (Ok read) are given = key_found bytes read are given
 found bytes (Err fault) are given = tt
 
@@ -19,4 +19,4 @@ returns-clause-found c =
     found c.args.from.now c.read_key.result are c.read_key.ensures
 
 pub returns-clause-only : goal.returns-clause-only
-returns-clause-only c = λ pos value rest is spelled. subst (λ whole. Gives (λ read. read) c.read_key.result whole) (ap key_in spelled ∙ key_again pos value rest is) c.read_key.ensures
+returns-clause-only c = λ pos value rest is encoded. subst (λ whole. Gives (λ read. read) c.read_key.result whole) (ap key_in encoded ∙ key_again pos value rest is) c.read_key.ensures

@@ -15,4 +15,4 @@ returns-clause-found c =
 
 pub returns-clause-only : goal.returns-clause-only
 unfolding entry_in
-returns-clause-only c = λ entry is spelled. subst (λ whole. Gives (λ read. read) c.read_entry.result whole) (ap entry_in spelled ∙ whole_again IsEntry entry_format entry-exact entry is) c.read_entry.ensures
+returns-clause-only c = λ entry is encoded. subst (λ whole. Gives (λ read. read) c.read_entry.result whole) (ap entry_in encoded ∙ whole_again IsEntry entry_format entry-exact entry is) c.read_entry.ensures

@@ -15,4 +15,4 @@ returns-clause-found c =
 
 pub returns-clause-only : goal.returns-clause-only
 unfolding set_in
-returns-clause-only c = λ set is spelled. subst (λ whole. Gives (λ read. read) c.read_set.result whole) (ap set_in spelled ∙ whole_again IsSet set_format set-exact set is) c.read_set.ensures
+returns-clause-only c = λ set is encoded. subst (λ whole. Gives (λ read. read) c.read_set.result whole) (ap set_in encoded ∙ whole_again IsSet set_format set-exact set is) c.read_set.ensures

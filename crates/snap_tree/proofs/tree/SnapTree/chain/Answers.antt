@@ -1,5 +1,9 @@
-use Rattle.snap_tree.specs.TreeLaws.{falls}
+use Rattle.std.proofs.Common.{subst}
+use Rattle.snap_tree.specs.Snaps.{Snaps}
+use Rattle.snap_tree.specs.TreeLaws.{HasParent, falls}
 use Rattle.snap_tree.proofs.tree.SnapTree.chain.Goals as goal
 
 pub loop-above-smaller : goal.loop-above-smaller
-loop-above-smaller c = falls c.args.self.now c.loop-above.above c.parent-above-in-loop-above.result c.loop-above-test.true c.parent-above-in-loop-above.ensures.above c.parent-above-in-loop-above.type_inv
+loop-above-smaller c =
+    let parent = c.parent_or_zero-above-in-loop-above in
+    falls c.args.self.now c.loop-above.above parent.result c.loop-above-test.true (subst (λ (s : Snaps). HasParent s c.loop-above.above parent.result) c.self.view_is parent.ensures.above) parent.type_inv

@@ -1,0 +1,5 @@
+use Rattle.key_codec.proofs.KeyLaws.{keys_meet}
+use Rattle.key_codec.proofs.laws.one_encoding.Goals as goal
+
+pub returns : goal.returns
+returns c = keys_meet

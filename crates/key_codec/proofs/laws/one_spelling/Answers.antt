@@ -1,5 +1,0 @@
-use Rattle.key_codec.proofs.KeyLaws.{keys_meet}
-use Rattle.key_codec.proofs.laws.one_spelling.Goals as goal
-
-pub returns : goal.returns
-returns c = keys_meet

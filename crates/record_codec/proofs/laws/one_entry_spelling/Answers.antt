@@ -1,5 +1,0 @@
-use Rattle.record_codec.proofs.EntryLaws.{entries_meet}
-use Rattle.record_codec.proofs.laws.one_entry_spelling.Goals as goal
-
-pub returns : goal.returns
-returns c = entries_meet

@@ -1,5 +1,0 @@
-use Rattle.record_codec.proofs.SetLaws.{sets_meet}
-use Rattle.record_codec.proofs.laws.one_set_spelling.Goals as goal
-
-pub returns : goal.returns
-returns c = sets_meet

@@ -1,0 +1,6 @@
+mod Walking
+mod Cursors
+mod Linking
+mod Changing
+mod Putting
+mod Staying

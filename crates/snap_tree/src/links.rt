@@ -1,0 +1,126 @@
+ghost use Rattle.std.specs.Prelude.{◌≡◌, ◌<◌, ◌≤◌, ◌+◌, ◌^◌, ◌==◌, ℕ, IsSome, IfSome, OnOk, length};
+ghost use Rattle.std.specs.Ordering.{nat_cmp};
+ghost use Rattle.vol_types.specs.Maps.{value_at};
+ghost use Rattle.snap_tree.specs.Snaps.{IsSnapTree, chain_of};
+ghost use Rattle.snap_tree.specs.Links.{AreLinks, HasLinks, AllHaveLinks, IsPast, link_in, link_at};
+
+use crate::tree::parent_or_zero;
+use std::alloc::AllocError;
+use std::collections::BTreeMap;
+use vol_types::Snap;
+
+/// How many links an id has. A chain has at most 2^32 ids, so they pass its end.
+pub(crate) const LEVELS: usize = 32;
+
+/// The ancestors 1, 2, 4 and so on above an id, and 0 where there is none.
+#[derive(Clone, Copy, Debug)]
+pub(crate) struct Links {
+    above: [u32; 32],
+}
+
+/// Where a link of an id leads to; 0 where there is none.
+pub(crate) fn link(links: &BTreeMap<u32, Links>, id: u32, level: usize) -> u32
+    requires { level < 32 }
+    ensures { result ≡ link_in (value_at nat_cmp id links.now.entries) level }
+{
+    match links.get(&id) {
+        None => 0,
+        Some(own) => own.above[level],
+    }
+}
+
+// The same, where 0 stands for no id, and nothing is above it.
+fn link_above(links: &BTreeMap<u32, Links>, id: u32, level: usize) -> u32
+    requires { level < 32 }
+    ensures { result ≡ link_at links.now.entries id level }
+{
+    if id == 0 {
+        return 0;
+    }
+    link(links, id, level)
+}
+
+// The links of an id, where all greater ids have theirs.
+fn links_of(snaps: &BTreeMap<u32, Snap>, links: &BTreeMap<u32, Links>, id: u32) -> Links
+    requires tree { IsSnapTree snaps.now.entries }
+    requires there { IsSome (value_at nat_cmp id snaps.now.entries) }
+    requires above { (other : ℕ) → id < other → IsSome (value_at nat_cmp other snaps.now.entries) → HasLinks snaps.now.entries links.now.entries other }
+    ensures lead { AreLinks (chain_of snaps.now.entries id) result.above }
+    ensures fits { id + length (chain_of snaps.now.entries id) ≤ 2 ^ 32 }
+{
+    let mut above = [0; 32];
+    above[0] = parent_or_zero(snaps, id);
+    for level in 1..LEVELS {
+        above[level] = link_above(links, above[level - 1], level - 1);
+    }
+    Links { above }
+}
+
+/// Makes the links of this id and of all smaller ones, where all greater ids have theirs, and all ids have room for them.
+/// Each costs a few logarithms of the number of all ids. It takes no memory.
+pub(crate) fn relink(
+    snaps: &BTreeMap<u32, Snap>,
+    links: &mut BTreeMap<u32, Links>,
+    greatest: Option<u32>,
+)
+    requires tree { IsSnapTree snaps.now.entries }
+    requires there { IfSome greatest (λ id. IsSome (value_at nat_cmp id snaps.now.entries)) }
+    requires above { (id : ℕ) → IsPast greatest id → IsSome (value_at nat_cmp id snaps.now.entries) → HasLinks snaps.now.entries links.old.entries id }
+    requires roomy { (id : ℕ) → IsSome (value_at nat_cmp id snaps.now.entries) → IsSome (value_at nat_cmp id links.old.entries) }
+    ensures { AllHaveLinks snaps.now.entries links.new.entries }
+{
+    let mut next = greatest;
+    while let Some(id) = next {
+        let own = links_of(snaps, links, id);
+        if links.insert(id, own).is_err() {
+            unreachable!()
+        }
+        next = last_below(snaps, id);
+    }
+}
+
+/// Makes room for the links of an id.
+pub(crate) fn make_room(links: &mut BTreeMap<u32, Links>, id: u32) -> Result<(), AllocError>
+    ensures ok { OnOk result (IsSome (value_at nat_cmp id links.new.entries)) }
+    ensures kept { (other : ℕ) → IsSome (value_at nat_cmp other links.old.entries) → value_at nat_cmp other links.new.entries ≡ value_at nat_cmp other links.old.entries }
+{
+    if !links.contains_key(&id) {
+        links.insert(id, Links { above: [0; 32] })?;
+    }
+    Ok(())
+}
+
+/// The greatest id.
+pub(crate) fn last(snaps: &BTreeMap<u32, Snap>) -> Option<u32>
+    ensures there { IfSome result (λ last. IsSome (value_at nat_cmp last snaps.now.entries)) }
+    ensures greatest { (id : ℕ) → IsPast result id → ¬ IsSome (value_at nat_cmp id snaps.now.entries) }
+{
+    match snaps.last_key_value() {
+        None => None,
+        Some((id, _)) => Some(*id),
+    }
+}
+
+/// The greatest id that isn't above this number.
+pub(crate) fn last_up_to(snaps: &BTreeMap<u32, Snap>, bound: u32) -> Option<u32>
+    ensures within { IfSome result (λ last. last ≤ bound) }
+    ensures there { IfSome result (λ last. IsSome (value_at nat_cmp last snaps.now.entries)) }
+    ensures greatest { (id : ℕ) → id ≤ bound → IsPast result id → ¬ IsSome (value_at nat_cmp id snaps.now.entries) }
+{
+    match snaps.range(..=bound).next_back() {
+        None => None,
+        Some((id, _)) => Some(*id),
+    }
+}
+
+// The greatest id below this number.
+fn last_below(snaps: &BTreeMap<u32, Snap>, bound: u32) -> Option<u32>
+    ensures within { IfSome result (λ last. last < bound) }
+    ensures there { IfSome result (λ last. IsSome (value_at nat_cmp last snaps.now.entries)) }
+    ensures greatest { (id : ℕ) → id < bound → IsPast result id → ¬ IsSome (value_at nat_cmp id snaps.now.entries) }
+{
+    if bound == 0 {
+        return None;
+    }
+    last_up_to(snaps, bound - 1)
+}

@@ -1,0 +1,6 @@
+pub mod Views
+pub mod Prefixes
+pub mod Standings
+pub mod Turns
+pub mod Passing
+pub mod Drawing
