@@ -1,4 +1,4 @@
--- What the words ask for, and which numbers no layout has.
+-- What the arguments ask for, and which numbers no layout has.
 use Rattle.std.proofs.Common.{◌≡◌, ℕ, zero, suc, ◌<◌, ◌≤◌, Bool, true, false, cond, ◌&&◌, List, [], ◌∷◌, length, replicate, get_or, Some, None, refl, ap, sym, subst, arith}
 use Rattle.std.specs.Prelude.{nat_le}
 use Rattle.std.proofs.lemmas.Bool.Decides.{nat_tests}
@@ -90,5 +90,5 @@ by_request devices requests.Run layout is = absurd (run_is_none (same_Some Run (
     run_is_none same = false≢true (sym (ap is_run same))
 by_request devices (requests.Format asked) layout is = chosen devices (layout_asked devices asked) layout (is_layout (layout_asked devices asked)) refl (counted devices asked.blocks) is
 
-pub format_fits : (devices : ℕ) (words : List (List ℕ)) (layout : Layout) → task_of devices words ≡ Some (Format layout) → Fits devices layout
-format_fits devices words layout is = option_and_then_some (task_for devices) (request_of words) (Format layout) is (λ request _ found. by_request devices request layout found)
+pub format_fits : (devices : ℕ) (arguments : List (List ℕ)) (layout : Layout) → task_of devices arguments ≡ Some (Format layout) → Fits devices layout
+format_fits devices arguments layout is = option_and_then_some (task_for devices) (request_of arguments) (Format layout) is (λ request _ found. by_request devices request layout found)

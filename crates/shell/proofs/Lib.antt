@@ -1,10 +1,12 @@
 pub mod Asking
 pub mod EarlyEnds
 pub mod Ending
+pub mod Fitting
 pub mod FlatScripts
+pub mod Following
 pub mod Formatted
 pub mod Mounting
 pub mod Preparing
 pub mod Printing
 pub mod Running
-pub mod Stopping
+pub mod EndingEarly

@@ -1,7 +1,8 @@
 -- How answers follow one another.
 use Rattle.std.proofs.Common.{◌≡◌, inl, inr, ℕ, ◌-◌, ◌||◌, true, false, Bool, cond, List, [], ◌∷◌, ◌++◌, length, map, refl, ap, ◌∙◌, sym, subst, arith, append_assoc, append-nil, Some, None, Option}
-use Rattle.std.specs.Prelude.{max, slice_get, Result, Ok, Err, OnOk, OnErr, is_err}
-use Rattle.std.specs.Option.{option_map_or}
+use Rattle.std.specs.Prelude.{◌≢◌, max, Result, Ok, Err, IfOk, OnOk, OnErr, is_err}
+use Rattle.std.specs.declared.alloc.AllocError.{AllocError}
+use Rattle.std.specs.Option.{option_map_or, option_to_list}
 use Rattle.std.specs.List.{cons_option, filter_map}
 use Rattle.std.proofs.lemmas.List.{map-append, length-append}
 use Rattle.std.proofs.lemmas.List.Elements.{filter_map-append}
@@ -11,6 +12,7 @@ use Rattle.dev_model.specs.Devices.{DevicesState}
 use Rattle.plain_forest.specs.Forest.{Forest}
 use Rattle.plain_forest.specs.History.{History, after_all}
 use Rattle.plain_forest.specs.Steps.{refusal_of, reply_or, made_file, listed}
+use Rattle.vol_types.specs.declared.space.Short.{Short}
 use Rattle.plain_forest.specs.declared.path.Path.{Path}
 use Rattle.plain_forest.specs.declared.operation.Cause.{Cause}
 use Rattle.plain_forest.specs.declared.operation.Op.{Op}
@@ -20,40 +22,47 @@ use Rattle.plain_forest.specs.declared.operation.Reply.TheVariants.{Okay, Synced
 use Rattle.plain_forest.specs.declared.operation.Entry.{Entry}
 use Rattle.script_text.specs.declared.reading.Line.{Line}
 use Rattle.record_log.specs.Exact.{file_reply, log_short, refusal_or}
-use Rattle.record_log.specs.Log.{Log, Answers, IsLogReply, Syncs, is_full}
-use Rattle.record_log.specs.declared.halt.Halt.{Halt}
+use Rattle.shell.specs.Mounts.{ComesAfter}
+use Rattle.shell.proofs.Following.{comes_by_answer, comes_by_none, comes_here, comes_then}
+use Rattle.record_log.specs.Log.{Log, Answers, IsLogReply, KeepsDurable, Syncs, is_full}
+use Rattle.session_history.specs.Fits.{entry_by, entry_if_any, last_entry}
+use Rattle.session_history.specs.declared.halt.Halt.{Halt}
 use Rattle.shell.specs.declared.tally.Tally.{Tally}
 use Rattle.shell.specs.declared.page.Page.{Page}
-use Rattle.shell.specs.Outcome.{Answered, entry_by, entry_if_any, entry_of, reply_line, reply_line_by, reply_lines}
-use Rattle.shell.specs.Caused.{is_no_memory}
-use Rattle.shell.specs.Phases.{Shows, GoesOn, RunsLines, tally_after, tally_with}
+use Rattle.shell.specs.Outcome.{Answered, entry_of, reply_line, reply_line_by, reply_lines}
+use Rattle.shell.specs.Causes.{is_no_memory}
+use Rattle.shell.specs.Phases.{HasPrefix, AddsEntries, RunsLines, tally_after, tally_with}
 
 -- a tally goes on by two lists of replies
 pub tally_then : (tally : Tally) (first second : List Reply) → tally_after (tally_after tally first) second ≡ tally_after tally (first ++ second)
 tally_then tally [] second = refl
 tally_then tally (reply ∷ first) second = tally_then (tally_with tally reply) first second
 
-module _ {D : Type 0} (sizes : D → List ℕ) where
+module _ {D : Type 0} (state : D → DevicesState) (devices_tell : Type 0) where
   -- histories go on one after another
-  pub goes_then : (a b c : Log D) (first second : History) → GoesOn sizes a b first → GoesOn sizes b c second → GoesOn sizes a c (first ++ second)
-  goes_then a b c first second one two = record {
+  pub adds_then : (a b c : Log D) (first second : History) → AddsEntries state devices_tell a b first → AddsEntries state devices_tell b c second → AddsEntries state devices_tell a c (first ++ second)
+  adds_then a b c first second one two = record {
     trace = two.trace ∙ ap (λ list. list ++ second) one.trace ∙ append_assoc a.trace first second;
     base = two.base ∙ one.base;
     layout = two.layout ∙ one.layout;
-    same_sizes = two.same_sizes ∙ one.same_sizes;
+    after = comes_then devices_tell (state a.devices) (state b.devices) (state c.devices) one.after two.after;
   }
 
+  -- a session in which nothing was done
+  pub adds_nothing : (log : Log D) → AddsEntries state devices_tell log log []
+  adds_nothing log = record { trace = sym (append-nil log.trace); base = refl; layout = refl; after = comes_here devices_tell (state log.devices) }
+
   -- a session in which nothing was answered
-  pub goes_none : (old new : Log D) → new.trace ≡ old.trace → new.base ≡ old.base → new.layout ≡ old.layout → sizes new.devices ≡ sizes old.devices → GoesOn sizes old new []
-  goes_none old new trace base layout same = record { trace = trace ∙ sym (append-nil old.trace); base = base; layout = layout; same_sizes = same }
+  pub adds_none : (old new : Log D) → new.trace ≡ old.trace → new.base ≡ old.base → new.layout ≡ old.layout → ComesAfter devices_tell (state old.devices) (state new.devices) → AddsEntries state devices_tell old new []
+  adds_none old new trace base layout after = record { trace = trace ∙ sym (append-nil old.trace); base = base; layout = layout; after = after }
 
   -- lines are answered one list after another
-  pub runs_then : (first second : List Line) (a b c : Log D) (page mid last : Page) → RunsLines sizes first a b page mid → RunsLines sizes second b c mid last → RunsLines sizes (first ++ second) a c page last
+  pub runs_then : (first second : List Line) (a b c : Log D) (page mid last : Page) → RunsLines state devices_tell first a b page mid → RunsLines state devices_tell second b c mid last → RunsLines state devices_tell (first ++ second) a c page last
   runs_then first second a b c page mid last one two = record {
     answered = one.answered ++ two.answered;
     are = map-append (λ (x : Answered). x.line) one.answered two.answered ∙ ap (λ list. list ++ map (λ (x : Answered). x.line) two.answered) one.are ∙ ap (λ list. first ++ list) two.are;
-    history = subst (λ h. GoesOn sizes a c h) (sym (filter_map-append entry_of one.answered two.answered)) (goes_then a b c (filter_map entry_of one.answered) (filter_map entry_of two.answered) one.history two.history);
-    shows = λ before shows. subst (λ text. Shows last text) (append_assoc before (reply_lines one.answered) (reply_lines two.answered) ∙ ap (λ text. before ++ text) (sym (flat_map-append reply_line one.answered two.answered))) (two.shows (before ++ reply_lines one.answered) (one.shows before shows));
+    history = subst (λ h. AddsEntries state devices_tell a c h) (sym (filter_map-append entry_of one.answered two.answered)) (adds_then a b c (filter_map entry_of one.answered) (filter_map entry_of two.answered) one.history two.history);
+    shows = λ before shows. subst (λ text. HasPrefix last text) (append_assoc before (reply_lines one.answered) (reply_lines two.answered) ∙ ap (λ text. before ++ text) (sym (flat_map-append reply_line one.answered two.answered))) (two.shows (before ++ reply_lines one.answered) (one.shows before shows));
     tally = two.tally
         ∙ ap (λ t. tally_after t (map (λ (x : Answered). x.reply) two.answered)) one.tally
         ∙ tally_then page.tally (map (λ (x : Answered). x.reply) one.answered) (map (λ (x : Answered). x.reply) two.answered)
@@ -61,31 +70,31 @@ module _ {D : Type 0} (sizes : D → List ℕ) where
   }
 
   -- no line is answered
-  pub runs_none : (log : Log D) (page : Page) → RunsLines sizes [] log log page page
+  pub runs_none : (log : Log D) (page : Page) → RunsLines state devices_tell [] log log page page
   runs_none log page = record {
     answered = [];
     are = refl;
-    history = goes_none log log refl refl refl refl;
-    shows = λ before shows. subst (λ text. Shows page text) (sym (append-nil before)) shows;
+    history = adds_nothing log;
+    shows = λ before shows. subst (λ text. HasPrefix page text) (sym (append-nil before)) shows;
     tally = refl;
   }
 
   -- a line is answered
-  pub runs_one : (line : Line) (reply : Reply) (old new : Log D) (page new_page : Page) → GoesOn sizes old new (filter_map entry_of (record { line = line; reply = reply } ∷ [])) → ((before : List ℕ) → Shows page before → Shows new_page (before ++ reply_line (record { line = line; reply = reply }))) → new_page.tally ≡ tally_with page.tally reply → RunsLines sizes (line ∷ []) old new page new_page
+  pub runs_one : (line : Line) (reply : Reply) (old new : Log D) (page new_page : Page) → AddsEntries state devices_tell old new (filter_map entry_of (record { line = line; reply = reply } ∷ [])) → ((before : List ℕ) → HasPrefix page before → HasPrefix new_page (before ++ reply_line (record { line = line; reply = reply }))) → new_page.tally ≡ tally_with page.tally reply → RunsLines state devices_tell (line ∷ []) old new page new_page
   runs_one line reply old new page new_page goes shows tally = record {
     answered = record { line = line; reply = reply } ∷ [];
     are = refl;
     history = goes;
-    shows = λ before shown. subst (λ text. Shows new_page (before ++ text)) (sym (append-nil (reply_line (record { line = line; reply = reply })))) (shows before shown);
+    shows = λ before shown. subst (λ text. HasPrefix new_page (before ++ text)) (sym (append-nil (reply_line (record { line = line; reply = reply })))) (shows before shown);
     tally = tally;
   }
 
   -- a barrier does nothing
-  pub runs_barrier : (line : Line) (log : Log D) (page : Page) → line.op ≡ None → RunsLines sizes (line ∷ []) log log page page
+  pub runs_barrier : (line : Line) (log : Log D) (page : Page) → line.op ≡ None → RunsLines state devices_tell (line ∷ []) log log page page
   runs_barrier line log page none =
       runs_one line Okay log log page page
-      (subst (λ op. GoesOn sizes log log (cons_option (entry_by op line.client Okay) [])) (sym none) (goes_none log log refl refl refl refl))
-      (λ before shows. subst (λ op. Shows page (before ++ reply_line_by op line.client line.line Okay)) (sym none) (subst (λ text. Shows page text) (sym (append-nil before)) shows))
+      (subst (λ op. AddsEntries state devices_tell log log (cons_option (entry_by line.client op Okay) [])) (sym none) (adds_nothing log))
+      (λ before shows. subst (λ op. HasPrefix page (before ++ reply_line_by op line.client line.line Okay)) (sym none) (subst (λ text. HasPrefix page text) (sym (append-nil before)) shows))
       (same_tally page.tally)
     where
       or_none : (x : Bool) → x ≡ (x || false)
@@ -99,24 +108,29 @@ module _ {D : Type 0} (sizes : D → List ℕ) where
           ∙ ap (λ test. of (tally.lacks_memory || false) test tally.synced) (or_none tally.has_failed)
           ∙ ap (of (tally.lacks_memory || false) (tally.has_failed || false)) (let e : tally.synced ≡ max tally.synced 0 = omega arith in e)
 
-either_found : (test : Bool) (one other : Reply) → is_no_memory one ≡ false → is_no_memory other ≡ false → is_no_memory (cond test one other) ≡ false
-either_found true one other first second = first
-either_found false one other first second = second
+module _ {X : Type 0} (seen : Reply → X) (value : X) where
+  -- what is seen of both replies is seen of the one that is chosen
+  pub either_seen : (test : Bool) (one other : Reply) → seen one ≡ value → seen other ≡ value → seen (cond test one other) ≡ value
+  either_seen true one other first second = first
+  either_seen false one other first second = second
 
-refusal_found : (refusal : Option Cause) (otherwise : Reply) → is_no_memory otherwise ≡ false → is_no_memory (option_map_or Refused refusal otherwise) ≡ false
-refusal_found (Some cause) otherwise found = refl
-refusal_found None otherwise found = found
+  module _ (refused : (cause : Cause) → seen (Refused cause) ≡ value) where
+    pub refusal_seen : (refusal : Option Cause) (otherwise : Reply) → seen otherwise ≡ value → seen (option_map_or Refused refusal otherwise) ≡ value
+    refusal_seen (Some cause) otherwise is = refused cause
+    refusal_seen None otherwise is = is
 
-answer_found : {A : Type 0} (reply : A → Reply) → ((x : A) → is_no_memory (reply x) ≡ false) → (result : Result A Cause) → is_no_memory (reply_or reply result) ≡ false
-answer_found reply found (Ok x) = found x
-answer_found reply found (Err cause) = refl
+    pub answer_seen : {A : Type 0} (reply : A → Reply) → ((x : A) → seen (reply x) ≡ value) → (result : Result A Cause) → seen (reply_or reply result) ≡ value
+    answer_seen reply is (Ok x) = is x
+    answer_seen reply is (Err cause) = refused cause
 
-file_found : (halted : Option Halt) (full : Bool) (path : Path) (forest : Forest) → is_no_memory (file_reply halted full path forest) ≡ false
-file_found (Some halt) full path forest = refusal_found (refusal_of 0 (Mkfile path) forest) (Halted halt.dev halt.tick) refl
-file_found None full path forest =
-    either_found full (refusal_or (NoSpace log_short) path forest) _ (refusal_found (refusal_of 0 (Mkfile path) forest) (NoSpace log_short) refl) (answer_found (λ _. Okay) (λ _. refl) (made_file 0 path forest))
+-- what is seen of the replies that the making of a file may have is seen of its reply
+pub file_seen : {X : Type 0} (seen : Reply → X) (value : X) → seen Okay ≡ value → ((cause : Cause) → seen (Refused cause) ≡ value) → ((short : Short) → seen (NoSpace short) ≡ value) → ((dev tick : ℕ) → seen (Halted dev tick) ≡ value)
+    → (halted : Option Halt) (full : Bool) (path : Path) (forest : Forest) → seen (file_reply halted full path forest) ≡ value
+file_seen seen value okay refused no_space halts (Some halt) full path forest = refusal_seen seen value refused (refusal_of 0 (Mkfile path) forest) (Halted halt.dev halt.tick) (halts halt.dev halt.tick)
+file_seen seen value okay refused no_space halts None full path forest =
+    either_seen seen value full (refusal_or (NoSpace log_short) path forest) _ (refusal_seen seen value refused (refusal_of 0 (Mkfile path) forest) (NoSpace log_short) (no_space log_short)) (answer_seen seen value refused (λ _. Okay) (λ _. okay) (made_file 0 path forest))
 
--- the entry of an operation that found memory
+-- the entry of an operation that wasn't out of memory
 has_entry : (client : ℕ) (op : Op) (reply : Reply) → is_no_memory reply ≡ false → entry_if_any client op reply ≡ Some (record { client = client; op = op; reply = reply })
 has_entry client op Okay found = refl
 has_entry client op (Synced count) found = refl
@@ -127,44 +141,45 @@ has_entry client op (DeviceFault dev) found = refl
 has_entry client op (Halted dev tick) found = refl
 has_entry client op NoMemory found = absurd (cc)
 
-module _ {D : Type 0} (history : D → DevicesState) (sizes : D → List ℕ) (faults : D → ℕ) (forest : Forest) where
-  sync_found : (halted : Option Halt) (old new : Log D) (reply : Reply) → Syncs history faults forest halted old new reply → is_no_memory reply ≡ false
+module _ {D : Type 0} (state : D → DevicesState) (devices_tell : Type 0) (forest : Forest) where
+  sync_found : (halted : Option Halt) (old new : Log D) (reply : Reply) → Syncs state forest halted old new reply → is_no_memory reply ≡ false
   sync_found (Some halt) old new reply is = ap is_no_memory is.is
   sync_found None old new reply (inl is) = ap is_no_memory is.is
   sync_found None old new reply (inr is) = ap is_no_memory is.is
 
-  -- an answer of the log doesn't say that memory was wanting
-  found_memory : (op : Op) (old new : Log D) (reply : Reply) → IsLogReply history faults forest op old new reply → is_no_memory reply ≡ false
-  found_memory (Mkfile path) old new reply is = ap is_no_memory is ∙ file_found old.halted (is_full forest old) path (after_all forest old.trace)
-  found_memory (Ls path) old new reply is = ap is_no_memory is ∙ answer_found Listed (λ _. refl) (listed path (after_all forest old.trace))
+  -- an answer of the log doesn't say that it was out of memory
+  found_memory : (op : Op) (old new : Log D) (reply : Reply) → IsLogReply state forest op old new reply → is_no_memory reply ≡ false
+  found_memory (Mkfile path) old new reply is = ap is_no_memory is ∙ file_seen is_no_memory false refl (λ cause. refl) (λ short. refl) (λ dev tick. refl) old.halted (is_full forest old) path (after_all forest old.trace)
+  found_memory (Ls path) old new reply is = ap is_no_memory is ∙ answer_seen is_no_memory false (λ cause. refl) Listed (λ _. refl) (listed path (after_all forest old.trace))
   found_memory Sync old new reply is = sync_found old.halted old new reply is
 
   -- an operation was answered
-  pub goes_answered : (op : Op) (old new : Log D) → (answers : Answers history faults forest op old new) → new.base ≡ old.base → new.layout ≡ old.layout → sizes new.devices ≡ sizes old.devices → GoesOn sizes old new (cons_option (entry_if_any 0 op answers.reply) [])
-  goes_answered op old new answers base layout same = record {
-    trace = answers.trace ∙ ap (λ list. old.trace ++ list) (ap (λ e. cons_option e []) (sym (has_entry 0 op answers.reply (found_memory op old new answers.reply answers.is))));
+  pub adds_answer : (op : Op) (old new : Log D) (reply : Reply) → Answers state forest op old new reply → new.base ≡ old.base → new.layout ≡ old.layout → ComesAfter devices_tell (state old.devices) (state new.devices) → AddsEntries state devices_tell old new (cons_option (entry_if_any 0 op reply) [])
+  adds_answer op old new reply answers base layout after = record {
+    trace = answers.trace ∙ ap (λ list. old.trace ++ list) (ap (λ e. cons_option e []) (sym (has_entry 0 op reply (found_memory op old new reply answers.is))));
     base = base;
     layout = layout;
-    same_sizes = same;
+    after = after;
   }
 
--- the last entry of a history
-pub last_of : (history : History) (entry : Entry) → slice_get (history ++ entry ∷ []) (length (history ++ entry ∷ []) - 1) ≡ Some entry
-last_of history entry = subst (λ n. slice_get (history ++ entry ∷ []) n ≡ Some entry) (sym place) (at_end history entry)
+  -- a call of the session, answered or out of memory
+  pub call_adds : (op : Op) (old new : Log D) (result : Result Reply AllocError) → IfOk result (λ reply. Answers state forest op old new reply) → new.base ≡ old.base → new.layout ≡ old.layout → (op ≢ Sync → new ≡ record old { files = new.files; trace = new.trace })
+      → (state new.devices).sizes ≡ (state old.devices).sizes → (devices_tell → KeepsDurable state old new) → IfOk result (λ reply. AddsEntries state devices_tell old new (cons_option (entry_if_any 0 op reply) []))
+  call_adds op old new (Ok reply) answered base layout untouched sizes kept = adds_answer op old new reply answered base layout (comes_by_answer state devices_tell old new sizes kept forest op reply answered untouched)
+  call_adds op old new (Err e) answered base layout untouched sizes kept = tt
+
+  pub call_adds_none : (old new : Log D) (result : Result Reply AllocError) → OnErr result (new ≡ record old { devices = new.devices; durable = new.durable }) → OnErr result ((state new.devices).faults ≡ (state old.devices).faults) → new.base ≡ old.base → new.layout ≡ old.layout
+      → (state new.devices).sizes ≡ (state old.devices).sizes → (devices_tell → KeepsDurable state old new) → OnErr result (AddsEntries state devices_tell old new [])
+  call_adds_none old new (Ok reply) err faults base layout sizes kept = tt
+  call_adds_none old new (Err e) err faults base layout sizes kept = adds_none state devices_tell old new (ap (λ (log : Log D). log.trace) err) base layout (comes_by_none state devices_tell old new sizes kept faults)
+
+-- the entries of the final sync, as those of a line
+pub last_is : (reply : Reply) → cons_option (entry_if_any 0 Sync reply) [] ≡ last_entry reply
+last_is reply = by (entry_if_any 0 Sync reply)
   where
-    at_end : (history : History) (entry : Entry) → slice_get (history ++ entry ∷ []) (length history) ≡ Some entry
-    at_end [] entry = refl
-    at_end (first ∷ history) entry = at_end history entry
-
-    place : length (history ++ entry ∷ []) - 1 ≡ length history
-    place = omega (arith, length-append history (entry ∷ []))
-
--- what was found at the end of a history is its last entry
-pub is_last : (history trace : History) (entry found : Entry) → trace ≡ history ++ entry ∷ [] → Some found ≡ slice_get trace (length trace - 1) → found ≡ entry
-is_last history trace entry found is last = same_Some found entry (last ∙ ap (λ t. slice_get t (length t - 1)) is ∙ last_of history entry)
-
-pub has_last : (history trace : History) (entry : Entry) → trace ≡ history ++ entry ∷ [] → None ≡ slice_get trace (length trace - 1) → ⊥
-has_last history trace entry is last = none_some entry (last ∙ ap (λ t. slice_get t (length t - 1)) is ∙ last_of history entry)
+    by : (entry : Option Entry) → cons_option entry [] ≡ option_to_list entry
+    by None = refl
+    by (Some entry) = refl
 
 -- what a result that is one says
 pub on_ok_of : {T E P : Type 0} (result : Result T E) → is_err result ≡ false → OnOk result P → P

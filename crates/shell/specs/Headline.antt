@@ -1,42 +1,35 @@
--- What a run promises, whatever words, script and devices it is given.
-use Rattle.std.specs.Prelude.{ℕ, List}
-use Rattle.plain_forest.specs.History.{History, IsLegal}
+-- What a run promises, whatever arguments, script and devices it is given.
+use Rattle.std.specs.Prelude.{◌≡◌, []}
+use Rattle.dev_model.specs.Devices.{DevicesState}
+use Rattle.plain_forest.specs.History.{IsLegal}
+use Rattle.session_history.specs.Acknowledged.{AreAcks}
 use Rattle.log_records.specs.Found.{Mounted}
-use Rattle.record_log.specs.Acknowledged.{AreAcks}
-use Rattle.record_log.specs.Log.{Shown}
-use Rattle.record_log.specs.declared.acks.Ack.{Ack}
-use Rattle.shell.specs.Outcome.{Outcome}
-use Rattle.shell.specs.Told.{Streams, Told}
-use Rattle.shell.specs.Caused.{Faults, Caused}
-use Rattle.shell.specs.Survived.{HasOpened, IsSurvived}
+use Rattle.shell.specs.Outcome.{Outcome, early_end_of}
+use Rattle.shell.specs.Runs.{Run}
+use Rattle.shell.specs.Output.{HasOutput}
+use Rattle.shell.specs.Causes.{HasCauses}
+use Rattle.shell.specs.Survived.{OpensVolume, IsSurvived}
 
--- what a run was given and what it left, as far as the source, the sink and the devices tell it
-pub record Run (D : Type 0) : Type 0 where
-  pub words : List (List ℕ)
-  pub streams : Streams
-  pub faults : Faults
-  pub devices : D
-  pub devices_after : D
-  pub shown : Shown
-  pub shown_after : Shown
-  pub status : ℕ
-  pub trace : History
-  pub acks : List Ack
-
--- The headline: one field for each promise. The run went in one way, and where it ran a script it opened a volume.
+-- The headline: one field for each promise. The run went in one way, and where it ran a script it opened a volume, which was
+-- mounted when its devices showed this.
 pub record Headline {D : Type 0} (source_tells sink_tells devices_tell : Type 0) (run : Run D) : Type 0 where
   pub opening : Mounted
+  pub mounted : DevicesState
   pub outcome : Outcome
   -- the volume opened is the one that the image means
-  pub means : devices_tell → HasOpened run.shown run.shown_after opening outcome
+  pub means : OpensVolume devices_tell run.state mounted run.state_after opening outcome
   -- each reply is the plain forest's at its place in one history, but for failures that the operation may have
   pub legal : IsLegal opening.forest run.trace
   -- per client the operations are the script's, in order, and the text printed is theirs
-  pub told : Told source_tells sink_tells run.streams run.status opening.forest run.trace outcome
-  -- every image that a stop may leave, at every moment of the run, mounts to a prefix that has all that was acknowledged; or,
+  pub told : HasOutput source_tells sink_tells run opening.forest outcome
+  -- every image that a crash may leave, at every moment of the run, mounts to a prefix that has all that was acknowledged; or,
   -- of a format, means what it meant before, or doesn't mount, or is the fresh volume
-  pub survives : devices_tell → IsSurvived run.shown.moments run.shown_after.moments run.trace run.acks outcome
+  pub survives : devices_tell → IsSurvived run.state run.state_after run.trace run.acks outcome
   -- one acknowledgement for each sync that succeeded, in order, with its number and its moment
-  pub acknowledged : AreAcks run.shown.moments.moment run.shown_after.moments.moment run.trace run.acks
+  pub acknowledged : AreAcks run.state.moment run.state_after.moment run.trace run.acks
   -- the status and every failure has its cause
-  pub caused : Caused source_tells devices_tell run.words run.streams.left run.shown run.shown_after run.faults run.status run.devices run.devices_after opening run.trace outcome
+  pub caused : HasCauses source_tells sink_tells devices_tell run opening outcome
+  -- whoever called it learns why it ended early, if it did
+  pub early : run.early_end ≡ early_end_of outcome
+  -- no answer that there was no space counts what was free
+  pub shorts : run.shorts ≡ []

@@ -1,10 +1,11 @@
 pub mod Flat
 pub mod Outcome
-pub mod Stops
+pub mod EarlyEnds
 pub mod Tasks
 pub mod Mounts
-pub mod Told
-pub mod Caused
+pub mod Runs
+pub mod Output
+pub mod Causes
 pub mod Survived
 pub mod Phases
 pub mod Headline

@@ -1,18 +1,18 @@
 -- Which images are mounted for a session, and why one is refused.
-use Rattle.std.specs.Prelude.{◌≡◌, ◌⊎◌, ℕ, ◌<◌, ◌≤◌, Some, Ok, Err, length}
+use Rattle.std.specs.Prelude.{◌≡◌, ◌⊎◌, ℕ, ◌+◌, ◌<◌, ◌≤◌, Some, Ok, Err, IsErr, length, slice_index_or}
 use Rattle.vol_types.specs.Faults.{RoseBy}
 use Rattle.vol_types.specs.declared.layout.Layout.{Layout}
 use Rattle.dev_model.specs.Disk.{Image, as_read}
-use Rattle.dev_model.specs.Devices.{now}
-use Rattle.dev_model.specs.Frames.{DisksStay}
-use Rattle.geometry.specs.Sessions.{session_in}
+use Rattle.dev_model.specs.Devices.{DevicesState, FaultCounts, now}
+use Rattle.dev_model.specs.Crashes.{EachCrash, IsCrashImageBut}
+use Rattle.dev_model.specs.Frames.{AreNoFewer, AreOnlyRead, GoOn}
+use Rattle.geometry.specs.Sessions.{IsSessionPlace, session_in}
 use Rattle.log_records.specs.Found.{log_in, mounted_as, mounts}
 use Rattle.log_records.specs.declared.fault.MountFault.TheVariants as faults
-use Rattle.record_log.specs.Log.{Shown}
-use Rattle.shell.specs.declared.stop.Refusal.{Refusal}
-use Rattle.shell.specs.declared.stop.Refusal.TheVariants.{NoSuper, Version, Mixed, BadLayout, NoSession}
-use Rattle.shell.specs.declared.stop.Stop.{Stop}
-use Rattle.shell.specs.declared.stop.Stop.TheVariants.{Refused, Device, Memory}
+use Rattle.shell.specs.declared.early_end.Refusal.{Refusal}
+use Rattle.shell.specs.declared.early_end.Refusal.TheVariants.{NoSuper, Version, Mixed, BadLayout, NoSession}
+use Rattle.shell.specs.declared.early_end.EarlyEnd.{EarlyEnd}
+use Rattle.shell.specs.declared.early_end.EarlyEnd.TheVariants.{Refused, Device, OutOfMemory}
 
 -- The image holds a volume that lies so, and this is the last session that it names.
 pub record IsMountable (image : Image) (layout : Layout) (session : ℕ) : Type 0 where
@@ -40,14 +40,43 @@ IsRefused image BadLayout = mounts image ≡ Err faults.BadLayout
 IsRefused image NoSession = (mounts image ≡ Err faults.NoSession) ⊎ IsSpent image
 
 -- Mounting was refused for this reason, and the devices were only read.
-pub record HasRefused (devices_tell : Type 0) (old new : Shown) (refusal : Refusal) : Type 0 where
-  pub reason : devices_tell → IsRefused (as_read (now old.moments)) refusal
-  pub stays : devices_tell → DisksStay old.moments new.moments
-  pub unwritten : new.write_faults ≡ old.write_faults
+pub record HasRefused (devices_tell : Type 0) (old new : DevicesState) (refusal : Refusal) : Type 0 where
+  pub reason : devices_tell → IsRefused (as_read (now old)) refusal
+  pub read : AreOnlyRead devices_tell old new
 
--- Why mounting stopped: it was refused, or a call to a device failed. Want of memory may come at any time.
-abbrev pub MountStopped : Type 0 → Shown → Shown → Stop → Type 0
-MountStopped devices_tell old new (Refused refusal) = HasRefused devices_tell old new refusal
-MountStopped devices_tell old new (Device dev) = (dev < length old.sizes) × RoseBy 1 old.faults new.faults
-MountStopped devices_tell old new Memory = Unit {0}
-MountStopped devices_tell old new stop = ⊥
+-- A call of this device failed in between: its count rose, or stands still at its end.
+abbrev pub HasFailed : FaultCounts → FaultCounts → ℕ → Type 0
+HasFailed old new dev = RoseBy 1 (slice_index_or old.calls dev 0) (slice_index_or new.calls dev 0)
+
+-- It is one of the devices, and a call of it failed in between.
+pub record IsFailedDevice (old new : DevicesState) (dev : ℕ) : Type 0 where
+  pub device : dev < length old.sizes
+  pub rose : HasFailed old.faults new.faults dev
+
+-- Why the volume wasn't mounted: it was refused, or this device failed. Out of memory may come at any time.
+abbrev pub MountCause : Type 0 → DevicesState → DevicesState → EarlyEnd → Type 0
+MountCause devices_tell old new (Refused refusal) = HasRefused devices_tell old new refusal
+MountCause devices_tell old new (Device dev) = IsFailedDevice old new dev
+MountCause devices_tell old new OutOfMemory = Unit {0}
+MountCause devices_tell old new end = ⊥
+
+-- Where the image doesn't mount, the devices were only read.
+abbrev pub OnlyReadUnmounted : Type 0 → DevicesState → DevicesState → Type 0
+OnlyReadUnmounted devices_tell old new = devices_tell → IsErr (mounts (as_read (now old))) → AreOnlyRead devices_tell old new
+
+-- From one state to a later one no device changed its size, and no count of failures fell. Where the devices tell it, what
+-- their disks were they still are at that moment.
+pub record ComesAfter (devices_tell : Type 0) (old new : DevicesState) : Type 0 where
+  pub sizes : new.sizes ≡ old.sizes
+  pub calls : AreNoFewer old.faults.calls new.faults.calls
+  pub writes : AreNoFewer old.faults.writes new.faults.writes
+  pub later : devices_tell → old.moment ≤ new.moment
+  pub past : devices_tell → (m : ℕ) → m ≤ old.moment → new.disks m ≡ old.disks m
+
+-- The volume was mounted at this state between two others: until then the devices were read, and of their blocks only those
+-- of the next session were written, without a fault at a write or a flush.
+pub record IsMountedAt (devices_tell : Type 0) (layout : Layout) (session : ℕ) (old mounted new : DevicesState) : Type 0 where
+  pub before : GoOn old mounted
+  pub unfailed : mounted.faults.writes ≡ old.faults.writes
+  pub begun : devices_tell → EachCrash (λ _ _ image. IsCrashImageBut (IsSessionPlace layout (session + 1)) (now old) image) old mounted
+  pub after : ComesAfter devices_tell mounted new

@@ -1,25 +1,31 @@
-use Rattle.dev_model.specs.Crashes.{EachCrashNow}
 -- How lines are answered, one after another, and what their replies amount to.
-use Rattle.std.specs.Prelude.{◌≡◌, ◌≢◌, ◌⊎◌, ◌≤◌, ℕ, ◌||◌, false, max, List, [], ◌∷◌, ◌++◌, take, map, Option, None, Ok}
+use Rattle.std.specs.Prelude.{◌≡◌, ◌≢◌, ◌⊎◌, ◌<◌, ◌≤◌, ℕ, length, IfSome, option_and_then, option_map, ◌||◌, false, max, List, [], ◌∷◌, ◌++◌, take, map, Option, None, Ok}
 use Rattle.std.specs.List.{filter_map}
 use Rattle.vol_types.specs.Faults.{RoseBy}
+use Rattle.dev_model.specs.Devices.{DevicesState}
+use Rattle.dev_model.specs.Crashes.{EachCrashNow}
+use Rattle.dev_model.specs.Frames.{AreAfterCalls}
 use Rattle.plain_forest.specs.Forest.{Forest}
 use Rattle.text_io.specs.Streams.{GivesPrefix}
 use Rattle.script_text.specs.Replies.{end_line_of}
 use Rattle.plain_forest.specs.History.{History, commit_count}
-use Rattle.plain_forest.specs.declared.operation.Op.TheVariants.{Sync}
 use Rattle.plain_forest.specs.declared.operation.Reply.{Reply}
 use Rattle.script_text.specs.declared.reading.Line.{Line}
-use Rattle.record_log.specs.Log.{Log, Shown}
+use Rattle.record_log.specs.Log.{Log}
 use Rattle.vol_types.specs.declared.layout.Layout.{Layout}
 use Rattle.geometry.specs.declared.fault.DiskFault.{DiskFault}
 use Rattle.log_records.specs.Found.{mounts}
 use Rattle.log_format.specs.Formatting.{FormatSurvives, fresh_volume}
-use Rattle.record_log.specs.declared.acks.Ack.{Ack}
+use Rattle.session_history.specs.declared.acks.Ack.{Ack}
 use Rattle.shell.specs.declared.tally.Tally.{Tally}
 use Rattle.shell.specs.declared.page.Page.{Page}
-use Rattle.shell.specs.Outcome.{Answered, entries_of, entry_if_any, entry_of, format_line, format_status, replies_of, reply_lines, synced_by, text_of}
-use Rattle.shell.specs.Caused.{FormatCause, asked_status, is_failure, is_no_memory, replies_status}
+use Rattle.session_history.specs.Fits.{last_entry}
+use Rattle.geometry.specs.Faults.{fault_device}
+use Rattle.shell.specs.declared.early_end.EarlyEnd.{EarlyEnd}
+use Rattle.shell.specs.EarlyEnds.{end_of_disk}
+use Rattle.shell.specs.Outcome.{Answered, entries_of, entry_of, format_line, format_status, replies_of, reply_lines, synced_by, text_of}
+use Rattle.shell.specs.Mounts.{ComesAfter}
+use Rattle.shell.specs.Causes.{IsCut, IsRunStatus, asked_status, is_failure, is_no_memory}
 
 -- a tally of replies, with one reply more
 abbrev pub tally_with : Tally → Reply → Tally
@@ -38,46 +44,51 @@ tally_after tally (reply ∷ replies) = tally_after (tally_with tally reply) rep
 abbrev pub tally_status : Tally → ℕ
 tally_status tally = asked_status tally.lacks_memory tally.has_failed
 
--- the page has a front of the text, and all of it unless it was cut
-pub record Shows (page : Page) (text : List ℕ) : Type 0 where
+-- the page has a prefix of the text, and all of it unless it was cut
+pub record HasPrefix (page : Page) (text : List ℕ) : Type 0 where
   pub size : ℕ
-  pub front : page.text ≡ take size text
+  pub prefix : page.text ≡ take size text
   pub whole : page.is_cut ≡ false → page.text ≡ text
 
 -- A session's history goes on by these entries.
-pub record GoesOn {D : Type 0} (sizes : D → List ℕ) (old new : Log D) (more : History) : Type 0 where
+pub record AddsEntries {D : Type 0} (state : D → DevicesState) (devices_tell : Type 0) (old new : Log D) (more : History) : Type 0 where
   pub trace : new.trace ≡ old.trace ++ more
   pub base : new.base ≡ old.base
   pub layout : new.layout ≡ old.layout
-  pub same_sizes : sizes new.devices ≡ sizes old.devices
+  pub after : ComesAfter devices_tell (state old.devices) (state new.devices)
 
 -- Each of the lines was answered, in order: the history has the entries, and the page the lines and the tally of the
 -- answers.
-pub record RunsLines {D : Type 0} (sizes : D → List ℕ) (lines : List Line) (old new : Log D) (page new_page : Page) : Type 0 where
+pub record RunsLines {D : Type 0} (state : D → DevicesState) (devices_tell : Type 0) (lines : List Line) (old new : Log D) (page new_page : Page) : Type 0 where
   pub answered : List Answered
   pub are : map (λ a. a.line) answered ≡ lines
-  pub history : GoesOn sizes old new (filter_map entry_of answered)
-  pub shows : (before : List ℕ) → Shows page before → Shows new_page (before ++ reply_lines answered)
+  pub history : AddsEntries state devices_tell old new (filter_map entry_of answered)
+  pub shows : (before : List ℕ) → HasPrefix page before → HasPrefix new_page (before ++ reply_lines answered)
   pub tally : new_page.tally ≡ tally_after page.tally (map (λ a. a.reply) answered)
 
--- A last sync was answered: its entry stands behind the history, and nothing is printed for it.
-pub record RunsSync {D : Type 0} (sizes : D → List ℕ) (old new : Log D) (page new_page : Page) : Type 0 where
+-- A last sync was answered: its entry comes after the history, and nothing is printed for it.
+pub record RunsSync {D : Type 0} (state : D → DevicesState) (devices_tell : Type 0) (old new : Log D) (page new_page : Page) : Type 0 where
   pub reply : Reply
-  pub history : GoesOn sizes old new (filter_map (entry_if_any 0 Sync) (reply ∷ []))
+  pub history : AddsEntries state devices_tell old new (last_entry reply)
   pub text : new_page.text ≡ page.text
   pub is_cut : new_page.is_cut ≡ page.is_cut
   pub tally : new_page.tally ≡ tally_with page.tally reply
 
--- A run has ended behind its lines: a last sync was answered, and the sink has gained the text of the lines and the last
--- line, or a front of it.
-pub record RunsEnd {D : Type 0} (forest : Forest) (sizes : D → List ℕ) (sink_tells : Type 0) (old new : Log D) (page : Page) (held held_after : List ℕ) (sink_faults sink_faults_after status : ℕ) : Type 0 where
+-- what a run prints whose lines have this text, after a history and with the tally of its replies
+abbrev pub text_with_end : Forest → History → Tally → List ℕ → List ℕ
+text_with_end forest trace tally text = text ++ end_line_of (commit_count forest trace) tally.synced
+
+-- A run has ended after its lines: a last sync was answered, and the sink has gained the text of the lines and the last
+-- line, or a prefix of it.
+pub record RunsEnd {D : Type 0} (forest : Forest) (state : D → DevicesState) (devices_tell sink_tells : Type 0) (old new : Log D) (page : Page) (held held_after : List ℕ) (sink_faults sink_faults_after status : ℕ) : Type 0 where
   pub reply : Reply
-  pub history : GoesOn sizes old new (filter_map (entry_if_any 0 Sync) (reply ∷ []))
-  pub front : sink_tells → (text : List ℕ) → Shows page text → GivesPrefix (text ++ end_line_of (commit_count forest new.trace) (tally_with page.tally reply).synced) held held_after
-  pub whole : sink_tells → status ≢ 5 → status ≢ 7 → (text : List ℕ) → Shows page text → held_after ≡ held ++ (text ++ end_line_of (commit_count forest new.trace) (tally_with page.tally reply).synced)
+  pub history : AddsEntries state devices_tell old new (last_entry reply)
+  pub prefix : sink_tells → (text : List ℕ) → HasPrefix page text → GivesPrefix (text_with_end forest new.trace (tally_with page.tally reply) text) held held_after
+  pub whole : sink_tells → status ≢ 5 → status ≢ 7 → (text : List ℕ) → HasPrefix page text → held_after ≡ held ++ text_with_end forest new.trace (tally_with page.tally reply) text
   pub failed : status ≡ 5 → RoseBy 1 sink_faults sink_faults_after
   pub printed : status ≢ 5 → sink_faults_after ≡ sink_faults
-  pub otherwise : status ≢ 5 → (status ≡ tally_status (tally_with page.tally reply)) ⊎ (status ≡ 7)
+  pub otherwise : status ≢ 5 → (status ≡ tally_status (tally_with page.tally reply))
+      ⊎ ((status ≡ 7) × (sink_tells → (text : List ℕ) → HasPrefix page text → IsCut (text_with_end forest new.trace (tally_with page.tally reply) text) held held_after))
 
 -- A script was run: each of its lines was answered, in order, and then a last sync.
 pub record RunsScript (forest : Forest) (sink_tells : Type 0) (script : List Line) (held held_after : List ℕ) (sink_faults sink_faults_after status : ℕ) (trace : History) : Type 0 where
@@ -85,27 +96,29 @@ pub record RunsScript (forest : Forest) (sink_tells : Type 0) (script : List Lin
   pub last : Reply
   pub lines : map (λ a. a.line) answered ≡ script
   pub entries : trace ≡ entries_of answered last
-  pub front : sink_tells → GivesPrefix (text_of forest answered last) held held_after
+  pub prefix : sink_tells → GivesPrefix (text_of forest answered last) held held_after
   pub whole : sink_tells → status ≢ 5 → status ≢ 7 → held_after ≡ held ++ text_of forest answered last
   pub failed : status ≡ 5 → RoseBy 1 sink_faults sink_faults_after
   pub printed : status ≢ 5 → sink_faults_after ≡ sink_faults
-  pub otherwise : status ≢ 5 → (status ≡ replies_status (replies_of answered last)) ⊎ (status ≡ 7)
+  pub otherwise : status ≢ 5 → IsRunStatus sink_tells (replies_of answered last) (text_of forest answered last) held held_after status
 
--- Nothing of a script ran: there is no history, and the sink has gained this line, or a front of it with status 5.
+-- Nothing of a script ran: there is no history, and the sink has gained this line, or a prefix of it with status 5.
 pub record EndsEarly (sink_tells : Type 0) (line : List ℕ) (as_asked : ℕ) (held held_after : List ℕ) (sink_faults sink_faults_after status : ℕ) (trace : History) (acks : List Ack) : Type 0 where
   pub nothing : trace ≡ []
   pub no_acks : acks ≡ []
-  pub front : sink_tells → GivesPrefix line held held_after
+  pub prefix : sink_tells → GivesPrefix line held held_after
   pub whole : sink_tells → status ≢ 5 → held_after ≡ held ++ line
   pub failed : status ≡ 5 → RoseBy 1 sink_faults sink_faults_after
   pub printed : status ≢ 5 → sink_faults_after ≡ sink_faults
   pub otherwise : status ≢ 5 → status ≡ as_asked
 
 -- The devices were formatted, or that failed by a fault, and the sink has gained the line that says so.
-pub record Formats (sink_tells devices_tell : Type 0) (layout : Layout) (old new : Shown) (held held_after : List ℕ) (sink_faults sink_faults_after status : ℕ) (trace : History) (acks : List Ack) : Type 0 where
+pub record Formats (sink_tells devices_tell : Type 0) (layout : Layout) (old new : DevicesState) (held held_after : List ℕ) (sink_faults sink_faults_after status : ℕ) (early_end : Option EarlyEnd) (trace : History) (acks : List Ack) : Type 0 where
   pub fault : Option DiskFault
-  pub survives : devices_tell → FormatSurvives layout old.moments new.moments
-  pub done : devices_tell → fault ≡ None → EachCrashNow (λ image. mounts image ≡ Ok (fresh_volume layout)) new.moments
-  pub cause : FormatCause old new fault
-  pub later : old.moments.moment ≤ new.moments.moment
+  pub survives : devices_tell → FormatSurvives layout old new
+  pub done : devices_tell → fault ≡ None → EachCrashNow (λ image. mounts image ≡ Ok (fresh_volume layout)) new
+  pub device : IfSome (option_and_then fault_device fault) (λ dev. dev < length old.sizes)
+  pub cause : AreAfterCalls (option_and_then fault_device fault) old.faults new.faults
+  pub later : old.moment ≤ new.moment
+  pub early : early_end ≡ option_map end_of_disk fault
   pub ends : EndsEarly sink_tells (format_line layout fault) (format_status fault) held held_after sink_faults sink_faults_after status trace acks

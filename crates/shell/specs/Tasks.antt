@@ -1,4 +1,4 @@
--- What a run is to do: what the words ask for, on so many devices.
+-- What a run is to do: what the arguments ask for, on so many devices.
 use Rattle.std.specs.Prelude.{◌≡◌, ℕ, List, Option, Some, None, replicate, length, if◌then◌else◌, option_and_then}
 use Rattle.vol_types.specs.declared.layout.Layout.{Layout}
 use Rattle.geometry.specs.Layouts.{is_layout}
@@ -28,14 +28,14 @@ abbrev pub task_for : ℕ → Request → Option Task
 task_for devices requests.Run = Some Run
 task_for devices (requests.Format asked) = format_if (layout_asked devices asked)
 
--- what the words are to do; nothing where they are no command, or ask for a layout that no volume may have
+-- what the arguments are to do; nothing where they are no command, or ask for a layout that no volume may have
 abbrev pub task_of : ℕ → List (List ℕ) → Option Task
-task_of devices words = option_and_then (task_for devices) (request_of words)
+task_of devices arguments = option_and_then (task_for devices) (request_of arguments)
 
--- the words ask for a run
+-- the arguments ask for a run
 abbrev pub IsRun : List (List ℕ) → List ℕ → Type 0
-IsRun words sizes = task_of (length sizes) words ≡ Some Run
+IsRun arguments sizes = task_of (length sizes) arguments ≡ Some Run
 
--- the words ask for a format with this layout, of the devices with these sizes
+-- the arguments ask for a format with this layout, of the devices with these sizes
 abbrev pub IsFormat : List (List ℕ) → List ℕ → Layout → Type 0
-IsFormat words sizes layout = task_of (length sizes) words ≡ Some (Format layout)
+IsFormat arguments sizes layout = task_of (length sizes) arguments ≡ Some (Format layout)

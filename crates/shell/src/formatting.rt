@@ -5,8 +5,8 @@ use command_words::id_text;
 use std::alloc::{AllocError, Global};
 use vol_types::{Bytes, Layout};
 
-/// The line that says that devices were formatted with this layout. It is made before they are, so that memory that is
-/// wanting for it leaves them as they are.
+/// The line that says that devices were formatted with this layout. It is made before they are, so that a run that is out of
+/// memory for it leaves them as they are.
 #[tactic(auto, unfolding(crate::specs::Outcome::formatted_line))]
 pub fn formatted_line(alloc: Global, layout: &Layout) -> Result<Bytes, AllocError>
     requires { 1 ≤ length layout.now.blocks }

@@ -1,6 +1,7 @@
-//! The top call of the program: from the words and the script that come in to the lines that go out.
+//! The top call of the program: from the arguments and the script that come in to the lines that go out.
 #![tactic(auto)]
 
+mod early_end;
 mod ended;
 mod formatting;
 mod mounted;
@@ -8,10 +9,10 @@ mod page;
 mod phases;
 mod prepare;
 mod run;
-mod stop;
 mod tally;
 mod task;
 
+pub use early_end::{EarlyEnd, Refusal};
 pub use ended::Ended;
 pub use run::run_words;
 pub use task::{Task, read_task};

@@ -2,7 +2,7 @@ ghost use Rattle.std.specs.Prelude.{◌≡◌, ◌++◌, ◌||◌, [], false, tr
 ghost use Rattle.vol_types.specs.Faults.{CountsFaults};
 ghost use Rattle.text_io.specs.Streams.{GivesPrefix};
 ghost use Rattle.script_text.specs.Replies.{reply_line_of, end_line_of};
-ghost use Rattle.shell.specs.Phases.{Shows, tally_with};
+ghost use Rattle.shell.specs.Phases.{HasPrefix, tally_with};
 
 use crate::tally::Tally;
 use plain_forest::Reply;
@@ -11,8 +11,8 @@ use std::alloc::Global;
 use text_io::{Sink, give_all};
 use vol_types::{Bytes, Failed};
 
-/// What is to be printed, with the tally of the replies. Behind a line that found no memory nothing more is added, so that
-/// what is printed is a front of the whole.
+/// What is to be printed, with the tally of the replies. After a line that was out of memory nothing more is added, so
+/// that what is printed is a prefix of the whole.
 #[derive(Drop)]
 pub struct Page {
     pub alloc: Global,
@@ -44,7 +44,7 @@ impl Page {
 
 /// Notes a reply, and adds its line.
 pub fn add_reply(page: &mut Page, client: u8, line: u32, reply: &Reply)
-    ensures shows { (before : List ℕ) → Shows page.old before → Shows page.new (before ++ reply_line_of client line reply.now) }
+    ensures shows { (before : List ℕ) → HasPrefix page.old before → HasPrefix page.new (before ++ reply_line_of client line reply.now) }
     ensures tally { page.new.tally ≡ tally_with page.old.tally reply.now }
 {
     page.note(reply);
@@ -53,7 +53,7 @@ pub fn add_reply(page: &mut Page, client: u8, line: u32, reply: &Reply)
 
 // Adds the line of a reply.
 fn add_line(page: &mut Page, client: u8, line: u32, reply: &Reply)
-    ensures shows { (before : List ℕ) → Shows page.old before → Shows page.new (before ++ reply_line_of client line reply.now) }
+    ensures shows { (before : List ℕ) → HasPrefix page.old before → HasPrefix page.new (before ++ reply_line_of client line reply.now) }
     ensures tally { page.new.tally ≡ page.old.tally }
 {
     if !page.is_cut {

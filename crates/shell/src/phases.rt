@@ -1,14 +1,19 @@
-ghost use Rattle.std.specs.Prelude.{◌≡◌, [], ◌∷◌, Some};
+ghost use Rattle.std.specs.Prelude.{◌≡◌, [], ◌∷◌, Some, IfOk, OnErr};
+ghost use Rattle.std.specs.List.{cons_option};
+ghost use Rattle.session_history.specs.Fits.{entry_if_any};
 ghost use Rattle.record_log.specs.Log.{IsFlat};
 ghost use Rattle.shell.specs.Flat.{AreFlat, IsFlatLine};
-ghost use Rattle.shell.specs.Phases.{RunsEnd, RunsLines, RunsSync};
+ghost use Rattle.shell.specs.Phases.{AddsEntries, RunsEnd, RunsLines, RunsSync};
 
 use crate::page::{Page, add_reply, print_end, print_lines};
 use dev_model::{BEFORE_COMMIT, Devices, Gate};
 use plain_forest::{Op, Reply};
-use record_log::{Opening, RecordLog};
+use record_log::RecordLog;
 use script_text::Line;
+use session_history::Opening;
+use std::alloc::{AllocError, Global};
 use text_io::Sink;
+use vol_types::Duplicate;
 
 /// Runs the lines of a script, and puts their replies on a page.
 pub fn run_lines<D: Devices, O: Opening, G: Gate>(
@@ -18,7 +23,7 @@ pub fn run_lines<D: Devices, O: Opening, G: Gate>(
     page: &mut Page,
 )
     requires { AreFlat script.now }
-    ensures { RunsLines (D.state script.now).sizes log.old log.new page.old page.new }
+    ensures { RunsLines D.state D.tells script.now log.old log.new page.old page.new }
 {
     for line in script {
         run_line(log, line, gate, page);
@@ -33,7 +38,7 @@ fn run_line<D: Devices, O: Opening, G: Gate>(
     page: &mut Page,
 )
     requires { IsFlatLine line.now }
-    ensures { RunsLines D.sizes (line.now ∷ []) log.old log.new page.old page.new }
+    ensures { RunsLines D.state D.tells (line.now ∷ []) log.old log.new page.old page.new }
 {
     if let Some(op) = &line.op {
         gate.at(line.client, BEFORE_COMMIT);
@@ -45,40 +50,46 @@ fn answer<D: Devices, O: Opening>(log: &mut RecordLog<D, O>, line: &Line, op: &O
     requires flat { IsFlat op.now }
     requires op { line.now.op ≡ Some op.now }
     requires client { line.now.client ≡ 0 }
-    ensures { RunsLines D.sizes (line.now ∷ []) log.old log.new page.old page.new }
+    ensures { RunsLines D.state D.tells (line.now ∷ []) log.old log.new page.old page.new }
 {
-    if log.call(op).is_err() {
-        add_reply(page, line.client, line.line, &Reply::NoMemory);
-        return;
+    match ask(page.alloc, log, op) {
+        Ok(reply) => add_reply(page, line.client, line.line, &reply),
+        Err(_) => add_reply(page, line.client, line.line, &Reply::NoMemory),
     }
-    match log.last() {
-        Some(entry) => add_reply(page, line.client, line.line, &entry.reply),
-        None => unreachable!(),
-    }
+}
+
+// What the session answers to a copy of the operation; the script keeps its own.
+fn ask<D: Devices, O: Opening>(
+    alloc: Global,
+    log: &mut RecordLog<D, O>,
+    op: &Op,
+) -> Result<Reply, AllocError>
+    requires { IsFlat op.now }
+    ensures answered { IfOk result (λ reply. AddsEntries D.state D.tells log.old log.new (cons_option (entry_if_any 0 op.now reply) [])) }
+    ensures err { OnErr result (AddsEntries D.state D.tells log.old log.new []) }
+{
+    let op = op.copy(alloc)?;
+    log.call(op)
 }
 
 /// Makes every commit durable, and notes the reply.
 pub fn final_sync<D: Devices, O: Opening>(log: &mut RecordLog<D, O>, page: &mut Page)
-    ensures { RunsSync (D.state log.old).sizes log.new page.old page.new }
+    ensures { RunsSync D.state D.tells log.old log.new page.old page.new }
 {
-    if log.call(&Op::Sync).is_err() {
-        page.note(&Reply::NoMemory);
-        return;
-    }
-    match log.last() {
-        Some(entry) => page.note(&entry.reply),
-        None => unreachable!(),
+    match ask(page.alloc, log, &Op::Sync) {
+        Ok(reply) => page.note(&reply),
+        Err(_) => page.note(&Reply::NoMemory),
     }
 }
 
 /// Prints the page, makes every commit durable, and prints the last line. The status of the run: 5 where the sink
-/// failed, else 7 where memory was wanting, else 6 where a device failed, else 0.
+/// failed, else 7 where it was out of memory, else 6 where a device failed, else 0.
 pub fn end_run<K: Sink, D: Devices, O: Opening>(
     log: &mut RecordLog<D, O>,
     page: &mut Page,
     sink: &mut K,
 ) -> u8
-    ensures { RunsEnd O.forest (D.state K.tells).sizes log.old log.new page.old (K.held sink.old) (K.held sink.new) (K.faults sink.old) (K.faults sink.new) result }
+    ensures { RunsEnd O.forest D.state D.tells K.tells log.old log.new page.old (K.held sink.old) (K.held sink.new) (K.faults sink.old) (K.faults sink.new) result }
 {
     let begun = print_lines(page, sink);
     final_sync(log, page);
@@ -88,7 +99,10 @@ pub fn end_run<K: Sink, D: Devices, O: Opening>(
     if print_end(page, log.commits(), sink).is_err() {
         return 5;
     }
-    if page.is_cut || page.tally.lacks_memory {
+    if page.tally.lacks_memory {
+        return 7;
+    }
+    if page.is_cut {
         return 7;
     }
     if page.tally.has_failed {

@@ -1,49 +1,51 @@
-ghost use Rattle.std.specs.Prelude.{◌≡◌, ◌+◌, ◌<◌, ◌≤◌, ℕ, List, Option, Some, length, map, true};
+ghost use Rattle.std.specs.Prelude.{◌≡◌, ◌+◌, ◌<◌, ◌≤◌, ℕ, [], List, None, Option, Some, length, map, true};
 ghost use Rattle.std.specs.Rc.{rc_str_bytes};
-ghost use Rattle.vol_types.specs.Faults.{RoseBy};
 ghost use Rattle.dev_model.specs.Disk.{as_read};
 ghost use Rattle.dev_model.specs.Devices.{now};
+ghost use Rattle.dev_model.specs.Frames.{GoOn};
 ghost use Rattle.dev_model.specs.Crashes.{EachCrash, EachCrashNow, IsCrashImageBut};
 ghost use Rattle.geometry.specs.Layouts.{is_layout, is_layout_of};
 ghost use Rattle.geometry.specs.Sessions.{IsSessionPlace, session_in};
 ghost use Rattle.plain_forest.specs.History.{EachEntry, IsLegal};
+ghost use Rattle.session_history.specs.Acknowledged.{AreAcks};
+ghost use Rattle.session_history.specs.Failures.{Halts, HaveCauses, NoCommitAfterHalt};
+ghost use Rattle.session_history.specs.declared.halt.Halt.{Halt};
 ghost use Rattle.log_records.specs.Found.{mounted_as};
 ghost use Rattle.record_log.specs.Durable.{NamesSession};
 ghost use Rattle.record_log.specs.Exact.{IsExact};
-ghost use Rattle.record_log.specs.Acknowledged.{AreAcks};
 ghost use Rattle.record_log.specs.Survives.{Survives};
-ghost use Rattle.record_log.specs.Log.{HasHalted, device_faults, halt_or_none};
-ghost use Rattle.record_log.specs.declared.halt.Halt.{Halt};
-ghost use Rattle.shell.specs.Outcome.{formatted_line, stop_line, stop_status};
+ghost use Rattle.record_log.specs.Log.{halt_or_none};
+ghost use Rattle.shell.specs.Outcome.{early_line, early_status, formatted_line};
 ghost use Rattle.shell.specs.Tasks.{IsRun};
 ghost use Rattle.shell.specs.Flat.{AreFlat};
 ghost use Rattle.shell.specs.Headline.{Headline};
-ghost use Rattle.shell.specs.Mounts.{last_session};
+ghost use Rattle.shell.specs.Mounts.{ComesAfter, last_session};
 ghost use Rattle.shell.specs.Phases.{EndsEarly, Formats, RunsScript};
 
+use crate::early_end::{EarlyEnd, print_early_end, status_of};
 use crate::ended::Ended;
 use crate::formatting::formatted_line;
 use crate::page::Page;
 use crate::phases::{end_run, run_lines};
 use crate::prepare::{Plan, prepare};
-use crate::stop::{Stop, print_stop, status_of};
 use crate::task::{Task, read_task};
 use dev_model::{Devices, Gate};
 use log_format::format;
 use plain_forest::Trace;
-use record_log::{Acks, Finished, Opening, RecordLog, Shorts, reading_is_survived};
+use record_log::{Finished, RecordLog, reading_is_survived};
+use session_history::{Acks, Opening, Shorts};
 use std::alloc::Global;
 use std::marker::Brand;
 use std::rc::RcStr;
 use text_io::{Sink, Source, give_all};
 use vol_types::{Bytes, Layout};
 
-/// Does what the words ask for, on the devices. Every line, error lines too, goes to the sink.
+/// Does what the arguments ask for, on the devices. Every line, error lines too, goes to the sink.
 ///
 /// `run` reads the script, mounts the volume, answers each line, and syncs. `format` makes a new volume of the devices, and
-/// doesn't touch the source. The status is 0 where all went well, 1 for other words, or a layout that no volume may have, 2
+/// doesn't touch the source. The status is 0 where all went well, 1 for other arguments, or a layout that no volume may have, 2
 /// for a script with a line that is no operation or of more than 16 MiB, 3 where the volume isn't mounted, 4 where the source
-/// failed, 5 where the sink failed, 6 where a device failed, and 7 where memory was wanting.
+/// failed, 5 where the sink failed, 6 where a device failed, and 7 where it was out of memory.
 pub fn run_words<R, S: Source, K: Sink, D: Devices, G: Gate>(
     _rt: &R,
     alloc: Global,
@@ -53,29 +55,37 @@ pub fn run_words<R, S: Source, K: Sink, D: Devices, G: Gate>(
     devices: D,
     gate: &G,
 ) -> Ended<D>
-    ensures { Headline S.tells K.tells D.tells (record { words = map rc_str_bytes words.now; streams = record { left = S.left source.old; held = K.held sink.old; held_after = K.held sink.new }; faults = record { source = S.faults source.old; source_after = S.faults source.new; sink = K.faults sink.old; sink_after = K.faults sink.new }; devices = devices; devices_after = result.devices; shown = record { moments = D.state devices; sizes = (D.state devices).sizes; faults = D.faults devices; write_faults = D.write_faults devices }; shown_after = record { moments = D.state result.devices; sizes = (D.state result.devices).sizes; faults = D.faults result.devices; write_faults = D.write_faults result.devices }; status = result.status; trace = result.trace; acks = result.acks }) }
+    ensures { Headline S.tells K.tells D.tells (record { arguments = map rc_str_bytes words.now; streams = record { left = S.left source.old; held = K.held sink.old; held_after = K.held sink.new }; faults = record { source = S.faults source.old; source_after = S.faults source.new; sink = K.faults sink.old; sink_after = K.faults sink.new }; devices = devices; devices_after = result.devices; state = D.state devices; state_after = D.state result.devices; status = result.status; early_end = result.early_end; trace = result.trace; acks = result.acks; shorts = result.shorts }) }
 {
     reading_is_survived();
     match read_task(alloc, words, devices.count()) {
         Ok(Task::Run) => run_script::<S, K, D, G, Brand>(alloc, source, sink, devices, gate),
         Ok(Task::Format(layout)) => match formatted_line(alloc, &layout) {
             Ok(line) => format_devices(alloc, &layout, &line, sink, devices),
-            Err(_) => end_early(alloc, Stop::Memory, sink, devices),
+            Err(_) => end_early(alloc, EarlyEnd::OutOfMemory, sink, devices),
         },
-        Err(fault) => end_early(alloc, Stop::from(fault), sink, devices),
+        Err(fault) => end_early(alloc, EarlyEnd::from(fault), sink, devices),
     }
 }
 
 // Nothing was run or formatted.
-#[tactic(auto, using(crate::proofs::EarlyEnds::given_front))]
-fn end_early<K: Sink, D: Devices>(alloc: Global, stop: Stop, sink: &mut K, devices: D) -> Ended<D>
+#[tactic(auto, using(crate::proofs::EarlyEnds::given_prefix))]
+fn end_early<K: Sink, D: Devices>(
+    alloc: Global,
+    end: EarlyEnd,
+    sink: &mut K,
+    devices: D,
+) -> Ended<D>
     ensures devices { result.devices ≡ devices }
-    ensures ends { EndsEarly K.tells (stop_line stop) (stop_status stop) (K.held sink.old) (K.held sink.new) (K.faults sink.old) (K.faults sink.new) result.status result.trace result.acks }
+    ensures early { result.early_end ≡ Some end }
+    ensures shorts { result.shorts ≡ [] }
+    ensures ends { EndsEarly K.tells (early_line end) (early_status end) (K.held sink.old) (K.held sink.new) (K.faults sink.old) (K.faults sink.new) result.status result.trace result.acks }
 {
-    let status = status_of(stop);
-    let is_printed = print_stop(stop, sink).is_ok();
+    let status = status_of(end);
+    let is_printed = print_early_end(end, sink).is_ok();
     Ended {
         status: if is_printed { status } else { 5 },
+        early_end: Some(end),
         devices,
         trace: Trace::new(alloc),
         acks: Acks::new(alloc),
@@ -91,11 +101,14 @@ fn end_formatted<K: Sink, D: Devices>(
     devices: D,
 ) -> Ended<D>
     ensures devices { result.devices ≡ devices }
+    ensures early { result.early_end ≡ None }
+    ensures shorts { result.shorts ≡ [] }
     ensures ends { EndsEarly K.tells line.now 0 (K.held sink.old) (K.held sink.new) (K.faults sink.old) (K.faults sink.new) result.status result.trace result.acks }
 {
     let is_printed = give_all(sink, line.as_slice()).is_ok();
     Ended {
         status: if is_printed { 0 } else { 5 },
+        early_end: None,
         devices,
         trace: Trace::new(alloc),
         acks: Acks::new(alloc),
@@ -114,12 +127,13 @@ fn format_devices<K: Sink, D: Devices>(
     requires layout { is_layout layout.now ≡ true }
     requires count { length layout.now.blocks ≡ length (D.state devices).sizes }
     requires line { line.now ≡ formatted_line layout.now }
-    ensures { Formats K.tells D.tells layout.now (record { moments = D.state devices; sizes = (D.state devices).sizes; faults = D.faults devices; write_faults = D.write_faults devices }) (record { moments = D.state result.devices; sizes = (D.state result.devices).sizes; faults = D.faults result.devices; write_faults = D.write_faults result.devices }) (K.held sink.old) (K.held sink.new) (K.faults sink.old) (K.faults sink.new) result.status result.trace result.acks }
+    ensures formats { Formats K.tells D.tells layout.now (D.state devices) (D.state result.devices) (K.held sink.old) (K.held sink.new) (K.faults sink.old) (K.faults sink.new) result.status result.early_end result.trace result.acks }
+    ensures shorts { result.shorts ≡ [] }
 {
     let mut devices = devices;
     match format(alloc, &mut devices, layout) {
         Ok(()) => end_formatted(alloc, line, sink, devices),
-        Err(fault) => end_early(alloc, Stop::from(fault), sink, devices),
+        Err(fault) => end_early(alloc, EarlyEnd::from(fault), sink, devices),
     }
 }
 
@@ -131,13 +145,13 @@ fn run_script<S: Source, K: Sink, D: Devices, G: Gate, B: Opening>(
     devices: D,
     gate: &G,
 ) -> Ended<D>
-    requires { B.start ≡ record { moments = D.state devices; sizes = (D.state devices).sizes; faults = D.faults devices; write_faults = D.write_faults devices } }
-    ensures { (words : List (List ℕ)) → IsRun words (D.state devices).sizes → Headline S.tells K.tells D.tells (record { words = words; streams = record { left = S.left source.old; held = K.held sink.old; held_after = K.held sink.new }; faults = record { source = S.faults source.old; source_after = S.faults source.new; sink = K.faults sink.old; sink_after = K.faults sink.new }; devices = devices; devices_after = result.devices; shown = record { moments = D.state devices; sizes = (D.state devices).sizes; faults = D.faults devices; write_faults = D.write_faults devices }; shown_after = record { moments = D.state result.devices; sizes = (D.state result.devices).sizes; faults = D.faults result.devices; write_faults = D.write_faults result.devices }; status = result.status; trace = result.trace; acks = result.acks }) }
+    requires { B.start ≡ D.state devices }
+    ensures { (arguments : List (List ℕ)) → IsRun arguments (D.state devices).sizes → Headline S.tells K.tells D.tells (record { arguments = arguments; streams = record { left = S.left source.old; held = K.held sink.old; held_after = K.held sink.new }; faults = record { source = S.faults source.old; source_after = S.faults source.new; sink = K.faults sink.old; sink_after = K.faults sink.new }; devices = devices; devices_after = result.devices; state = D.state devices; state_after = D.state result.devices; status = result.status; early_end = result.early_end; trace = result.trace; acks = result.acks; shorts = result.shorts }) }
 {
     let mut devices = devices;
     match prepare(alloc, source, &mut devices) {
         Ok(plan) => run_plan::<K, D, G, Brand>(alloc, plan, sink, devices, gate),
-        Err(stop) => end_early(alloc, stop, sink, devices),
+        Err(end) => end_early(alloc, end, sink, devices),
     }
 }
 
@@ -150,23 +164,25 @@ fn run_plan<K: Sink, D: Devices, G: Gate, O: Opening>(
     gate: &G,
 ) -> Ended<D>
     requires opening { plan.loaded.forest ≡ O.forest }
-    requires faults { O.start.faults ≡ D.faults devices }
-    requires write_faults { O.start.write_faults ≡ D.write_faults devices }
     requires fits { is_layout_of (D.state devices).sizes plan.loaded.layout ≡ true }
     requires room { plan.loaded.records ≤ plan.loaded.layout.journal }
     requires unspent { plan.loaded.session < last_session }
-    requires named { D.tells → session_in plan.loaded.layout (as_read (now O.start.moments)) ≡ Some plan.loaded.session }
+    requires named { D.tells → session_in plan.loaded.layout (as_read (now O.start)) ≡ Some plan.loaded.session }
     requires numbered { D.tells → EachCrashNow (NamesSession plan.loaded.layout (plan.loaded.session + 1)) (D.state devices) }
-    requires begun { D.tells → EachCrash (λ _ _ image. IsCrashImageBut (IsSessionPlace plan.loaded.layout (plan.loaded.session + 1)) (now O.start.moments) image) O.start.moments (D.state devices) }
-    requires later { O.start.moments.moment ≤ (D.state devices).moment }
+    requires begun { D.tells → EachCrash (λ _ _ image. IsCrashImageBut (IsSessionPlace plan.loaded.layout (plan.loaded.session + 1)) (now O.start) image) O.start (D.state devices) }
+    requires unfailed { (D.state devices).faults.writes ≡ O.start.faults.writes }
+    requires goes_on { GoOn O.start (D.state devices) }
     requires flat { AreFlat plan.script }
     ensures legal { IsLegal O.forest result.trace }
     ensures ran { RunsScript O.forest K.tells plan.script (K.held sink.old) (K.held sink.new) (K.faults sink.old) (K.faults sink.new) result.status result.trace }
-    ensures caused { (halted : Option Halt) × HasHalted (length (D.state devices).sizes) O.start.moments.moment (D.state result.devices).moment result.trace halted × EachEntry (IsExact O.forest plan.loaded.records plan.loaded.layout.journal (halt_or_none halted)) result.trace }
-    ensures faults { RoseBy (device_faults result.trace) (D.faults devices) (D.faults result.devices) }
-    ensures write_faults { RoseBy (device_faults result.trace) (D.write_faults devices) (D.write_faults result.devices) }
-    ensures acknowledged { AreAcks O.start.moments.moment (D.state result.devices).moment result.trace result.acks }
-    ensures survives { D.tells → Survives (mounted_as plan.loaded.layout (plan.loaded.records, O.forest)) O.start.moments (D.state result.devices) result.trace result.acks }
+    ensures halts { (halt : Option Halt) × Halts halt O.start (D.state result.devices) result.trace × EachEntry (IsExact O.forest plan.loaded.records plan.loaded.layout.journal (halt_or_none halt)) result.trace }
+    ensures no_commit { NoCommitAfterHalt O.forest result.trace }
+    ensures faults { HaveCauses O.start.faults (D.state result.devices).faults result.trace }
+    ensures acknowledged { AreAcks O.start.moment (D.state result.devices).moment result.trace result.acks }
+    ensures survives { D.tells → Survives (mounted_as plan.loaded.layout (plan.loaded.records, O.forest)) O.start (D.state result.devices) result.trace result.acks }
+    ensures after { ComesAfter D.tells (D.state devices) (D.state result.devices) }
+    ensures early { result.early_end ≡ None }
+    ensures shorts { result.shorts ≡ [] }
 {
     let Plan { script, loaded } = plan;
     let mut log = RecordLog::<D, O>::start(alloc, devices, loaded);
@@ -181,6 +197,7 @@ fn run_plan<K: Sink, D: Devices, G: Gate, O: Opening>(
     } = log.finish();
     Ended {
         status,
+        early_end: None,
         devices,
         trace,
         acks,

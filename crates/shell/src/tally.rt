@@ -1,6 +1,6 @@
 ghost use Rattle.std.specs.Prelude.{◌≡◌, false};
 ghost use Rattle.shell.specs.Outcome.{synced_by};
-ghost use Rattle.shell.specs.Caused.{is_failure, is_no_memory};
+ghost use Rattle.shell.specs.Causes.{is_failure, is_no_memory};
 ghost use Rattle.shell.specs.Phases.{tally_with};
 
 use plain_forest::Reply;
@@ -8,7 +8,7 @@ use plain_forest::Reply;
 /// What the replies of a run amount to.
 #[derive(Clone, Copy, Debug, PartialEq, Eq)]
 pub struct Tally {
-    /// Memory was wanting for an operation.
+    /// An operation was out of memory.
     pub lacks_memory: bool,
     /// A device failed, or the session had halted.
     pub has_failed: bool,
@@ -40,7 +40,7 @@ impl Tally {
     }
 }
 
-// Whether the reply says that memory was wanting.
+// Whether the reply says that it was out of memory.
 fn is_no_memory(reply: &Reply) -> bool
     ensures { result ≡ is_no_memory reply.now }
 {

@@ -18,13 +18,13 @@ pub enum Task {
     Format(Layout),
 }
 
-/// Reads what the words ask for, on so many devices. It touches none of them. `Usage` says that the words are outside the
+/// Reads what the arguments ask for, on so many devices. It touches none of them. `Usage` says that the arguments are outside the
 /// grammar, or that no volume may lie on so many devices as they ask.
-pub fn read_task(alloc: Global, words: &[RcStr], devices: u8) -> Result<Task, WordsFault>
-    ensures ok { IfOk result (λ task. task_of devices (map rc_str_bytes words.now) ≡ Some task) }
-    ensures usage { IfErr result (λ fault. fault ≡ WordsFault.Usage → task_of devices (map rc_str_bytes words.now) ≡ None) }
+pub fn read_task(alloc: Global, arguments: &[RcStr], devices: u8) -> Result<Task, WordsFault>
+    ensures ok { IfOk result (λ task. task_of devices (map rc_str_bytes arguments.now) ≡ Some task) }
+    ensures usage { IfErr result (λ fault. fault ≡ WordsFault.Usage → task_of devices (map rc_str_bytes arguments.now) ≡ None) }
 {
-    match read_words(alloc, words)? {
+    match read_words(alloc, arguments)? {
         Request::Run => Ok(Task::Run),
         Request::Format(asked) => Ok(Task::Format(read_layout(alloc, &asked, devices)?)),
     }

@@ -1,13 +1,13 @@
 use Rattle.std.proofs.Common.{◌≡◌, false, Result, Ok, Err, List, ℕ, ◌++◌}
 use Rattle.std.specs.Prelude.{OnOk, OnErr, is_err}
 use Rattle.script_text.specs.Replies.{reply_line_of}
-use Rattle.shell.specs.Phases.{Shows}
+use Rattle.shell.specs.Phases.{HasPrefix}
 use Rattle.shell.specs.declared.page.Page.{Page}
 use Rattle.shell.proofs.Printing.{shows_cut, shows_more, shows_less}
 use Rattle.shell.proofs.page.add_line.Goals as goal
 
 -- a line that was added, or found no memory
-line_by : {T E : Type 0} (result : Result T E) (old new : Page) (before line : List ℕ) → old.is_cut ≡ false → new.is_cut ≡ is_err result → OnOk result (new.text ≡ old.text ++ line) → OnErr result (new.text ≡ old.text) → Shows old before → Shows new (before ++ line)
+line_by : {T E : Type 0} (result : Result T E) (old new : Page) (before line : List ℕ) → old.is_cut ≡ false → new.is_cut ≡ is_err result → OnOk result (new.text ≡ old.text ++ line) → OnErr result (new.text ≡ old.text) → HasPrefix old before → HasPrefix new (before ++ line)
 line_by (Ok x) old new before line not_cut is added none shows = shows_more old new before line not_cut added shows
 line_by (Err e) old new before line not_cut is added none shows = shows_less old new before line not_cut is none shows
 

@@ -2,4 +2,4 @@ use Rattle.shell.proofs.Running.{runs_barrier}
 use Rattle.shell.proofs.phases.run_line.Goals as goal
 
 pub returns-in_default : goal.returns-in_default
-returns-in_default g c = runs_barrier (g.D.Devices.state c.args.line.now).sizes c.args.log.now c.args.page.now c.in_default.is
+returns-in_default g c = runs_barrier g.D.Devices.state g.D.Devices.tells c.args.line.now c.args.log.now c.args.page.now c.in_default.is

@@ -5,7 +5,7 @@ use Rattle.shell.proofs.Running.{runs_none, runs_then}
 use Rattle.shell.proofs.phases.run_lines.Goals as goal
 
 pub loop-line-init : goal.loop-line-init
-loop-line-init g c = runs_none (g.D.Devices.state c.args.log.now).sizes c.args.page.now
+loop-line-init g c = runs_none g.D.Devices.state g.D.Devices.tells c.args.log.now c.args.page.now
 
 pub loop-line-preserved : goal.loop-line-preserved
 loop-line-preserved g c =
@@ -14,11 +14,11 @@ loop-line-preserved g c =
     let i = c.loop-line.line-index in
     let line = c.line-item.result in
     let lines : take (i + 1) script ≡ take i script ++ line ∷ [] = take_more script i line (omega (arith, c.loop-line-test.true)) ∙ ap (λ l. take i script ++ l ∷ []) (sym c.line-item.is) in
-    subst (λ list. RunsLines (D.state list).sizes c.args.log.now c.run_line.new.log c.args.page.now c.run_line.new.page) (sym lines)
-    (runs_then D.sizes (take i script) (line ∷ []) c.args.log.now c.loop-line.log c.run_line.new.log c.args.page.now c.loop-line.page c.run_line.new.page c.loop-line.invariant c.run_line.ensures)
+    subst (λ list. RunsLines D.state D.tells list c.args.log.now c.run_line.new.log c.args.page.now c.run_line.new.page) (sym lines)
+    (runs_then D.state D.tells (take i script) (line ∷ []) c.args.log.now c.loop-line.log c.run_line.new.log c.args.page.now c.loop-line.page c.run_line.new.page c.loop-line.invariant c.run_line.ensures)
 
 pub returns : goal.returns
 returns g c =
     let D = g.D.Devices in
     let script = c.args.script.now in
-    subst (λ list. RunsLines (D.state list).sizes c.args.log.now c.loop-line.log c.args.page.now c.loop-line.page) (take_all c.loop-line.line-index script (omega (arith, c.loop-line-test.false))) c.loop-line.invariant
+    subst (λ list. RunsLines D.state D.tells list c.args.log.now c.loop-line.log c.args.page.now c.loop-line.page) (take_all c.loop-line.line-index script (omega (arith, c.loop-line-test.false))) c.loop-line.invariant

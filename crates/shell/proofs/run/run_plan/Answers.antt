@@ -1,12 +1,17 @@
-use Rattle.std.proofs.Common.{◌≡◌, ℕ, List, length, ap, ◌∙◌, subst}
+use Rattle.std.proofs.Common.{◌≡◌, ℕ, List, ap, ◌∙◌, subst, sym}
 use Rattle.plain_forest.specs.History.{EachEntry}
+use Rattle.session_history.specs.Fits.{last_entry}
 use Rattle.log_records.specs.Found.{mounted_as}
 use Rattle.record_log.specs.Exact.{IsExact}
 use Rattle.record_log.specs.Survives.{Survives}
-use Rattle.record_log.specs.Log.{HasHalted, Log, halt_or_none}
+use Rattle.record_log.specs.Log.{Log, halt_or_none}
 use Rattle.vol_types.specs.declared.layout.Layout.{Layout}
+use Rattle.std.specs.List.{filter_map}
+use Rattle.shell.specs.Outcome.{entry_of}
+use Rattle.shell.specs.Mounts.{ComesAfter}
 use Rattle.shell.specs.Phases.{RunsLines}
 use Rattle.shell.proofs.Ending.{script_ran}
+use Rattle.shell.proofs.Running.{adds_then}
 use Rattle.shell.proofs.run.run_plan.Goals as goal
 
 pub returns-clause-ran : goal.returns-clause-ran
@@ -14,9 +19,9 @@ returns-clause-ran g c =
     let K = g.K.Sink in
     let O = g.O.Opening in
     let D = g.D.Devices in
-    let lines : RunsLines (D.state c.args.plan.script).sizes c.start-log.result c.run_lines.new.log c.new-page.result c.run_lines.new.page =
-    subst (λ script. RunsLines (D.state script).sizes c.start-log.result c.run_lines.new.log c.new-page.result c.run_lines.new.page) c.as_slice.ensures c.run_lines.ensures in
-    script_ran O.forest (D.state K.tells).sizes c.end_run-status.result c.args.plan.script c.start-log.result c.run_lines.new.log c.end_run-status.new.log c.new-page.result c.run_lines.new.page c.finish-devices.result.trace (K.held c.args.sink.now) (K.held c.end_run-status.new.sink) (K.faults c.args.sink.now) (K.faults c.end_run-status.new.sink)
+    let lines : RunsLines D.state D.tells c.args.plan.script c.start-log.result c.run_lines.new.log c.new-page.result c.run_lines.new.page =
+    subst (λ script. RunsLines D.state D.tells script c.start-log.result c.run_lines.new.log c.new-page.result c.run_lines.new.page) c.as_slice.ensures c.run_lines.ensures in
+    script_ran O.forest D.state D.tells K.tells c.end_run-status.result c.args.plan.script c.start-log.result c.run_lines.new.log c.end_run-status.new.log c.new-page.result c.run_lines.new.page c.finish-devices.result.trace (K.held c.args.sink.now) (K.held c.end_run-status.new.sink) (K.faults c.args.sink.now) (K.faults c.end_run-status.new.sink)
     (ap (λ (log : Log g.row.D.Denot). log.trace) c.start-log.ensures) (ap (λ p. p.text) c.new-page.ensures) (ap (λ p. p.tally) c.new-page.ensures) lines c.end_run-status.ensures c.finish-devices.ensures.trace
 
 pub returns-clause-survives : goal.returns-clause-survives
@@ -28,23 +33,30 @@ returns-clause-survives g c told =
     let layout : c.end_run-status.new.log.layout ≡ c.args.plan.loaded.layout =
     c.end_run-status.ensures.history.layout ∙ c.run_lines.ensures.history.layout ∙ ap (λ (log : Log g.row.D.Denot). log.layout) c.start-log.ensures in
     let after = c.finish-devices.result in
-    subst (λ (l : Layout). Survives (mounted_as l (c.args.plan.loaded.records, O.forest)) O.start.moments (D.state after.devices) after.trace after.acks) layout
-    (subst (λ (n : ℕ). Survives (mounted_as c.end_run-status.new.log.layout (n, O.forest)) O.start.moments (D.state after.devices) after.trace after.acks) base (c.finish-devices.ensures.survives told))
+    subst (λ (l : Layout). Survives (mounted_as l (c.args.plan.loaded.records, O.forest)) O.start (D.state after.devices) after.trace after.acks) layout
+    (subst (λ (n : ℕ). Survives (mounted_as c.end_run-status.new.log.layout (n, O.forest)) O.start (D.state after.devices) after.trace after.acks) base (c.finish-devices.ensures.survives told))
 
-pub returns-clause-caused : goal.returns-clause-caused
-returns-clause-caused g c =
-    let D = g.D.Devices in
+pub returns-clause-halts : goal.returns-clause-halts
+returns-clause-halts g c =
     let O = g.O.Opening in
     let last = c.end_run-status.new.log in
     let base : last.base ≡ c.args.plan.loaded.records =
     c.end_run-status.ensures.history.base ∙ c.run_lines.ensures.history.base ∙ ap (λ (log : Log g.row.D.Denot). log.base) c.start-log.ensures in
     let layout : last.layout ≡ c.args.plan.loaded.layout =
     c.end_run-status.ensures.history.layout ∙ c.run_lines.ensures.history.layout ∙ ap (λ (log : Log g.row.D.Denot). log.layout) c.start-log.ensures in
-    let after = c.finish-devices.result in
-    let sizes : (D.state after.devices).sizes ≡ (D.state c.args.devices).sizes =
-    ap (D.state c.finish).sizes-devices.ensures.devices ∙ c.end_run-status.ensures.history.same_sizes ∙ c.run_lines.ensures.history.same_sizes ∙ ap (λ (log : Log g.row.D.Denot). (D.state log.devices).sizes) c.start-log.ensures in (
+    let after = c.finish-devices.result in (
       after.halted,
-      subst (λ (s : List ℕ). HasHalted (length s) O.start.moments.moment (D.state after.devices).moment after.trace after.halted) sizes c.finish-devices.ensures.halts,
+      c.finish-devices.ensures.halts,
       subst (λ (l : Layout). EachEntry (IsExact O.forest c.args.plan.loaded.records l.journal (halt_or_none after.halted)) after.trace) layout
           (subst (λ (n : ℕ). EachEntry (IsExact O.forest n last.layout.journal (halt_or_none after.halted)) after.trace) base c.finish-devices.ensures.exact),
     )
+
+pub returns-clause-after : goal.returns-clause-after
+returns-clause-after g c =
+    let D = g.D.Devices in
+    let start = c.start-log.result in
+    let last = c.end_run-status.new.log in
+    let after : ComesAfter D.tells (D.state start.devices) (D.state last.devices) =
+    (adds_then D.state D.tells start c.run_lines.new.log last (filter_map entry_of c.run_lines.ensures.answered) (last_entry c.end_run-status.ensures.reply) c.run_lines.ensures.history c.end_run-status.ensures.history).after in
+    subst (λ d. ComesAfter D.tells (D.state d) (D.state c.finish-devices.result.devices)) (ap (λ (log : Log g.row.D.Denot). log.devices) c.start-log.ensures)
+    (subst (λ d. ComesAfter D.tells (D.state start.devices) (D.state d)) (sym c.finish-devices.ensures.devices) after)

@@ -1,16 +1,16 @@
-use Rattle.std.proofs.Common.{◌≡◌, ◌≤◌, [], Some, None, Global, map, refl, ◌∙◌, sym, subst, arith}
+use Rattle.std.proofs.Common.{◌≡◌, ◌≤◌, inl, [], Some, None, Global, map, refl, ◌∙◌, sym, subst, arith}
 use Rattle.std.specs.Rc.{rc_str_bytes}
-use Rattle.dev_model.specs.FrameLaws.{stay_here}
-use Rattle.record_log.specs.Log.{Shown}
+use Rattle.dev_model.specs.FrameLaws.{only_read_here, stay_here}
 use Rattle.record_log.specs.Survives.{Survives}
-use Rattle.shell.specs.declared.stop.Stop.TheVariants.{Memory}
+use Rattle.shell.specs.declared.early_end.EarlyEnd.TheVariants.{OutOfMemory}
 use Rattle.shell.specs.declared.task.Task.{Task}
 use Rattle.shell.specs.declared.task.Task.TheVariants.{Run as ToRun, Format as ToFormat}
 use Rattle.shell.specs.Tasks.{IsFormat, IsRun, task_of}
-use Rattle.shell.specs.Caused.{SourceFailed, StopCause}
-use Rattle.shell.specs.Headline.{Run}
+use Rattle.shell.specs.Causes.{ArgumentsCause, SourceFailed}
+use Rattle.shell.specs.Mounts.{OnlyReadUnmounted}
+use Rattle.shell.specs.Runs.{Run}
 use Rattle.shell.proofs.Asking.{Fits, format_fits}
-use Rattle.shell.proofs.Stopping.{formatted, stopped, words_cause, words_source}
+use Rattle.shell.proofs.EndingEarly.{arguments_cause, arguments_source, ended_early, formatted}
 use Rattle.shell.proofs.run.run_words.Goals as goal
 
 pub returns-in-Ok-Run : goal.returns-in-Ok-Run
@@ -49,22 +49,23 @@ returns-in-Ok g c =
     let words = map (rc_str_bytes {Z = Global}) c.args.words.now in
     let layout = c.in-Ok-Format.layout in
     let ended = c.format_devices.result in
-    let shown : g.row.D.Denot → Shown = λ d. record { moments = D.state d; sizes = (D.state d).sizes; faults = D.faults d; write_faults = D.write_faults d } in
     let format : IsFormat words (D.state c.args.devices).sizes layout =
     subst (λ n. task_of n words ≡ Some (ToFormat layout)) c.count.ensures.count (subst (λ (task : Task). task_of c.count.result words ≡ Some task) c.in-Ok-Format.field-0-is c.in-Ok-Format.ensures.ok) in
     let all : Run g.row.D.Denot = record {
-      words = words;
+      arguments = words;
       streams = record { left = S.left c.args.source.now; held = K.held c.args.sink.now; held_after = K.held c.format_devices.new.sink };
       faults = record { source = S.faults c.args.source.now; source_after = S.faults c.args.source.now; sink = K.faults c.args.sink.now; sink_after = K.faults c.format_devices.new.sink };
       devices = c.args.devices;
       devices_after = ended.devices;
-      shown = shown c.args.devices;
-      shown_after = shown ended.devices;
+      state = D.state c.args.devices;
+      state_after = D.state ended.devices;
       status = ended.status;
+      early_end = ended.early_end;
       trace = ended.trace;
       acks = ended.acks;
+      shorts = ended.shorts;
     } in
-    formatted S.tells K.tells D.tells all layout format c.format_devices.ensures refl
+    formatted S.tells K.tells D.tells all layout format c.format_devices.ensures.formats refl c.format_devices.ensures.shorts
 
 pub returns-in-Ok-Format : goal.returns-in-Ok-Format
 returns-in-Ok-Format g c =
@@ -75,22 +76,28 @@ returns-in-Ok-Format g c =
     let early = c.end_early.ensures in
     let ended = c.end_early.result in
     let old = D.state first in
-    let shown : g.row.D.Denot → Shown = λ d. record { moments = D.state d; sizes = (D.state d).sizes; faults = D.faults d; write_faults = D.write_faults d } in
+    let words = map (rc_str_bytes {Z = Global}) c.args.words.now in
+    let left = S.left c.args.source.now in
     let all : Run g.row.D.Denot = record {
-      words = map (rc_str_bytes {Z = Global}) c.args.words.now;
-      streams = record { left = S.left c.args.source.now; held = K.held c.args.sink.now; held_after = K.held c.end_early.new.sink };
+      arguments = words;
+      streams = record { left = left; held = K.held c.args.sink.now; held_after = K.held c.end_early.new.sink };
       faults = record { source = S.faults c.args.source.now; source_after = S.faults c.args.source.now; sink = K.faults c.args.sink.now; sink_after = K.faults c.end_early.new.sink };
       devices = first;
       devices_after = ended.devices;
-      shown = shown first;
-      shown_after = shown ended.devices;
+      state = old;
+      state_after = D.state ended.devices;
       status = ended.status;
+      early_end = ended.early_end;
       trace = ended.trace;
       acks = ended.acks;
+      shorts = ended.shorts;
     } in
-    stopped S.tells K.tells D.tells all Memory early.ends tt refl (λ before. early.devices)
+    ended_early S.tells K.tells D.tells all OutOfMemory early.ends
+    (inl (record { cause = inl tt; untouched = early.devices })) refl
+    (subst (λ d. OnlyReadUnmounted D.tells old (D.state d)) (sym early.devices) (λ told error. only_read_here D.tells old))
     (λ told volume. subst (λ d. Survives volume old (D.state d) [] []) (sym early.devices) (c.reading_is_survived.ensures volume old old (stay_here old)))
     (subst (λ d. old.moment ≤ (D.state d).moment) (sym early.devices) (omega arith))
+    early.early early.shorts
 
 pub returns : goal.returns
 returns g c =
@@ -103,23 +110,27 @@ returns g c =
     let old = D.state first in
     let words = map (rc_str_bytes {Z = Global}) c.args.words.now in
     let left = S.left c.args.source.now in
-    let shown : g.row.D.Denot → Shown = λ d. record { moments = D.state d; sizes = (D.state d).sizes; faults = D.faults d; write_faults = D.write_faults d } in
     let all : Run g.row.D.Denot = record {
-      words = words;
+      arguments = words;
       streams = record { left = left; held = K.held c.args.sink.now; held_after = K.held c.end_early-in-Err.new.sink };
       faults = record { source = S.faults c.args.source.now; source_after = S.faults c.args.source.now; sink = K.faults c.args.sink.now; sink_after = K.faults c.end_early-in-Err.new.sink };
       devices = first;
       devices_after = ended.devices;
-      shown = shown first;
-      shown_after = shown ended.devices;
+      state = old;
+      state_after = D.state ended.devices;
       status = ended.status;
+      early_end = ended.early_end;
       trace = ended.trace;
       acks = ended.acks;
+      shorts = ended.shorts;
     } in
-    stopped S.tells K.tells D.tells all c.from.result early.ends
-    (subst (StopCause S.tells D.tells words left (shown first) (shown ended.devices)) (sym c.from.ensures)
-    (words_cause S.tells D.tells words left (shown first) (shown ended.devices) c.in-Err.fault (λ usage. subst (λ n. task_of n words ≡ None) c.count.ensures.count (c.in-Err.ensures.usage usage))))
-    (subst (λ stop. SourceFailed stop (S.faults c.args.source.now) (S.faults c.args.source.now)) (sym c.from.ensures) (words_source c.in-Err.fault (S.faults c.args.source.now)))
-    (λ before. early.devices)
+    ended_early S.tells K.tells D.tells all c.from.result early.ends
+    (inl (record {
+      cause = inl (subst (ArgumentsCause words old.sizes) (sym c.from.ensures) (arguments_cause words old.sizes c.in-Err.fault (λ usage. subst (λ n. task_of n words ≡ None) c.count.ensures.count (c.in-Err.ensures.usage usage))));
+      untouched = early.devices;
+    }))
+    (subst (λ end. SourceFailed end (S.faults c.args.source.now) (S.faults c.args.source.now)) (sym c.from.ensures) (arguments_source c.in-Err.fault (S.faults c.args.source.now)))
+    (subst (λ d. OnlyReadUnmounted D.tells old (D.state d)) (sym early.devices) (λ told error. only_read_here D.tells old))
     (λ told volume. subst (λ d. Survives volume old (D.state d) [] []) (sym early.devices) (c.reading_is_survived.ensures volume old old (stay_here old)))
     (subst (λ d. old.moment ≤ (D.state d).moment) (sym early.devices) (omega arith))
+    early.early early.shorts

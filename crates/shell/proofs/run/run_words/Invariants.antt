@@ -5,5 +5,5 @@ use Rattle.shell.proofs.run.run_words.Given as goal
 abbrev pub ghosts-run_script : goal.ghosts-run_script
 ghosts-run_script g a = record {
   forest = fresh;
-  start = record { moments = g.D.Devices.state a.devices; sizes = (g.D.Devices.state a.devices).sizes; faults = g.D.Devices.faults a.devices; write_faults = g.D.Devices.write_faults a.devices };
+  start = g.D.Devices.state a.devices;
 }

@@ -1,0 +1,139 @@
+-- The causes of statuses and failures.
+use Rattle.std.specs.Prelude.{◌≡◌, ◌≢◌, ◌⊎◌, ℕ, ◌<◌, Bool, true, false, if◌then◌else◌, List, ◌++◌, length, take, Option, Some, None, IfSome, option_and_then}
+use Rattle.std.specs.List.{list_any}
+use Rattle.vol_types.specs.Faults.{RoseBy}
+use Rattle.vol_types.specs.declared.layout.Layout.{Layout}
+use Rattle.dev_model.specs.Disk.{as_read}
+use Rattle.dev_model.specs.Devices.{DevicesState, now}
+use Rattle.dev_model.specs.Frames.{AreAfterCalls}
+use Rattle.plain_forest.specs.History.{History, EachEntry}
+use Rattle.plain_forest.specs.declared.operation.Reply.{Reply}
+use Rattle.plain_forest.specs.declared.operation.Reply.TheVariants.{DeviceFault, Halted, NoMemory}
+use Rattle.script_text.specs.Lines.{lines_of}
+use Rattle.script_text.specs.Scripts.{IsFirstBad}
+use Rattle.script_text.specs.declared.reading.Line.{Line}
+use Rattle.geometry.specs.Faults.{fault_device}
+use Rattle.geometry.specs.declared.fault.DiskFault.{DiskFault}
+use Rattle.session_history.specs.Failures.{Halts, HaveCauses, NoCommitAfterHalt}
+use Rattle.session_history.specs.declared.halt.Halt.{Halt}
+use Rattle.log_records.specs.Found.{Mounted}
+use Rattle.record_log.specs.Exact.{IsExact}
+use Rattle.record_log.specs.Log.{halt_or_none}
+use Rattle.shell.specs.declared.early_end.EarlyEnd.{EarlyEnd}
+use Rattle.shell.specs.declared.early_end.EarlyEnd.TheVariants.{Usage, BadLine, TooLong, Source, OutOfMemory}
+use Rattle.shell.specs.Outcome.{Outcome, EndedEarly, Ran, Formatted, Answered, early_status, format_status, replies_of, text_of}
+use Rattle.shell.specs.Tasks.{IsFormat, IsRun, task_of}
+use Rattle.shell.specs.Mounts.{IsUnspent, MountCause, OnlyReadUnmounted}
+use Rattle.shell.specs.Runs.{Run, Streams, StreamFaults}
+use Rattle.shell.specs.Output.{GaveScript, IsTaken, script_limit}
+
+-- the source failed where it is the cause of an early end, and not else
+abbrev pub SourceFailed : EarlyEnd → ℕ → ℕ → Type 0
+SourceFailed Source faults faults_after = RoseBy 1 faults faults_after
+SourceFailed end faults faults_after = faults_after ≡ faults
+
+-- Why the arguments ask for nothing: they are no command, or no volume may have their layout. Out of memory may come at any
+-- time.
+abbrev pub ArgumentsCause : List (List ℕ) → List ℕ → EarlyEnd → Type 0
+ArgumentsCause arguments sizes Usage = task_of (length sizes) arguments ≡ None
+ArgumentsCause arguments sizes OutOfMemory = Unit {0}
+ArgumentsCause arguments sizes end = ⊥
+
+-- Why the source gave no script: it failed, its text is too long, or a text was taken that has a first bad line. Out of memory
+-- may come at any time.
+abbrev pub TextCause : Type 0 → List ℕ → EarlyEnd → Type 0
+TextCause source_tells left Source = Unit {0}
+TextCause source_tells left TooLong = source_tells → script_limit < length left
+TextCause source_tells left (BadLine line cause) = (text : List ℕ) × IsTaken source_tells left text × IsFirstBad (lines_of text) line cause
+TextCause source_tells left OutOfMemory = Unit {0}
+TextCause source_tells left end = ⊥
+
+-- A run ended before it touched a device: its arguments ask for nothing, or they ask for a run and the source gave no script.
+pub record EndsBefore {D : Type 0} (source_tells : Type 0) (arguments : List (List ℕ)) (sizes left : List ℕ) (devices devices_after : D) (end : EarlyEnd) : Type 0 where
+  pub cause : ArgumentsCause arguments sizes end ⊎ (IsRun arguments sizes × TextCause source_tells left end)
+  pub untouched : devices_after ≡ devices
+
+-- A run ended when it mounted the volume: its arguments ask for a run, and the source gave a script.
+pub record EndsMounting (source_tells devices_tell : Type 0) (arguments : List (List ℕ)) (left : List ℕ) (old new : DevicesState) (end : EarlyEnd) : Type 0 where
+  pub run : IsRun arguments old.sizes
+  pub script : List Line
+  pub gave : GaveScript source_tells left script
+  pub cause : MountCause devices_tell old new end
+
+-- Why a run ended early, in the order of the tests: arguments that ask for nothing, a source that gives no script, devices
+-- that aren't mounted. Before the last one no device is touched, whatever the end.
+abbrev pub EarlyCause : {D : Type 0} → Type 0 → Type 0 → List (List ℕ) → List ℕ → DevicesState → DevicesState → D → D → EarlyEnd → Type 0
+EarlyCause source_tells devices_tell arguments left old new devices devices_after end =
+    EndsBefore source_tells arguments old.sizes left devices devices_after end ⊎ EndsMounting source_tells devices_tell arguments left old new end
+
+-- the reply says that it was out of memory
+abbrev pub is_no_memory : Reply → Bool
+is_no_memory NoMemory = true
+is_no_memory reply = false
+
+-- the reply says that a device failed, or that the session has halted since one did
+abbrev pub is_failure : Reply → Bool
+is_failure (DeviceFault dev) = true
+is_failure (Halted dev tick) = true
+is_failure reply = false
+
+-- the status of a run that printed all: 7 where an operation was out of memory, else 6 where a device failed
+abbrev pub asked_status : Bool → Bool → ℕ
+asked_status lacks_memory has_failed = if lacks_memory then 7 else if has_failed then 6 else 0
+
+-- the status that the replies of a run ask for
+abbrev pub replies_status : List Reply → ℕ
+replies_status replies = asked_status (list_any is_no_memory replies) (list_any is_failure replies)
+
+-- Less than the whole text was given to the sink.
+abbrev pub IsCut : List ℕ → List ℕ → List ℕ → Type 0
+IsCut text held held_after = (size : ℕ) × (size < length text) × (held_after ≡ held ++ take size text)
+
+-- The status is the one that the replies ask for; or it is 7, since the text was cut where a line was out of memory.
+abbrev pub IsRunStatus : Type 0 → List Reply → List ℕ → List ℕ → List ℕ → ℕ → Type 0
+IsRunStatus sink_tells replies text held held_after status = (status ≡ replies_status replies) ⊎ ((status ≡ 7) × (sink_tells → IsCut text held held_after))
+
+-- The status is 5 exactly where the sink failed, and else as it should be.
+pub record IsStatus (IsAsFor : ℕ → Type 0) (status : ℕ) (faults : StreamFaults) : Type 0 where
+  pub failed : status ≡ 5 → RoseBy 1 faults.sink faults.sink_after
+  pub printed : status ≢ 5 → faults.sink_after ≡ faults.sink
+  pub otherwise : status ≢ 5 → IsAsFor status
+
+-- Why no line ran. Where the image doesn't mount the devices were only read, whatever the end.
+pub record HasEndedEarly {D : Type 0} (source_tells devices_tell : Type 0) (run : Run D) (end : EarlyEnd) : Type 0 where
+  pub cause : EarlyCause source_tells devices_tell run.arguments run.streams.left run.state run.state_after run.devices run.devices_after end
+  pub source : SourceFailed end run.faults.source run.faults.source_after
+  pub ends : IsStatus (λ n. n ≡ early_status end) run.status run.faults
+  pub unmounted : OnlyReadUnmounted devices_tell run.state run.state_after
+
+-- Why the lines were answered as they were. The arguments ask for a run, the image mounts, and a number was left for the
+-- session.
+--
+-- Failures: once a device has failed in a sync the session has halted, by one device and at one moment of the run (`halts`);
+-- no later entry is a commit; of each device at most as many entries say that it failed as its calls, and its writes and
+-- flushes, failed (`faults`). Each reply is the one that a session gives at its place (`exact`).
+pub record HasAnswered {D : Type 0} (sink_tells devices_tell : Type 0) (run : Run D) (opening : Mounted) (answered : List Answered) (last : Reply) : Type 0 where
+  pub arguments : IsRun run.arguments run.state.sizes
+  pub source : run.faults.source_after ≡ run.faults.source
+  pub unspent : devices_tell → IsUnspent (as_read (now run.state)) opening.layout
+  pub ends : IsStatus (IsRunStatus sink_tells (replies_of answered last) (text_of opening.forest answered last) run.streams.held run.streams.held_after) run.status run.faults
+  pub halt : Option Halt
+  pub halts : Halts halt run.state run.state_after run.trace
+  pub no_commit : NoCommitAfterHalt opening.forest run.trace
+  pub faults : HaveCauses run.state.faults run.state_after.faults run.trace
+  pub exact : EachEntry (IsExact opening.forest opening.commits opening.layout.journal (halt_or_none halt)) run.trace
+
+-- The arguments ask for a format with this layout, and the source wasn't touched. A format fails where one of the devices does,
+-- and no other failed; or where it is out of memory.
+pub record HasFormatted {D : Type 0} (run : Run D) (layout : Layout) (fault : Option DiskFault) : Type 0 where
+  pub format : IsFormat run.arguments run.state.sizes layout
+  pub source : run.faults.source_after ≡ run.faults.source
+  pub device : IfSome (option_and_then fault_device fault) (λ dev. dev < length run.state.sizes)
+  pub cause : AreAfterCalls (option_and_then fault_device fault) run.state.faults run.state_after.faults
+  pub ends : IsStatus (λ n. n ≡ format_status fault) run.status run.faults
+
+-- the causes of a run, by how it went
+abbrev pub HasCauses : {D : Type 0} → Type 0 → Type 0 → Type 0 → Run D → Mounted → Outcome → Type 0
+HasCauses source_tells sink_tells devices_tell run opening (EndedEarly end) = HasEndedEarly source_tells devices_tell run end
+HasCauses source_tells sink_tells devices_tell run opening (Ran script answered last) = HasAnswered sink_tells devices_tell run opening answered last
+HasCauses source_tells sink_tells devices_tell run opening (Formatted layout fault) = HasFormatted run layout fault

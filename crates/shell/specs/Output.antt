@@ -1,0 +1,50 @@
+-- Which script ran, what its lines were answered, and what was printed.
+use Rattle.std.specs.Prelude.{◌≡◌, ◌≢◌, ℕ, ◌^◌, ◌≤◌, List, [], ◌++◌, length, map}
+use Rattle.text_io.specs.Streams.{GivesPrefix}
+use Rattle.plain_forest.specs.Forest.{Forest}
+use Rattle.plain_forest.specs.History.{History}
+use Rattle.plain_forest.specs.declared.operation.Reply.{Reply}
+use Rattle.script_text.specs.Lines.{lines_of}
+use Rattle.script_text.specs.Scripts.{IsScript}
+use Rattle.script_text.specs.declared.reading.Line.{Line}
+use Rattle.session_history.specs.Fits.{Fits}
+use Rattle.shell.specs.Outcome.{Outcome, EndedEarly, Ran, Formatted, Answered, early_line, format_line, entries_of, line_reply, text_of}
+use Rattle.shell.specs.Runs.{Run, Streams}
+
+-- the most bytes of a script
+abbrev pub script_limit : ℕ
+script_limit = 2 ^ 24
+
+-- The text was taken of the source: it is the source's, where that tells it, and no longer than a script may be.
+pub record IsTaken (source_tells : Type 0) (left text : List ℕ) : Type 0 where
+  pub told : source_tells → text ≡ left
+  pub short : length text ≤ script_limit
+
+-- A text was taken of the source, and it has this script.
+pub record GaveScript (source_tells : Type 0) (left : List ℕ) (script : List Line) : Type 0 where
+  pub text : List ℕ
+  pub taken : IsTaken source_tells left text
+  pub reads : IsScript (lines_of text) script
+
+-- No line of a script ran: the history is empty, and the sink has gained this line, or a prefix of it with status 5.
+pub record HasLine (sink_tells : Type 0) (streams : Streams) (status : ℕ) (trace : History) (line : List ℕ) : Type 0 where
+  pub nothing : trace ≡ []
+  pub prefix : sink_tells → GivesPrefix line streams.held streams.held_after
+  pub whole : sink_tells → status ≢ 5 → streams.held_after ≡ streams.held ++ line
+
+-- Each line of the source's script was answered, in order, and then a sync. The history has the entries of these answers,
+-- their replies fit it, phase by phase, and the sink has gained their text, or a prefix of it with status 5 or 7.
+pub record HasRun (source_tells sink_tells : Type 0) (streams : Streams) (status : ℕ) (opening : Forest) (trace : History) (script : List Line) (answered : List Answered) (last : Reply) : Type 0 where
+  pub reads : GaveScript source_tells streams.left script
+  pub lines : map (λ a. a.line) answered ≡ script
+  pub entries : trace ≡ entries_of answered last
+  pub fits : Fits opening (map line_reply answered) last trace
+  pub prefix : sink_tells → GivesPrefix (text_of opening answered last) streams.held streams.held_after
+  pub whole : sink_tells → status ≢ 5 → status ≢ 7 → streams.held_after ≡ streams.held ++ text_of opening answered last
+
+-- what a run answered and printed, by how it went
+abbrev pub HasOutput : {D : Type 0} → Type 0 → Type 0 → Run D → Forest → Outcome → Type 0
+HasOutput source_tells sink_tells run opening (EndedEarly end) = HasLine sink_tells run.streams run.status run.trace (early_line end)
+HasOutput source_tells sink_tells run opening (Ran script answered last) =
+    HasRun source_tells sink_tells run.streams run.status opening run.trace script answered last
+HasOutput source_tells sink_tells run opening (Formatted layout fault) = HasLine sink_tells run.streams run.status run.trace (format_line layout fault)
