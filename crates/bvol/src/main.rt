@@ -46,11 +46,7 @@ fn printed(answer: io::Result<()>, status: u8) -> u8 {
 }
 
 // Does what the arguments ask for, and gives the status with which the program ends.
-fn run<
-    R: Files<File = File> + Env + AllocGlobal + Print + Eprint,
-    I: Read + Drop,
-    O: Write + Drop,
->(
+fn run<R: Files<File = File> + Env + AllocGlobal + Print + Eprint, I: Read + Drop, O: Write + Drop>(
     rt: &R,
     alloc: Global,
     input: I,
