@@ -1,6 +1,6 @@
 -- How records change by one update, and by several.
-use Rattle.std.proofs.Common.{◌≡◌, ℕ, ◌+◌, ◌<◌, ◌≤◌, Bool, true, false, cond, Option, Some, None, refl, sym, ap, ◌∙◌, subst, arith, ⊎_elim, inl, inr}
-use Rattle.std.specs.Prelude.{◌⊎◌, ◌==◌, IsSome, is_some}
+use Rattle.std.proofs.Common.{◌≡◌, ℕ, ◌+◌, ◌≤◌, Bool, true, false, cond, Option, Some, None, refl, sym, ap, ◌∙◌, subst, arith}
+use Rattle.std.specs.Prelude.{◌==◌, IsSome, is_some}
 use Rattle.std.specs.Ordering.{nat_cmp}
 use Rattle.std.specs.Option.{option_map, unwrap_or}
 use Rattle.std.specs.BTreeMap.{is_at}
@@ -72,7 +72,7 @@ taken old links top id rises roomy = record {
     found_at other found true is = absurd (none_some found is)
     found_at other found false is = is
 
--- changes behind one another are changes
+-- changes after one another are changes
 pub changed_then : (old middle new : Snaps) (was then now : AllLinks) (top later : Option ℕ) → AreChanged old middle was then top → AreChanged middle new then now later → ((id : ℕ) → IsPast later id → IsPast top id) → AreChanged old new was now later
 changed_then old middle new was then now top later one two grows = record {
   rises = two.rises;

@@ -4,7 +4,7 @@ use Rattle.std.specs.Prelude.{◌⊎◌, ◌==◌, ◌&&◌, ◌||◌, not, IsSo
 use Rattle.std.specs.List.{list_all}
 use Rattle.std.specs.Ordering.{nat_cmp}
 use Rattle.std.proofs.lemmas.Bool.{eqb-true, eq-eqb}
-use Rattle.std.proofs.lemmas.Option.{same_Some, none-some as none_some}
+use Rattle.std.proofs.lemmas.Option.{same_Some}
 use Rattle.vol_types.specs.Maps.{IsMap, value_at, with_value, without}
 use Rattle.std.specs.Prelude.{Result, Ok, Err, OnOk, OnErr}
 use Rattle.snap_tree.specs.declared.fault.SnapFault.{SnapFault}
@@ -13,7 +13,7 @@ use Rattle.vol_types.specs.declared.keys.Update.{Update}
 use Rattle.vol_types.specs.declared.values.Snap.{Snap}
 use Rattle.vol_types.specs.declared.values.Value.{Value}
 use Rattle.vol_types.specs.declared.values.Value.TheVariants as values
-use Rattle.snap_tree.specs.Snaps.{Snaps, IsSnapTree, are_trees, is_joined}
+use Rattle.snap_tree.specs.Snaps.{Snaps, IsSnapTree, are_trees}
 use Rattle.snap_tree.specs.Updates.{is_of_snaps, with_change, with_update, snaps_after}
 use Rattle.snap_tree.specs.Changes.{changed_id, record_of, restored, is_joined_maybe, is_fine, are_fine, is_put}
 use Rattle.snap_tree.specs.MapLaws.{not_above, value_at-cons, value_at-with, value_at-without, rises-with, rises-without}

@@ -1,15 +1,15 @@
 -- Links stay right for ids above the greatest changed one, since their chains stay.
-use Rattle.std.proofs.Common.{◌≡◌, ℕ, zero, suc, ◌+◌, ◌^◌, ◌<◌, ◌≤◌, Bool, true, false, cond, Option, Some, None, [], ◌∷◌, refl, sym, ap, ◌∙◌, subst, arith, ⊎_elim, inl, inr, length}
-use Rattle.std.specs.Prelude.{◌⊎◌, ◌==◌, IsSome, is_some}
+use Rattle.std.proofs.Common.{◌≡◌, ℕ, zero, suc, ◌+◌, ◌^◌, ◌<◌, ◌≤◌, false, cond, Option, Some, None, [], ◌∷◌, refl, sym, ap, ◌∙◌, subst, arith, ⊎_elim, length}
+use Rattle.std.specs.Prelude.{◌==◌, IsSome, is_some}
 use Rattle.std.specs.Ordering.{nat_cmp}
 use Rattle.std.proofs.lemmas.Bool.{eq-eqb, ne_eqb}
 use Rattle.vol_types.specs.Maps.{value_at}
 use Rattle.vol_types.specs.declared.values.Snap.{Snap}
 use Rattle.snap_tree.specs.Snaps.{Snaps, IsSnapTree, chain_of, chain_above}
 use Rattle.snap_tree.specs.Links.{AllLinks, AreLinks, HasLinks, AllHaveLinks, IsPast}
-use Rattle.snap_tree.specs.Changes.{HadParent, AreChanged}
+use Rattle.snap_tree.specs.Changes.{AreChanged}
 use Rattle.snap_tree.specs.ChainLaws.{chain_of-step}
-use Rattle.snap_tree.specs.TreeLaws.{HasParent, parent_joined, is_above}
+use Rattle.snap_tree.specs.TreeLaws.{parent_joined, is_above}
 
 further : (top : Option ℕ) (id above : ℕ) → id < above → IsPast top id → IsPast top above
 further None id above lt past = tt

@@ -9,7 +9,7 @@ pub enum SnapFault {
     NotLeaf,
     /// Fewer than two ids are left to be drawn.
     IdsSpent,
-    /// Memory was wanting.
+    /// Out of memory.
     NoMemory,
 }
 

@@ -1,7 +1,8 @@
 //! The trees that snapshot ids form: the chain of an id up to its root, ancestry, and the split of a leaf.
 //!
 //! A snapshot makes two ids under the one that its source had, which becomes interior. What an id sees is what stands at
-//! the ids of its chain, the nearest one first.
+//! the ids of its chain, the nearest one first. Each id keeps links to its ancestors 1, 2, 4 and so on above it, so that
+//! ancestry costs logarithms of the length of a chain.
 #![tactic(auto)]
 
 mod fault;

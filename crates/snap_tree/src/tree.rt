@@ -51,7 +51,7 @@ impl SnapTree {
         }
     }
 
-    /// The trees of the ids that have keys. Each key costs a few steps that grow with the logarithm of their number.
+    /// The trees of the ids that have keys. Each key costs some 40 logarithms of their number.
     pub fn of(alloc: Global, keys: &Keys) -> Result<SnapTree, SnapFault>
         requires { All IsSnapKey keys.now }
         ensures ok { IfOk result (λ tree. tree ≡ snaps_in keys.now) }

@@ -142,8 +142,8 @@ fn change_copy(
     Ok((copy, after))
 }
 
-// Makes the updates from this place on, none of which takes a record away. Where they make no trees, or memory is
-// wanting, each is taken back.
+// Makes the updates from this place on, none of which takes a record away. Where they make no trees, or on out of
+// memory, each is taken back.
 fn put_all(
     snaps: &mut BTreeMap<u32, Snap>,
     links: &mut BTreeMap<u32, Links>,

@@ -1,10 +1,9 @@
-use Rattle.std.proofs.Common.{◌≡◌, ℕ, ◌+◌, ◌<◌, ◌∷◌, Some, None, true, false, sym, ap, ◌∙◌, subst, arith, drop, refl}
+use Rattle.std.proofs.Common.{◌≡◌, ◌+◌, true, sym, ap, ◌∙◌, subst, arith, drop}
 use Rattle.std.specs.Prelude.{IsSome}
-use Rattle.vol_types.specs.declared.keys.Update.{Update}
 use Rattle.snap_tree.specs.Snaps.{Snaps, are_trees}
 use Rattle.snap_tree.specs.Splits.{TreesFail}
 use Rattle.snap_tree.specs.Updates.{IsFitting, snaps_after, with_update}
-use Rattle.snap_tree.specs.Changes.{changed_id, record_of, restored, is_put}
+use Rattle.snap_tree.specs.Changes.{record_of, restored, is_put}
 use Rattle.snap_tree.proofs.Changing.{changed_then}
 use Rattle.snap_tree.proofs.Putting.{drop_at, drop_past, rest_at, unfine, taken_back, each_puts, still_record_of}
 use Rattle.snap_tree.proofs.update.+put_all.Goals as goal

@@ -1,8 +1,8 @@
-use Rattle.std.proofs.Common.{◌≡◌, Some, sym, ap, ◌∙◌, subst, arith, ℕ}
+use Rattle.std.proofs.Common.{◌≡◌, Some, sym, ◌∙◌, subst, arith}
 use Rattle.std.specs.Ordering.{nat_cmp}
 use Rattle.vol_types.specs.Maps.{value_at}
 use Rattle.snap_tree.specs.Snaps.{Snaps}
-use Rattle.snap_tree.specs.Changes.{AreChanged, HadParent}
+use Rattle.snap_tree.specs.Changes.{AreChanged}
 use Rattle.snap_tree.proofs.Changing.{put}
 use Rattle.snap_tree.proofs.update.make.Goals as goal
 

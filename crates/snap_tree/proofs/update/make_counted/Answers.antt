@@ -1,4 +1,4 @@
-use Rattle.std.proofs.Common.{◌≡◌, ◌+◌, ◌≤◌, ℕ, arith, ap, sym, ◌∙◌, subst}
+use Rattle.std.proofs.Common.{◌≡◌, arith, ap, ◌∙◌}
 use Rattle.snap_tree.specs.Snaps.{Snaps, live_leaves}
 use Rattle.snap_tree.specs.Updates.{with_update}
 use Rattle.snap_tree.specs.Changes.{changed_id, record_of, live_of}
