@@ -23,6 +23,6 @@ module _ (copies : List SuperCopy) (place : ℕ) (copy : SuperCopy) (within : pl
       ap (λ n. find (λ (c : SuperCopy). has_form c.payload) (drop n copies)) next
       ∙ sym (find_step copies place copy within (sym at) ∙ ap (λ b. cond {A = Option SuperCopy} b (Some copy) (find (λ c. has_form c.payload) (drop (suc place) copies))) other)
 
--- Behind the last copy none is found.
+-- After the last copy none is found.
 pub found_nowhere : (copies : List SuperCopy) (place : ℕ) → length copies ≤ place → find (λ c. has_form c.payload) (drop place copies) ≡ None
 found_nowhere copies place all = ap (find (λ c. has_form c.payload)) (drop_all place copies all)

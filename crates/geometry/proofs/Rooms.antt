@@ -26,6 +26,6 @@ pub no_room_here : (blocks sizes : List ℕ) (dev : ℕ) → dev < length blocks
 no_room_here blocks sizes dev one other lower =
     room_step blocks sizes dev one other ∙ ap (λ test. test && have_room (drop (suc dev) blocks) (drop (suc dev) sizes)) (lt-leb (get_or blocks dev 0) (get_or sizes dev 0) lower)
 
--- Behind the last device nothing is left to fit.
+-- After the last device nothing is left to fit.
 pub room_end : (blocks sizes : List ℕ) (dev : ℕ) → length blocks ≤ dev → length sizes ≤ dev → have_room (drop dev blocks) (drop dev sizes) ≡ true
 room_end blocks sizes dev one other = ap (λ (b : List ℕ). have_room b (drop dev sizes)) (drop_all dev blocks one) ∙ ap (λ (s : List ℕ). have_room [] s) (drop_all dev sizes other)

@@ -12,7 +12,7 @@ use sealed_block::{Head, SUPERBLOCK, seal};
 use std::alloc::{AllocError, Global};
 use std::test::Fail;
 use vol_digest::digest;
-use vol_types::{Blocks, Bytes, Layout};
+use vol_types::{Blocks, Bytes, Layout, Place};
 
 const ID: [u8; 16] = [
     0x10, 0x11, 0x12, 0x13, 0x14, 0x15, 0x16, 0x17, 0x18, 0x19, 0x1a, 0x1b, 0x1c, 0x1d, 0x1e, 0x1f,
@@ -71,12 +71,12 @@ fn odd_copy(alloc: Global, version: u8, payload: &[u8]) -> Result<Bytes, Fail> {
 fn put(devices: &mut MemDevices, dev: u8, block: u32, bytes: &[u8]) -> Result<(), Fail>
     requires { NothingPending (now (⟦<MemDevices as Devices>⟧.state devices.old)) }
     ensures quiet { NothingPending (now (⟦<MemDevices as Devices>⟧.state devices.new)) }
-    ensures sizes { ⟦<MemDevices as Devices>⟧.sizes devices.new ≡ ⟦<MemDevices as Devices>⟧.sizes devices.old }
+    ensures sizes { (⟦<MemDevices as Devices>⟧.state devices.new).sizes ≡ (⟦<MemDevices as Devices>⟧.state devices.old).sizes }
 {
     if dev >= devices.count() || block >= devices.blocks(dev) || bytes.len() != 4096 {
         return Err(Fail::from("there is no such block"));
     }
-    devices.patch(dev, block, bytes)?;
+    devices.patch(&Place { dev, block }, bytes)?;
     Ok(())
 }
 

@@ -1,4 +1,4 @@
--- What an extension writes, and what a stop during it leaves.
+-- What an extension writes, and what a crash during it leaves.
 use Rattle.std.proofs.Common.{◌≡◌, ℕ, zero, suc, ◌+◌, ◌-◌, ◌<◌, ◌≤◌, Bool, true, false, ◌&&◌, cond, List, [], ◌∷◌, ◌++◌, length, get_or, slice_get, take, Option, Some, None, Result, Ok, Err, ⊎_elim, refl, ap, ◌∙◌, sym, subst, arith, All}
 use Rattle.std.specs.Prelude.{nat_lt, nat_le, ◌==◌, replicate}
 use Rattle.std.specs.Option.{IsSome}
@@ -45,7 +45,7 @@ extended_length disk size le = length-append disk.blocks (replicate (size - leng
 most_length : (disk : Disk) (some size : ℕ) → some ≤ size → length disk.blocks ≤ size → length (disk.blocks ++ replicate (some - length disk.blocks) zeros) ≤ size
 most_length disk some size le longer = omega (arith, le, longer, length-append disk.blocks (replicate (some - length disk.blocks) zeros), length-replicate (some - length disk.blocks) zeros)
 
--- During an extension a stop leaves what it might have left before, but for the new blocks.
+-- During an extension a crash leaves what it might have left before, but for the new blocks.
 extend_leaves : (disk : Disk) (some size : ℕ) → IsDisk disk → some ≤ size → length disk.blocks ≤ size → (left : List (List ℕ)) → IsCrashOf (extended some disk) left
     → (before : List (List ℕ)) × IsCrashOf disk before × ((b : ℕ) → ¬ IsSome (extension (length disk.blocks) size b) → slice_get before b ≡ slice_get left b)
 extend_leaves disk some size is le longer left may =
@@ -66,7 +66,7 @@ extend_leaves disk some size is le longer left may =
           (λ (lower : b < n). get-take left n b lower)
           (λ (past : n ≤ b). ⊎_elim
           (λ (new : b < size). absurd (elsewhere (rw (le-leb n b past, lt-ltb b size new) refl)))
-          (λ (behind : size ≤ b). slice_get_past before b (omega (arith, count, past)) ∙ sym (slice_get_past left b (omega (arith, may.no_longer, most, behind))))
+          (λ (beyond : size ≤ b). slice_get_past before b (omega (arith, count, past)) ∙ sym (slice_get_past left b (omega (arith, may.no_longer, most, beyond))))
           (cases_lt b size))
           (cases_lt b n),
     )
@@ -79,7 +79,7 @@ same_first : (writes : ℕ → Option (List ℕ)) (x y : List (List ℕ)) (image
 same_first writes x y image others zero b elsewhere = others b elsewhere
 same_first writes x y image others (suc d) b elsewhere = refl
 
--- Of the devices behind it, each by its number among them.
+-- Of the devices after it, each by its number among them.
 on_next : (device : ℕ) (writes : ℕ → Option (List ℕ)) (d b : ℕ) → on_device (suc device) writes (suc d) b ≡ on_device device writes d b
 on_next device writes d b = ⊎_elim
     (λ (same : d ≡ device). rw (eq-eqb d device same, eq-eqb (suc d) (suc device) (ap suc same)) refl)
@@ -127,7 +127,7 @@ reads_extended_disk disk size b longer = ⊎_elim
     (λ (past : length disk.blocks ≤ b). ⊎_elim
     (λ (new : b < size).
     (get-append_right disk.blocks _ b (b - length disk.blocks) (omega (arith, past)) ∙ get-copies (size - length disk.blocks) (b - length disk.blocks) zeros (omega (arith, past, new)) ∙ (rw (le-leb (length disk.blocks) b past, lt-ltb b size new) refl)))
-    (λ (behind : size ≤ b). slice_get_past _ b (omega (arith, behind, extended_length disk size longer)) ∙ sym (slice_get_past disk.blocks b past) ∙ (rw (le-leb (length disk.blocks) b past, le-ltb b size behind) refl))
+    (λ (beyond : size ≤ b). slice_get_past _ b (omega (arith, beyond, extended_length disk size longer)) ∙ sym (slice_get_past disk.blocks b past) ∙ (rw (le-leb (length disk.blocks) b past, le-ltb b size beyond) refl))
     (cases_lt b size))
     (cases_lt b (length disk.blocks))
 

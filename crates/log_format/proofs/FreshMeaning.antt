@@ -156,7 +156,7 @@ module _ (layout : Layout) (before : Image) (is : is_layout layout ≡ true) (de
   unzeroed_other : (dev block : ℕ) → ¬ (block ≡ 0) → ¬ (block ≡ 8) → zeroed (blocks_of before dev) (other_block (blocks_of before dev)) block ≡ None
   unzeroed_other dev block one two = zeroed_elsewhere (blocks_of before dev) _ block (not_place _ block (other_place _ (spare_place (counting (blocks_of before dev)))) one two)
 
-  -- Behind all steps the image is the fresh volume.
+  -- After all steps the image is the fresh volume.
   pub done_means : (image : Image) → IsOfStep layout before Done image → mounts image ≡ Ok (fresh_volume layout)
   done_means image of_step = fresh_there image of_step.count
       (λ dev block one two. of_step.others dev block refl ∙ ap (λ written. or_held written (held_before layout before Seal dev block)) (seal_elsewhere dev block one two))

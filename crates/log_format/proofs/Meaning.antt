@@ -117,7 +117,7 @@ module _ (layout : Layout) (before : Image) where
       ⊎_elim (λ same. inl (now ∙ same ∙ sym second.1 ∙ sym (counting_of before dev))) (λ none. inr (now ∙ none)) (kept 8 (λ e. omega (arith, e, second.0))))
       (which dev)
 
-  -- Behind both, no superblock copy is there.
+  -- After both, no superblock copy is there.
   pub all_cleared : (dev block : ℕ) → (block ≡ 0) ⊎ (block ≡ 8) → copy_of block (held_before layout before Extend dev block) ≡ None
   unfolding was
   all_cleared dev block place =

@@ -27,6 +27,6 @@ prepared_other layout block first last eight five = rw (ne_eqb block 5 five, le-
 pub prepared_none : (layout : Layout) (block : ℕ) → block < 1 → prepared layout block ≡ None
 prepared_none layout block first = rw (ne_eqb block 5 (λ e. omega (arith, e, first)), lt-leb 1 block first) refl
 
--- Nothing stands behind the area.
+-- Nothing stands after the area.
 pub prepared_past : (layout : Layout) (block : ℕ) → 16 + layout.journal ≤ block → prepared layout block ≡ None
 prepared_past layout block past = rw (ne_eqb block 5 (λ e. omega (arith, e, past)), le-leb 1 block (omega (arith, past)), le-ltb block (16 + layout.journal) past) refl

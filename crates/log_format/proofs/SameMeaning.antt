@@ -91,7 +91,7 @@ pub count_of : (image : Image) → length (map (λ (blocks : List (List ℕ)). l
 count_of [] = refl
 count_of (blocks ∷ image) = ap suc (count_of image)
 
--- Where the copies that count are the same, and all blocks behind, the image means the same or doesn't mount.
+-- Where the copies that count are the same, and all blocks after, the image means the same or doesn't mount.
 pub same_or_none : (image before : Image) → length image ≡ length before → ((dev : ℕ) → counting (blocks_of image dev) ≡ counting (blocks_of before dev)) → SameBehind image before → (mounts image ≡ mounts before) ⊎ IsErr (mounts image)
 same_or_none image before count copies same = by_layout (layout_in image) refl
   where

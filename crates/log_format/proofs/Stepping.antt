@@ -40,7 +40,7 @@ both_parts P old mid new so_far later past each = record {
   later = omega (arith, so_far.later, later);
   past = λ m le. past m (omega (arith, le, so_far.later)) ∙ so_far.past m le;
   each = λ m lo hi image may. ⊎_elim
-      (λ (behind : mid.moment < m). each m (omega (arith, behind)) hi image may)
+      (λ (beyond : mid.moment < m). each m (omega (arith, beyond)) hi image may)
       (λ (before : m ≤ mid.moment). so_far.each m lo before image (subst (λ ds. IsCrashImage ds image) (past m before) may))
       (cases_lt mid.moment m);
 }
@@ -78,7 +78,7 @@ step_leaves layout step writes old mid new reached same touches =
 left_is_read : (disks : List Disk) → All IsDisk disks → IsCrashImage disks (as_read disks)
 left_is_read disks are = as_read_may_be_left disks are
 
--- Behind a step the next one begins.
+-- After a step the next one begins.
 pub step_taken : {T E : Type 0} (result : Result T E) (layout : Layout) (step next : Step) (writes : ℕ → ℕ → Option (List ℕ)) (old mid new : DevicesState) → All IsDisk (now new) → steps_before next ≡ step ∷ steps_before step
     → Reached layout step old mid → ((dev block : ℕ) → writes dev block ≡ step_writes layout (as_read (now old)) step dev block) → IsStep result writes mid new → Formats result layout next old new
 step_taken (Err e) layout step next writes old mid new are follows reached same taken = record { leaves = step_leaves layout step writes old mid new reached same taken.writes_so.touches; reached = tt }

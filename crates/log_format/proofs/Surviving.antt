@@ -1,5 +1,5 @@
 use Rattle.dev_model.specs.Crashes.{EachCrashNow}
--- What the calls write is what the steps write, and so a stop leaves only what formatting may leave.
+-- What the calls write is what the steps write, and so a crash leaves only what formatting may leave.
 use Rattle.std.proofs.Common.{◌≡◌, ℕ, zero, suc, ◌-◌, ◌<◌, ◌≤◌, Bool, true, false, ◌&&◌, List, [], ◌∷◌, length, get_or, Some, None, Result, Ok, Err, inl, ⊎_elim, refl, ap, ◌∙◌, sym, subst, arith}
 use Rattle.std.specs.Prelude.{IsErr, OnOk, nat_lt, nat_le, ◌==◌}
 use Rattle.std.proofs.lemmas.Bool.{cases_lt, lt-ltb, le-ltb, false≢true}
@@ -69,7 +69,7 @@ pub formats_failed : {T F E G : Type 0} (out : Result T G) (result : Result F E)
 formats_failed (Ok x) result layout step other old new is formats = absurd (false≢true is)
 formats_failed (Err e) result layout step other old new is formats = record { leaves = formats.leaves; reached = tt }
 
--- Where a stop leaves only images of the steps, it leaves only what formatting may leave.
+-- Where a crash leaves only images of the steps, it leaves only what formatting may leave.
 pub survives_by_steps : (layout : Layout) (old new : DevicesState) → is_layout layout ≡ true → length layout.blocks ≡ length (as_read (now old)) → HasLaws layout → LeavesSteps layout old new → FormatSurvives layout old new
 survives_by_steps layout old new is count laws leaves quiet moment lo hi image may =
     let some = leaves.each moment lo hi image may quiet in

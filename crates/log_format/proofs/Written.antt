@@ -12,7 +12,7 @@ use Rattle.dev_model.specs.PlaceLaws.{IsSettled, reads_written, reads_written_el
 use Rattle.log_format.specs.Formatting.{if_so, or_held}
 use Rattle.log_format.specs.Steps.{AllSettled, IsStep, LeavesBut, Reads, Touches, Writes, Wrote, if_there, in_block, in_first, on_device, on_first}
 
--- A stop leaves something of each disk.
+-- A crash leaves something of each disk.
 pub left_count : (disks : List Disk) (image : Image) → IsCrashImage disks image → length image ≡ length disks
 left_count [] [] may = refl
 left_count [] (x ∷ image) may = absurd may
@@ -24,7 +24,7 @@ changed_count dev change [] = refl
 changed_count zero change (disk ∷ disks) = refl
 changed_count (suc dev) change (disk ∷ disks) = ap suc (changed_count dev change disks)
 
--- What a stop may leave, it may leave wherever something is written.
+-- What a crash may leave, it may leave wherever something is written.
 pub leaves_itself : (writes : ℕ → ℕ → Option (List ℕ)) (disks : List Disk) (image : Image) → IsCrashImage disks image → LeavesBut writes disks image
 leaves_itself writes disks image may = record { count = left_count disks image may; but = (image, may, λ d b elsewhere. refl) }
 
@@ -32,7 +32,7 @@ leaves_itself writes disks image may = record { count = left_count disks image m
 abbrev pub IsPart : (ℕ → ℕ → Option (List ℕ)) → (ℕ → ℕ → Option (List ℕ)) → Type 0
 IsPart few many = (dev block : ℕ) → IsSome (few dev block) → IsSome (many dev block)
 
--- What a stop leaves after one part and then another.
+-- What a crash leaves after one part and then another.
 leaves_then : (first second all : ℕ → ℕ → Option (List ℕ)) (old mid : List Disk) (image : Image)
     → IsPart first all → IsPart second all → ((before : Image) → IsCrashImage mid before → LeavesBut first old before) → LeavesBut second mid image → LeavesBut all old image
 leaves_then first second all old mid image one two before leaves =
@@ -165,7 +165,7 @@ one_device_more count writes dev block = ⊎_elim
     (λ (here : dev ≡ count). rw (eq-eqb dev count here, lt-ltb dev (count + 1) (omega (arith, here)), le-ltb dev count (omega (arith, here)), here) (last (writes count block)))
     (λ (other : ¬ (dev ≡ count)). ⊎_elim
     (λ (before : dev < count). rw (ne_eqb dev count other, lt-ltb dev (count + 1) (omega (arith, before)), lt-ltb dev count before) refl)
-    (λ (behind : count ≤ dev). rw (ne_eqb dev count other, le-ltb dev (count + 1) (omega (arith, behind, other)), le-ltb dev count behind) refl)
+    (λ (beyond : count ≤ dev). rw (ne_eqb dev count other, le-ltb dev (count + 1) (omega (arith, beyond, other)), le-ltb dev count beyond) refl)
     (cases_lt dev count))
     (cases_eq dev count)
   where
@@ -180,7 +180,7 @@ one_block_more device count writes dev block = ⊎_elim
     (λ (here : block ≡ count). rw (eq-eqb block count here, lt-ltb block (count + 1) (omega (arith, here)), le-ltb block count (omega (arith, here)), here) (last (writes count)))
     (λ (other : ¬ (block ≡ count)). ⊎_elim
     (λ (before : block < count). rw (ne_eqb block count other, lt-ltb block (count + 1) (omega (arith, before)), lt-ltb block count before) refl)
-    (λ (behind : count ≤ block). rw (ne_eqb block count other, le-ltb block (count + 1) (omega (arith, behind, other)), le-ltb block count behind) refl)
+    (λ (beyond : count ≤ block). rw (ne_eqb block count other, le-ltb block (count + 1) (omega (arith, beyond, other)), le-ltb block count beyond) refl)
     (cases_lt block count))
     (cases_eq block count)))
     (λ (elsewhere : (dev == device) ≡ false). rw elsewhere refl)
@@ -258,7 +258,7 @@ all_settled disks count most settled image may dev block = ⊎_elim
     read_count [] = refl
     read_count (disk ∷ disks) = ap suc (read_count disks)
 
--- The flushes behind writes that succeeded make a step of them.
+-- The flushes after writes that succeeded make a step of them.
 pub step_by_flushes : {T E : Type 0} (result : Result T E) (writes : ℕ → ℕ → Option (List ℕ)) (old mid new : DevicesState) (count : ℕ) → Wrote writes old mid → length (now new) ≤ count
     → EachCrash (λ _ _ image. IsCrashImage (now mid) image) mid new → ((dev block : ℕ) → block_at (as_read (now new)) dev block ≡ block_at (as_read (now mid)) dev block)
     → OnOk result ((dev : ℕ) → dev < count → IsSettled (now new) dev) → IsStep result writes old new
@@ -416,6 +416,6 @@ pub failed_by : {T F E G : Type 0} (out : Result T G) (result : Result F E) (few
 failed_by (Ok x) result few many old new is part writes = absurd (false≢true is)
 failed_by (Err e) result few many old new is part writes = record { touches = touches_more few many old new part writes.touches; reads = tt }
 
--- Behind a call that succeeded all of it was written.
+-- After a call that succeeded all of it was written.
 pub ok_wrote : {T E : Type 0} (x : T) (writes : ℕ → ℕ → Option (List ℕ)) (old new : DevicesState) → Writes {E = E} (Ok x) writes old new → Wrote writes old new
 ok_wrote x writes old new wrote = record { touches = wrote.touches; reads = wrote.reads }

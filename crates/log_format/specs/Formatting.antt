@@ -1,4 +1,4 @@
--- How devices are formatted: in five steps, each settled before the next begins, and what a stop in one of them leaves.
+-- How devices are formatted: in five steps, each settled before the next begins, and what a crash in one of them leaves.
 use Rattle.std.specs.Prelude.{◌≡◌, ◌⊎◌, ℕ, ◌+◌, ◌-◌, ◌≤◌, Bool, true, false, ◌&&◌, ◌||◌, ◌==◌, not, nat_lt, nat_le, if◌then◌else◌, List, [], ◌∷◌, length, slice_index, Option, Some, None, Ok, IsErr}
 use Rattle.dev_model.specs.Disk.{Image, IsCrashImage, as_read, block_at, blocks_of, zeros}
 use Rattle.dev_model.specs.Devices.{DevicesState, now}
@@ -44,7 +44,7 @@ abbrev pub prepared : Layout → ℕ → Option (List ℕ)
 prepared layout block = if block == 5 then Some (session_block layout.id 1) else if_so (is_cleared layout block) zeros
 
 -- The five steps: a zero block for the superblock copy of every device that doesn't count, one for its other copy, zeros up to
--- the new length, what metadata devices get, and both superblock copies of every device. Behind the last one it is done.
+-- the new length, what metadata devices get, and both superblock copies of every device. After the last one it is done.
 pub data Step : Type 0 where
   ZeroSpares : Step
   ZeroOthers : Step
@@ -76,7 +76,7 @@ steps_before Prepare = Extend ∷ ZeroOthers ∷ ZeroSpares ∷ []
 steps_before Seal = Prepare ∷ Extend ∷ ZeroOthers ∷ ZeroSpares ∷ []
 steps_before Done = Seal ∷ Prepare ∷ Extend ∷ ZeroOthers ∷ ZeroSpares ∷ []
 
--- what a place holds behind steps, the last of them first: what the last that wrote there wrote, or what was there before
+-- what a place holds after steps, the last of them first: what the last that wrote there wrote, or what was there before
 abbrev pub held_after : Layout → Image → List Step → ℕ → ℕ → Option (List ℕ)
 held_after layout before [] dev block = block_at before dev block
 held_after layout before (step ∷ steps) dev block = or_held (step_writes layout before step dev block) (held_after layout before steps dev block)
@@ -105,13 +105,13 @@ fresh_volume layout = mounted_as layout (0, fresh)
 abbrev pub MeansOldOrFresh : Layout → Image → Image → Type 0
 MeansOldOrFresh layout before image = (mounts image ≡ mounts before) ⊎ IsErr (mounts image) ⊎ (mounts image ≡ Ok (fresh_volume layout))
 
--- What a stop leaves of devices that are being formatted is of one of the steps, and means what it may.
+-- What a crash leaves of devices that are being formatted is of one of the steps, and means what it may.
 pub record IsFormatImage (layout : Layout) (before image : Image) : Type 0 where
   pub step : Step
   pub of_step : IsOfStep layout before step image
   pub means : HasNoTornMatch layout before step image → MeansOldOrFresh layout before image
 
--- A stop at each moment of formatting quiet devices leaves only such images.
+-- A crash at each moment of formatting quiet devices leaves only such images.
 abbrev pub FormatSurvives : Layout → DevicesState → DevicesState → Type 0
 FormatSurvives layout old new =
     IsQuiet (now old) → (moment : ℕ) → old.moment ≤ moment → moment ≤ new.moment

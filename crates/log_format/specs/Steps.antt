@@ -1,5 +1,5 @@
--- What a step of formatting does to devices: where it writes what, what a stop during it leaves, and what is read and settled
--- behind it.
+-- What a step of formatting does to devices: where it writes what, what a crash during it leaves, and what is read and settled
+-- after it.
 use Rattle.std.specs.Prelude.{◌≡◌, ◌<◌, ℕ, ◌&&◌, ◌||◌, ◌==◌, nat_lt, nat_le, if◌then◌else◌, List, length, slice_index, slice_index_or, Option, Some, None, Result, OnOk}
 use Rattle.std.specs.Option.{IsSome}
 use Rattle.vol_types.specs.declared.layout.Layout.{Layout}
@@ -39,7 +39,7 @@ super_copies layout dev block = if_so (block == 0 || block == 8) (super_block la
 
 -- The bytes are those of a device's superblock copy.
 pub record IsSuper (layout : Layout) (dev block : ℕ) (bytes : List ℕ) : Type 0 where
-  pub spelled : bytes ≡ super_block layout dev block 1
+  pub encoded : bytes ≡ super_block layout dev block 1
   pub copy : copy_in block (super_block layout dev block 1) ≡ Some (super_copy layout dev block 1)
   pub size : length bytes ≡ 4096
 
@@ -48,12 +48,12 @@ pub record AreSupers (layout : Layout) (block : ℕ) (supers : List (List ℕ)) 
   pub count : length supers ≡ length layout.blocks
   pub each : (dev : ℕ) → dev < length supers → (other : List ℕ) → IsSuper layout dev block (slice_index_or supers dev other)
 
--- The image has as many devices, and holds what a stop might have left before, but where something is written.
+-- The image has as many devices, and holds what a crash might have left before, but where something is written.
 pub record LeavesBut (writes : ℕ → ℕ → Option (List ℕ)) (first : List Disk) (image : Image) : Type 0 where
   pub count : length image ≡ length first
   pub but : IsCrashImageBut (λ dev block. IsSome (writes dev block)) first image
 
--- A stop leaves only such images of what was there before.
+-- A crash leaves only such images of what was there before.
 abbrev pub Touches : (ℕ → ℕ → Option (List ℕ)) → DevicesState → DevicesState → Type 0
 Touches writes old new = EachCrash (λ _ _ image. LeavesBut writes (now old) image) old new
 
@@ -71,7 +71,7 @@ pub record Writes {T E : Type 0} (result : Result T E) (writes : ℕ → ℕ →
   pub touches : Touches writes old new
   pub reads : OnOk result (Reads writes old new)
 
--- A stop leaves every place as it is read.
+-- A crash leaves every place as it is read.
 abbrev pub AllSettled : List Disk → Type 0
 AllSettled disks = (image : Image) → IsCrashImage disks image → (dev block : ℕ) → block_at image dev block ≡ block_at (as_read disks) dev block
 
@@ -85,7 +85,7 @@ pub record IsOfSome (layout : Layout) (before image : Image) : Type 0 where
   pub step : Step
   pub of_step : IsOfStep layout before step image
 
--- If the disks were quiet at first, a stop leaves only images of the steps.
+-- If the disks were quiet at first, a crash leaves only images of the steps.
 abbrev pub LeavesSteps : Layout → DevicesState → DevicesState → Type 0
 LeavesSteps layout old new = EachCrash (λ _ _ image. IsQuiet (now old) → IsOfSome layout (as_read (now old)) image) old new
 

@@ -24,7 +24,7 @@ pub(crate) fn zero_block(alloc: Global) -> Result<Bytes, AllocError>
 
 /// The block that names session 1 of the volume.
 pub(crate) fn first_session(alloc: Global, layout: &Layout) -> Result<Bytes, AllocError>
-    ensures spelled { IfOk result (λ bytes. bytes ≡ session_block layout.now.id 1) }
+    ensures bytes { IfOk result (λ bytes. bytes ≡ session_block layout.now.id 1) }
     ensures named { IfOk result (λ bytes. session_named layout.now.id 5 (session_block layout.now.id 1) ≡ Some 1) }
     ensures size { IfOk result (λ bytes. length bytes ≡ 4096) }
 {
@@ -37,7 +37,7 @@ pub(crate) fn first_session(alloc: Global, layout: &Layout) -> Result<Bytes, All
 fn super_bytes(alloc: Global, layout: &Layout, dev: u8, block: u32) -> Result<Bytes, AllocError>
     requires layout { is_layout layout.now ≡ true }
     requires device { dev < length layout.now.blocks }
-    ensures spelled { IfOk result (λ bytes. bytes ≡ super_block layout.now dev block 1) }
+    ensures bytes { IfOk result (λ bytes. bytes ≡ super_block layout.now dev block 1) }
     ensures copy { IfOk result (λ bytes. copy_in block (super_block layout.now dev block 1) ≡ Some (super_copy layout.now dev block 1)) }
     ensures size { IfOk result (λ bytes. length bytes ≡ 4096) }
 {

@@ -1,4 +1,4 @@
-//! Formatting devices: the five steps that make a volume of them, so that a stop in one leaves what was there, or nothing
+//! Formatting devices: the five steps that make a volume of them, so that a crash in one leaves what was there, or nothing
 //! that mounts, or the fresh volume.
 #![tactic(auto)]
 

@@ -26,7 +26,7 @@ fn layout_of(
         id,
         blocks: Blocks::from_slice(alloc, &sizes[..devices.min(8)])?,
         journal,
-        meta,
+        metadata_replicas,
         data_replicas: 1,
     })
 }

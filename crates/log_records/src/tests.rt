@@ -8,7 +8,7 @@ use geometry::{is_layout, session_bytes, write_super};
 use std::alloc::Global;
 use std::test::Fail;
 use vol_digest::digest;
-use vol_types::{Blocks, Bytes, Layout};
+use vol_types::{Blocks, Bytes, Layout, Place};
 
 const ID: [u8; 16] = [0, 1, 2, 3, 4, 5, 6, 7, 8, 9, 10, 11, 12, 13, 14, 15];
 
@@ -66,7 +66,7 @@ fn put(devices: &mut MemDevices, dev: u8, block: u32, bytes: &[u8]) -> Result<()
     if dev >= devices.count() || block >= devices.blocks(dev) || bytes.len() != 4096 {
         return Err(Fail::from("there is no such block"));
     }
-    devices.patch(dev, block, bytes)?;
+    devices.patch(&Place { dev, block }, bytes)?;
     Ok(())
 }
 

@@ -34,7 +34,7 @@ loop-dev-preserved c =
     let block = c.args.block in
     let so_far = c.loop-dev.invariant in
     let made = c.in_ok-super_bytes.ensures in
-    let last : IsSuper c.args.layout.now c.loop-dev.dev block c.in_ok-super_bytes.field-0 = record { spelled = made.spelled; copy = made.copy; size = made.size } in
+    let last : IsSuper c.args.layout.now c.loop-dev.dev block c.in_ok-super_bytes.field-0 = record { encoded = made.bytes; copy = made.copy; size = made.size } in
     record {
       count = ap (λ (xs : List (List ℕ)). length xs) c.in_ok-push.ensures.items ∙ length-append c.loop-dev.supers.items (c.in_ok-super_bytes.field-0 ∷ []) ∙ ap (λ n. n + 1) so_far.count;
       each = λ dev within other.
