@@ -19,6 +19,7 @@ use Rattle.plain_forest.specs.declared.operation.Op.TheVariants.{Mkfile, Ls, Syn
 use Rattle.plain_forest.specs.declared.operation.Reply.{Reply}
 use Rattle.plain_forest.specs.declared.operation.Reply.TheVariants.{Okay, Synced, List as Listed, Refused, NoSpace, DeviceFault, Halted, NoMemory}
 use Rattle.plain_forest.specs.declared.operation.Entry.{Entry}
+use Rattle.text_io.specs.Streams.{GivesPrefix}
 use Rattle.script_text.specs.declared.reading.Line.{Line}
 use Rattle.record_log.specs.Exact.{file_reply, log_short, refusal_or}
 use Rattle.shell.specs.Mounts.{ComesAfter}
@@ -30,7 +31,7 @@ use Rattle.shell.specs.declared.tally.Tally.{Tally}
 use Rattle.shell.specs.declared.page.Page.{Page}
 use Rattle.shell.specs.Printing.{Prints, has_ended}
 use Rattle.shell.specs.Output.{WereMade}
-use Rattle.shell.proofs.Printing.{all_given}
+use Rattle.shell.proofs.Printing.{all_given, all_or_part}
 use Rattle.shell.specs.Outcome.{Answered, acknowledges, entry_of, reply_line, reply_line_by, reply_lines}
 use Rattle.shell.specs.Causes.{is_no_memory}
 use Rattle.shell.specs.Phases.{AddsEntries, AreMade, RunsLines, tally_after, tally_with}
@@ -68,7 +69,7 @@ module _ {K : Type 0} (sink_tells : Type 0) (held : K → List ℕ) (start : K) 
   made_later page new_page last new_last text [] ended made = tt
   made_later page new_page last new_last text (first ∷ answered) ended made = (
     (λ ack. let one = made.0 ack in
-        (one.0, λ told. ⊎_elim (λ (all : held one.0 ≡ held start ++ (text ++ reply_line first)). inl all) (λ (end : (has_ended page ≡ true) × (last ≡ one.0)). inr ((ended end.0).0, (ended end.0).1 ∙ end.1)) (one.1 told))),
+        (one.0, λ told. ⊎_elim (λ (all : held one.0 ≡ held start ++ (text ++ reply_line first)). inl all) (λ (end : (has_ended page ≡ true) × (last ≡ one.0) × GivesPrefix (text ++ reply_line first) (held start) (held one.0)). inr ((ended end.0).0, (ended end.0).1 ∙ end.1, end.2)) (one.1 told))),
     made_later page new_page last new_last (text ++ reply_line first) answered ended made.1,
   )
 
@@ -77,7 +78,7 @@ module _ {K : Type 0} (sink_tells : Type 0) (held : K → List ℕ) (start : K) 
   were_made page last final text [] ended made = tt
   were_made page last final text (first ∷ answered) ended made = (
     (λ ack. let one = made.0 ack in
-        (one.0, λ told. ⊎_elim (λ (all : held one.0 ≡ held start ++ (text ++ reply_line first)). inl all) (λ (end : (has_ended page ≡ true) × (last ≡ one.0)). inr (ap held (ended end.0 ∙ end.1))) (one.1 told))),
+        (one.0, λ told. ⊎_elim (λ (all : held one.0 ≡ held start ++ (text ++ reply_line first)). inl all) (λ (end : (has_ended page ≡ true) × (last ≡ one.0) × GivesPrefix (text ++ reply_line first) (held start) (held one.0)). inr (subst (λ k. GivesPrefix (text ++ reply_line first) (held start) (held k)) (sym (ended end.0 ∙ end.1)) end.2)) (one.1 told))),
     were_made page last final (text ++ reply_line first) answered ended made.1,
   )
 
@@ -131,7 +132,7 @@ module _ {D K : Type 0} (state : D → DevicesState) (devices_tell sink_tells : 
             let after = prints start text before in record {
               prints = subst (λ t. Prints sink_tells held faults start (text ++ t) new_page new_sink) (sym (append-nil (reply_line one))) after;
               made = (
-                (λ ack. (new_sink, λ told. ⊎_elim (λ (end : has_ended new_page ≡ true). inr (end, refl)) (λ (goes : has_ended new_page ≡ false). inl (all_given sink_tells held faults start (text ++ reply_line one) new_page new_sink after goes (given ack goes) told)) (either (has_ended new_page)))),
+                (λ ack. (new_sink, λ told. ⊎_elim (λ (end : has_ended new_page ≡ true). inr (end, refl, all_or_part sink_tells held faults start (text ++ reply_line one) new_page new_sink after told)) (λ (goes : has_ended new_page ≡ false). inl (all_given sink_tells held faults start (text ++ reply_line one) new_page new_sink after goes (given ack goes) told)) (either (has_ended new_page)))),
                 tt,
               );
             };

@@ -32,11 +32,11 @@ pub record HasLine (sink_tells : Type 0) (streams : Streams) (status : ℕ) (tra
   pub prefix : sink_tells → GivesPrefix line streams.held streams.held_after
   pub whole : sink_tells → status ≢ 5 → streams.held_after ≡ streams.held ++ line
 
--- Where it is an acknowledgement, there was a sink that held all lines up to it, since the run began; or nothing was printed
--- after that sink.
+-- Where it is an acknowledgement, there was a sink that held just the lines up to it, since the run began; or no more than
+-- these lines was ever printed.
 abbrev pub WasMade : {K : Type 0} → Type 0 → (K → List ℕ) → K → K → List ℕ → Reply → Type 0
 WasMade {K} sink_tells held first last text reply =
-    acknowledges reply ≡ true → (sink : K) × (sink_tells → (held sink ≡ held first ++ text) ⊎ (held last ≡ held sink))
+    acknowledges reply ≡ true → (sink : K) × (sink_tells → (held sink ≡ held first ++ text) ⊎ GivesPrefix text (held first) (held last))
 
 -- Each acknowledgement was printed when it was made, after the lines that have this text.
 abbrev pub WereMade : {K : Type 0} → Type 0 → (K → List ℕ) → K → K → List ℕ → List Answered → Type 0

@@ -53,11 +53,12 @@ pub record AddsEntries {D : Type 0} (state : D → DevicesState) (devices_tell :
   pub layout : new.layout ≡ old.layout
   pub after : ComesAfter devices_tell (state old.devices) (state new.devices)
 
--- Where it is an acknowledgement, there was a sink that held all lines up to it, since the sink was so; or printing has ended,
--- and the sink is still that one.
+-- Where it is an acknowledgement, there was a sink that held just the lines up to it, since the sink was so; or printing had
+-- ended by then, and the sink is still that one.
 abbrev pub IsMade : {K : Type 0} → Type 0 → (K → List ℕ) → K → Page → K → List ℕ → Reply → Type 0
 IsMade {K} sink_tells held start page last text reply =
-    acknowledges reply ≡ true → (sink : K) × (sink_tells → (held sink ≡ held start ++ text) ⊎ ((has_ended page ≡ true) × (last ≡ sink)))
+    acknowledges reply ≡ true
+    → (sink : K) × (sink_tells → (held sink ≡ held start ++ text) ⊎ ((has_ended page ≡ true) × (last ≡ sink) × GivesPrefix text (held start) (held sink)))
 
 -- so is each of these answers, the lines before which have this text
 abbrev pub AreMade : {K : Type 0} → Type 0 → (K → List ℕ) → K → Page → K → List ℕ → List Answered → Type 0
