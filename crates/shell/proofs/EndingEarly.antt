@@ -1,5 +1,5 @@
 -- What a run promises that ends early, or that formats, from what its parts say.
-use Rattle.std.proofs.Common.{◌≡◌, ◌≤◌, inl, inr, ℕ, List, [], length, refl, sym, subst, Option, Some, None}
+use Rattle.std.proofs.Common.{◌≡◌, ◌≤◌, ℕ, List, [], length, refl, sym, subst, Some, None}
 use Rattle.vol_types.specs.declared.layout.Layout.{Layout}
 use Rattle.dev_model.specs.Devices.{DevicesState}
 use Rattle.plain_forest.specs.History.{History, IsLegal}
@@ -18,7 +18,7 @@ use Rattle.shell.specs.declared.early_end.EarlyEnd.{EarlyEnd}
 use Rattle.shell.specs.declared.early_end.EarlyEnd.TheVariants.{Usage, BadLine, TooLong, Source, Refused, Device, OutOfMemory}
 use Rattle.shell.specs.Outcome.{EndedEarly, Formatted, early_line, early_status}
 use Rattle.shell.specs.EarlyEnds.{end_of_arguments, end_of_script}
-use Rattle.shell.specs.Tasks.{IsFormat, IsRun, task_of}
+use Rattle.shell.specs.Tasks.{IsFormat, task_of}
 use Rattle.shell.specs.Mounts.{MountCause, OnlyReadUnmounted}
 use Rattle.shell.specs.Runs.{Run}
 use Rattle.shell.specs.Output.{IsTaken}
@@ -60,7 +60,7 @@ nothing_opened = fresh_volume (record { id = []; blocks = []; journal = 0; metad
 legal_none : (volume : Mounted) (history : History) → history ≡ [] → IsLegal volume.forest history
 legal_none volume history nothing = subst (IsLegal volume.forest) (sym nothing) (IsLegal-none volume.forest)
 
-module _ {D : Type 0} (source_tells sink_tells devices_tell : Type 0) (run : Run D) where
+module _ {D K : Type 0} (source_tells sink_tells devices_tell : Type 0) (held : K → List ℕ) (run : Run D K) where
   -- a run that ends early
   pub ended_early : (end : EarlyEnd)
       → EndsEarly sink_tells (early_line end) (early_status end) run.streams.held run.streams.held_after run.faults.sink run.faults.sink_after run.status run.trace run.acks
@@ -70,7 +70,7 @@ module _ {D : Type 0} (source_tells sink_tells devices_tell : Type 0) (run : Run
       → (devices_tell → (volume : Mounted) → Survives volume run.state run.state_after [] [])
       → run.state.moment ≤ run.state_after.moment
       → run.early_end ≡ Some end → run.shorts ≡ []
-      → Headline source_tells sink_tells devices_tell run
+      → Headline source_tells sink_tells devices_tell held run
   ended_early end ends cause source unmounted survives later early shorts = record {
     opening = nothing_opened;
     mounted = run.state;
@@ -96,7 +96,7 @@ module _ {D : Type 0} (source_tells sink_tells devices_tell : Type 0) (run : Run
   pub formatted : (layout : Layout) → IsFormat run.arguments run.state.sizes layout
       → Formats sink_tells devices_tell layout run.state run.state_after run.streams.held run.streams.held_after run.faults.sink run.faults.sink_after run.status run.early_end run.trace run.acks
       → run.faults.source_after ≡ run.faults.source → run.shorts ≡ []
-      → Headline source_tells sink_tells devices_tell run
+      → Headline source_tells sink_tells devices_tell held run
   formatted layout format formats source shorts = record {
     opening = fresh_volume layout;
     mounted = run.state;

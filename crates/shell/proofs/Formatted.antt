@@ -1,12 +1,12 @@
 -- How a format ends, from what its parts say.
-use Rattle.std.proofs.Common.{◌≡◌, ◌≤◌, ◌<◌, ℕ, List, length, Option, Some, None, Result, Ok, Err, refl, ap, ◌∙◌, sym, subst}
-use Rattle.std.specs.Prelude.{IfSome, option_and_then}
+use Rattle.std.proofs.Common.{◌≡◌, ◌≤◌, ◌<◌, ℕ, List, length, Option, Some, None, Ok, ap, ◌∙◌, sym, subst}
+use Rattle.std.specs.Prelude.{IfSome}
 use Rattle.std.proofs.lemmas.Option.{none-some}
 use Rattle.vol_types.specs.declared.layout.Layout.{Layout}
 use Rattle.dev_model.specs.Devices.{DevicesState}
 use Rattle.dev_model.specs.Crashes.{EachCrashNow}
 use Rattle.dev_model.specs.Frames.{AreAfterCalls}
-use Rattle.geometry.specs.Faults.{failed_device, fault_device}
+use Rattle.geometry.specs.Faults.{fault_device}
 use Rattle.geometry.specs.declared.fault.DiskFault.{DiskFault}
 use Rattle.plain_forest.specs.History.{History}
 use Rattle.session_history.specs.declared.acks.Ack.{Ack}

@@ -1,13 +1,12 @@
 -- How answers follow one another.
-use Rattle.std.proofs.Common.{◌≡◌, inl, inr, ℕ, ◌-◌, ◌||◌, true, false, Bool, cond, List, [], ◌∷◌, ◌++◌, length, map, refl, ap, ◌∙◌, sym, subst, arith, append_assoc, append-nil, Some, None, Option}
+use Rattle.std.proofs.Common.{◌≡◌, ◌⊎◌, inl, inr, ⊎_elim, ℕ, ◌||◌, true, false, Bool, cond, List, [], ◌∷◌, ◌++◌, map, refl, ap, ◌∙◌, sym, subst, arith, append_assoc, append-nil, Some, None, Option}
 use Rattle.std.specs.Prelude.{◌≢◌, max, Result, Ok, Err, IfOk, OnOk, OnErr, is_err}
 use Rattle.std.specs.declared.alloc.AllocError.{AllocError}
 use Rattle.std.specs.Option.{option_map_or, option_to_list}
 use Rattle.std.specs.List.{cons_option, filter_map}
-use Rattle.std.proofs.lemmas.List.{map-append, length-append}
+use Rattle.std.proofs.lemmas.List.{map-append}
 use Rattle.std.proofs.lemmas.List.Elements.{filter_map-append}
 use Rattle.std.proofs.lemmas.Grind.{flat_map-append}
-use Rattle.std.proofs.lemmas.Option.{same_Some, none-some as none_some}
 use Rattle.dev_model.specs.Devices.{DevicesState}
 use Rattle.plain_forest.specs.Forest.{Forest}
 use Rattle.plain_forest.specs.History.{History, after_all}
@@ -20,6 +19,7 @@ use Rattle.plain_forest.specs.declared.operation.Op.TheVariants.{Mkfile, Ls, Syn
 use Rattle.plain_forest.specs.declared.operation.Reply.{Reply}
 use Rattle.plain_forest.specs.declared.operation.Reply.TheVariants.{Okay, Synced, List as Listed, Refused, NoSpace, DeviceFault, Halted, NoMemory}
 use Rattle.plain_forest.specs.declared.operation.Entry.{Entry}
+use Rattle.text_io.specs.Streams.{GivesPrefix}
 use Rattle.script_text.specs.declared.reading.Line.{Line}
 use Rattle.record_log.specs.Exact.{file_reply, log_short, refusal_or}
 use Rattle.shell.specs.Mounts.{ComesAfter}
@@ -29,9 +29,12 @@ use Rattle.session_history.specs.Fits.{entry_by, entry_if_any, last_entry}
 use Rattle.session_history.specs.declared.halt.Halt.{Halt}
 use Rattle.shell.specs.declared.tally.Tally.{Tally}
 use Rattle.shell.specs.declared.page.Page.{Page}
-use Rattle.shell.specs.Outcome.{Answered, entry_of, reply_line, reply_line_by, reply_lines}
+use Rattle.shell.specs.Printing.{Prints, has_ended}
+use Rattle.shell.specs.Output.{WereMade}
+use Rattle.shell.proofs.Printing.{all_given, all_or_part}
+use Rattle.shell.specs.Outcome.{Answered, acknowledges, entry_of, reply_line, reply_line_by, reply_lines}
 use Rattle.shell.specs.Causes.{is_no_memory}
-use Rattle.shell.specs.Phases.{HasPrefix, AddsEntries, RunsLines, tally_after, tally_with}
+use Rattle.shell.specs.Phases.{AddsEntries, AreMade, RunsLines, tally_after, tally_with}
 
 -- a tally goes on by two lists of replies
 pub tally_then : (tally : Tally) (first second : List Reply) → tally_after (tally_after tally first) second ≡ tally_after tally (first ++ second)
@@ -56,13 +59,44 @@ module _ {D : Type 0} (state : D → DevicesState) (devices_tell : Type 0) where
   pub adds_none : (old new : Log D) → new.trace ≡ old.trace → new.base ≡ old.base → new.layout ≡ old.layout → ComesAfter devices_tell (state old.devices) (state new.devices) → AddsEntries state devices_tell old new []
   adds_none old new trace base layout after = record { trace = trace ∙ sym (append-nil old.trace); base = base; layout = layout; after = after }
 
+module _ {K : Type 0} (sink_tells : Type 0) (held : K → List ℕ) (start : K) where
+  made_append : (page : Page) (last : K) (text : List ℕ) (first second : List Answered) → AreMade sink_tells held start page last text first → AreMade sink_tells held start page last (text ++ reply_lines first) second → AreMade sink_tells held start page last text (first ++ second)
+  made_append page last text [] second one two = subst (λ t. AreMade sink_tells held start page last t second) (append-nil text) two
+  made_append page last text (answered ∷ first) second one two =
+      (one.0, made_append page last (text ++ reply_line answered) first second one.1 (subst (λ t. AreMade sink_tells held start page last t second) (sym (append_assoc text (reply_line answered) (reply_lines first))) two))
+
+  made_later : (page new_page : Page) (last new_last : K) (text : List ℕ) (answered : List Answered) → (has_ended page ≡ true → (has_ended new_page ≡ true) × (new_last ≡ last)) → AreMade sink_tells held start page last text answered → AreMade sink_tells held start new_page new_last text answered
+  made_later page new_page last new_last text [] ended made = tt
+  made_later page new_page last new_last text (first ∷ answered) ended made = (
+    (λ ack. let one = made.0 ack in
+        (one.0, λ told. ⊎_elim (λ (all : held one.0 ≡ held start ++ (text ++ reply_line first)). inl all) (λ (end : (has_ended page ≡ true) × (last ≡ one.0) × GivesPrefix (text ++ reply_line first) (held start) (held one.0)). inr ((ended end.0).0, (ended end.0).1 ∙ end.1, end.2)) (one.1 told))),
+    made_later page new_page last new_last (text ++ reply_line first) answered ended made.1,
+  )
+
+  -- what was printed when it was made is so of the whole run
+  pub were_made : (page : Page) (last final : K) (text : List ℕ) (answered : List Answered) → (has_ended page ≡ true → final ≡ last) → AreMade sink_tells held start page last text answered → WereMade sink_tells held start final text answered
+  were_made page last final text [] ended made = tt
+  were_made page last final text (first ∷ answered) ended made = (
+    (λ ack. let one = made.0 ack in
+        (one.0, λ told. ⊎_elim (λ (all : held one.0 ≡ held start ++ (text ++ reply_line first)). inl all) (λ (end : (has_ended page ≡ true) × (last ≡ one.0) × GivesPrefix (text ++ reply_line first) (held start) (held one.0)). inr (subst (λ k. GivesPrefix (text ++ reply_line first) (held start) (held k)) (sym (ended end.0 ∙ end.1)) end.2)) (one.1 told))),
+    were_made page last final (text ++ reply_line first) answered ended made.1,
+  )
+
+module _ {D K : Type 0} (state : D → DevicesState) (devices_tell sink_tells : Type 0) (held : K → List ℕ) (faults : K → ℕ) where
   -- lines are answered one list after another
-  pub runs_then : (first second : List Line) (a b c : Log D) (page mid last : Page) → RunsLines state devices_tell first a b page mid → RunsLines state devices_tell second b c mid last → RunsLines state devices_tell (first ++ second) a c page last
-  runs_then first second a b c page mid last one two = record {
+  pub runs_then : (first second : List Line) (a b c : Log D) (page mid last : Page) (sink mid_sink last_sink : K) → RunsLines state devices_tell sink_tells held faults first a b page mid sink mid_sink → RunsLines state devices_tell sink_tells held faults second b c mid last mid_sink last_sink
+      → RunsLines state devices_tell sink_tells held faults (first ++ second) a c page last sink last_sink
+  runs_then first second a b c page mid last sink mid_sink last_sink one two = record {
     answered = one.answered ++ two.answered;
     are = map-append (λ (x : Answered). x.line) one.answered two.answered ∙ ap (λ list. list ++ map (λ (x : Answered). x.line) two.answered) one.are ∙ ap (λ list. first ++ list) two.are;
-    history = subst (λ h. AddsEntries state devices_tell a c h) (sym (filter_map-append entry_of one.answered two.answered)) (adds_then a b c (filter_map entry_of one.answered) (filter_map entry_of two.answered) one.history two.history);
-    shows = λ before shows. subst (λ text. HasPrefix last text) (append_assoc before (reply_lines one.answered) (reply_lines two.answered) ∙ ap (λ text. before ++ text) (sym (flat_map-append reply_line one.answered two.answered))) (two.shows (before ++ reply_lines one.answered) (one.shows before shows));
+    history = subst (λ h. AddsEntries state devices_tell a c h) (sym (filter_map-append entry_of one.answered two.answered)) (adds_then state devices_tell a b c (filter_map entry_of one.answered) (filter_map entry_of two.answered) one.history two.history);
+    prints = λ start text prints.
+        let earlier = one.prints start text prints in
+        let later = two.prints start (text ++ reply_lines one.answered) earlier.prints in record {
+          prints = subst (λ t. Prints sink_tells held faults start t last last_sink) (append_assoc text (reply_lines one.answered) (reply_lines two.answered) ∙ ap (λ t. text ++ t) (sym (flat_map-append reply_line one.answered two.answered))) later.prints;
+          made = made_append sink_tells held start last last_sink text one.answered two.answered (made_later sink_tells held start mid last mid_sink last_sink text one.answered two.ended earlier.made) later.made;
+        };
+    ended = λ end. let mid_end = one.ended end in ((two.ended mid_end.0).0, (two.ended mid_end.0).1 ∙ mid_end.1);
     tally = two.tally
         ∙ ap (λ t. tally_after t (map (λ (x : Answered). x.reply) two.answered)) one.tally
         ∙ tally_then page.tally (map (λ (x : Answered). x.reply) one.answered) (map (λ (x : Answered). x.reply) two.answered)
@@ -70,31 +104,49 @@ module _ {D : Type 0} (state : D → DevicesState) (devices_tell : Type 0) where
   }
 
   -- no line is answered
-  pub runs_none : (log : Log D) (page : Page) → RunsLines state devices_tell [] log log page page
-  runs_none log page = record {
+  pub runs_none : (log : Log D) (page : Page) (sink : K) → RunsLines state devices_tell sink_tells held faults [] log log page page sink sink
+  runs_none log page sink = record {
     answered = [];
     are = refl;
-    history = adds_nothing log;
-    shows = λ before shows. subst (λ text. HasPrefix page text) (sym (append-nil before)) shows;
+    history = adds_nothing state devices_tell log;
+    prints = λ start text prints. record { prints = subst (λ t. Prints sink_tells held faults start t page sink) (sym (append-nil text)) prints; made = tt };
+    ended = λ end. (end, refl);
     tally = refl;
   }
 
+  either : (test : Bool) → (test ≡ true) ⊎ (test ≡ false)
+  either true = inl refl
+  either false = inr refl
+
   -- a line is answered
-  pub runs_one : (line : Line) (reply : Reply) (old new : Log D) (page new_page : Page) → AddsEntries state devices_tell old new (filter_map entry_of (record { line = line; reply = reply } ∷ [])) → ((before : List ℕ) → HasPrefix page before → HasPrefix new_page (before ++ reply_line (record { line = line; reply = reply }))) → new_page.tally ≡ tally_with page.tally reply → RunsLines state devices_tell (line ∷ []) old new page new_page
-  runs_one line reply old new page new_page goes shows tally = record {
-    answered = record { line = line; reply = reply } ∷ [];
-    are = refl;
-    history = goes;
-    shows = λ before shown. subst (λ text. HasPrefix new_page (before ++ text)) (sym (append-nil (reply_line (record { line = line; reply = reply })))) (shows before shown);
-    tally = tally;
-  }
+  pub runs_one : (line : Line) (reply : Reply) (old new : Log D) (page new_page : Page) (sink new_sink : K) → AddsEntries state devices_tell old new (filter_map entry_of (record { line = line; reply = reply } ∷ []))
+      → ((start : K) (text : List ℕ) → Prints sink_tells held faults start text page sink → Prints sink_tells held faults start (text ++ reply_line (record { line = line; reply = reply })) new_page new_sink)
+      → (acknowledges reply ≡ true → has_ended new_page ≡ false → new_page.lines ≡ []) → (has_ended page ≡ true → has_ended new_page ≡ true) → (has_ended page ≡ true → new_sink ≡ sink) → new_page.tally ≡ tally_with page.tally reply
+      → RunsLines state devices_tell sink_tells held faults (line ∷ []) old new page new_page sink new_sink
+  runs_one line reply old new page new_page sink new_sink adds prints given ended same tally =
+      let one : Answered = record { line = line; reply = reply } in record {
+        answered = one ∷ [];
+        are = refl;
+        history = adds;
+        prints = λ start text before.
+            let after = prints start text before in record {
+              prints = subst (λ t. Prints sink_tells held faults start (text ++ t) new_page new_sink) (sym (append-nil (reply_line one))) after;
+              made = (
+                (λ ack. (new_sink, λ told. ⊎_elim (λ (end : has_ended new_page ≡ true). inr (end, refl, all_or_part sink_tells held faults start (text ++ reply_line one) new_page new_sink after told)) (λ (goes : has_ended new_page ≡ false). inl (all_given sink_tells held faults start (text ++ reply_line one) new_page new_sink after goes (given ack goes) told)) (either (has_ended new_page)))),
+                tt,
+              );
+            };
+        ended = λ end. (ended end, same end);
+        tally = tally;
+      }
 
   -- a barrier does nothing
-  pub runs_barrier : (line : Line) (log : Log D) (page : Page) → line.op ≡ None → RunsLines state devices_tell (line ∷ []) log log page page
-  runs_barrier line log page none =
-      runs_one line Okay log log page page
-      (subst (λ op. AddsEntries state devices_tell log log (cons_option (entry_by line.client op Okay) [])) (sym none) (adds_nothing log))
-      (λ before shows. subst (λ op. HasPrefix page (before ++ reply_line_by op line.client line.line Okay)) (sym none) (subst (λ text. HasPrefix page text) (sym (append-nil before)) shows))
+  pub runs_barrier : (line : Line) (log : Log D) (page : Page) (sink : K) → line.op ≡ None → RunsLines state devices_tell sink_tells held faults (line ∷ []) log log page page sink sink
+  runs_barrier line log page sink none =
+      runs_one line Okay log log page page sink sink
+      (subst (λ op. AddsEntries state devices_tell log log (cons_option (entry_by line.client op Okay) [])) (sym none) (adds_nothing state devices_tell log))
+      (λ start text prints. subst (λ op. Prints sink_tells held faults start (text ++ reply_line_by op line.client line.line Okay) page sink) (sym none) (subst (λ t. Prints sink_tells held faults start t page sink) (sym (append-nil text)) prints))
+      (λ ack. absurd (cc)) (λ end. end) (λ end. refl)
       (same_tally page.tally)
     where
       or_none : (x : Bool) → x ≡ (x || false)

@@ -1,12 +1,12 @@
 -- The causes of statuses and failures.
-use Rattle.std.specs.Prelude.{◌≡◌, ◌≢◌, ◌⊎◌, ℕ, ◌<◌, Bool, true, false, if◌then◌else◌, List, ◌++◌, length, take, Option, Some, None, IfSome, option_and_then}
+use Rattle.std.specs.Prelude.{◌≡◌, ◌≢◌, ◌⊎◌, ℕ, ◌<◌, Bool, true, false, if◌then◌else◌, List, ◌++◌, length, take, Option, None, IfSome, option_and_then}
 use Rattle.std.specs.List.{list_any}
 use Rattle.vol_types.specs.Faults.{RoseBy}
 use Rattle.vol_types.specs.declared.layout.Layout.{Layout}
 use Rattle.dev_model.specs.Disk.{as_read}
 use Rattle.dev_model.specs.Devices.{DevicesState, now}
 use Rattle.dev_model.specs.Frames.{AreAfterCalls}
-use Rattle.plain_forest.specs.History.{History, EachEntry}
+use Rattle.plain_forest.specs.History.{EachEntry}
 use Rattle.plain_forest.specs.declared.operation.Reply.{Reply}
 use Rattle.plain_forest.specs.declared.operation.Reply.TheVariants.{DeviceFault, Halted, NoMemory}
 use Rattle.script_text.specs.Lines.{lines_of}
@@ -24,7 +24,7 @@ use Rattle.shell.specs.declared.early_end.EarlyEnd.TheVariants.{Usage, BadLine, 
 use Rattle.shell.specs.Outcome.{Outcome, EndedEarly, Ran, Formatted, Answered, early_status, format_status, replies_of, text_of}
 use Rattle.shell.specs.Tasks.{IsFormat, IsRun, task_of}
 use Rattle.shell.specs.Mounts.{IsUnspent, MountCause, OnlyReadUnmounted}
-use Rattle.shell.specs.Runs.{Run, Streams, StreamFaults}
+use Rattle.shell.specs.Runs.{Run, StreamFaults}
 use Rattle.shell.specs.Output.{GaveScript, IsTaken, script_limit}
 
 -- the source failed where it is the cause of an early end, and not else
@@ -100,7 +100,7 @@ pub record IsStatus (IsAsFor : ℕ → Type 0) (status : ℕ) (faults : StreamFa
   pub otherwise : status ≢ 5 → IsAsFor status
 
 -- Why no line ran. Where the image doesn't mount the devices were only read, whatever the end.
-pub record HasEndedEarly {D : Type 0} (source_tells devices_tell : Type 0) (run : Run D) (end : EarlyEnd) : Type 0 where
+pub record HasEndedEarly {D K : Type 0} (source_tells devices_tell : Type 0) (run : Run D K) (end : EarlyEnd) : Type 0 where
   pub cause : EarlyCause source_tells devices_tell run.arguments run.streams.left run.state run.state_after run.devices run.devices_after end
   pub source : SourceFailed end run.faults.source run.faults.source_after
   pub ends : IsStatus (λ n. n ≡ early_status end) run.status run.faults
@@ -112,7 +112,7 @@ pub record HasEndedEarly {D : Type 0} (source_tells devices_tell : Type 0) (run 
 -- Failures: once a device has failed in a sync the session has halted, by one device and at one moment of the run (`halts`);
 -- no later entry is a commit; of each device at most as many entries say that it failed as its calls, and its writes and
 -- flushes, failed (`faults`). Each reply is the one that a session gives at its place (`exact`).
-pub record HasAnswered {D : Type 0} (sink_tells devices_tell : Type 0) (run : Run D) (opening : Mounted) (answered : List Answered) (last : Reply) : Type 0 where
+pub record HasAnswered {D K : Type 0} (sink_tells devices_tell : Type 0) (run : Run D K) (opening : Mounted) (answered : List Answered) (last : Reply) : Type 0 where
   pub arguments : IsRun run.arguments run.state.sizes
   pub source : run.faults.source_after ≡ run.faults.source
   pub unspent : devices_tell → IsUnspent (as_read (now run.state)) opening.layout
@@ -125,7 +125,7 @@ pub record HasAnswered {D : Type 0} (sink_tells devices_tell : Type 0) (run : Ru
 
 -- The arguments ask for a format with this layout, and the source wasn't touched. A format fails where one of the devices does,
 -- and no other failed; or where it is out of memory.
-pub record HasFormatted {D : Type 0} (run : Run D) (layout : Layout) (fault : Option DiskFault) : Type 0 where
+pub record HasFormatted {D K : Type 0} (run : Run D K) (layout : Layout) (fault : Option DiskFault) : Type 0 where
   pub format : IsFormat run.arguments run.state.sizes layout
   pub source : run.faults.source_after ≡ run.faults.source
   pub device : IfSome (option_and_then fault_device fault) (λ dev. dev < length run.state.sizes)
@@ -133,7 +133,7 @@ pub record HasFormatted {D : Type 0} (run : Run D) (layout : Layout) (fault : Op
   pub ends : IsStatus (λ n. n ≡ format_status fault) run.status run.faults
 
 -- the causes of a run, by how it went
-abbrev pub HasCauses : {D : Type 0} → Type 0 → Type 0 → Type 0 → Run D → Mounted → Outcome → Type 0
+abbrev pub HasCauses : {D K : Type 0} → Type 0 → Type 0 → Type 0 → Run D K → Mounted → Outcome → Type 0
 HasCauses source_tells sink_tells devices_tell run opening (EndedEarly end) = HasEndedEarly source_tells devices_tell run end
 HasCauses source_tells sink_tells devices_tell run opening (Ran script answered last) = HasAnswered sink_tells devices_tell run opening answered last
 HasCauses source_tells sink_tells devices_tell run opening (Formatted layout fault) = HasFormatted run layout fault

@@ -7,5 +7,6 @@ pub mod Runs
 pub mod Output
 pub mod Causes
 pub mod Survived
+pub mod Printing
 pub mod Phases
 pub mod Headline

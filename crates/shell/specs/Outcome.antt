@@ -1,5 +1,5 @@
 -- How a run goes, from beginning to end.
-use Rattle.std.specs.Prelude.{ℕ, length, slice_index, List, [], ◌∷◌, ◌++◌, map, max, codes, Option, Some, None, option_map}
+use Rattle.std.specs.Prelude.{ℕ, length, slice_index, List, [], ◌∷◌, ◌++◌, map, max, codes, Bool, true, false, Option, Some, None, option_map}
 use Rattle.std.specs.List.{filter_map, flat_map}
 use Rattle.std.specs.Fmt.{decimal}
 use Rattle.plain_forest.specs.Forest.{Forest}
@@ -116,6 +116,11 @@ reply_lines answered = flat_map reply_line answered
 -- the replies of a run: those to its lines, and the one to its last sync
 abbrev pub replies_of : List Answered → Reply → List Reply
 replies_of answered last = map (λ a. a.reply) answered ++ last ∷ []
+
+-- the reply acknowledges commits as durable
+abbrev pub acknowledges : Reply → Bool
+acknowledges (Synced count) = true
+acknowledges reply = false
 
 -- how many commits a reply says are durable; 0 where it says nothing of that
 abbrev pub synced_by : Reply → ℕ

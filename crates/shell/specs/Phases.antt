@@ -1,5 +1,5 @@
 -- How lines are answered, one after another, and what their replies amount to.
-use Rattle.std.specs.Prelude.{◌≡◌, ◌≢◌, ◌⊎◌, ◌<◌, ◌≤◌, ℕ, length, IfSome, option_and_then, option_map, ◌||◌, false, max, List, [], ◌∷◌, ◌++◌, take, map, Option, None, Ok}
+use Rattle.std.specs.Prelude.{◌≡◌, ◌≢◌, ◌⊎◌, ◌<◌, ◌≤◌, ℕ, length, IfSome, option_and_then, option_map, ◌||◌, true, max, List, [], ◌∷◌, ◌++◌, map, Option, None, Ok}
 use Rattle.std.specs.List.{filter_map}
 use Rattle.vol_types.specs.Faults.{RoseBy}
 use Rattle.dev_model.specs.Devices.{DevicesState}
@@ -23,7 +23,9 @@ use Rattle.session_history.specs.Fits.{last_entry}
 use Rattle.geometry.specs.Faults.{fault_device}
 use Rattle.shell.specs.declared.early_end.EarlyEnd.{EarlyEnd}
 use Rattle.shell.specs.EarlyEnds.{end_of_disk}
-use Rattle.shell.specs.Outcome.{Answered, entries_of, entry_of, format_line, format_status, replies_of, reply_lines, synced_by, text_of}
+use Rattle.shell.specs.Outcome.{Answered, acknowledges, entries_of, entry_of, format_line, format_status, replies_of, reply_line, reply_lines, synced_by, text_of}
+use Rattle.shell.specs.Printing.{Prints, has_ended}
+use Rattle.shell.specs.Output.{WereMade}
 use Rattle.shell.specs.Mounts.{ComesAfter}
 use Rattle.shell.specs.Causes.{IsCut, IsRunStatus, asked_status, is_failure, is_no_memory}
 
@@ -44,12 +46,6 @@ tally_after tally (reply ∷ replies) = tally_after (tally_with tally reply) rep
 abbrev pub tally_status : Tally → ℕ
 tally_status tally = asked_status tally.lacks_memory tally.has_failed
 
--- the page has a prefix of the text, and all of it unless it was cut
-pub record HasPrefix (page : Page) (text : List ℕ) : Type 0 where
-  pub size : ℕ
-  pub prefix : page.text ≡ take size text
-  pub whole : page.is_cut ≡ false → page.text ≡ text
-
 -- A session's history goes on by these entries.
 pub record AddsEntries {D : Type 0} (state : D → DevicesState) (devices_tell : Type 0) (old new : Log D) (more : History) : Type 0 where
   pub trace : new.trace ≡ old.trace ++ more
@@ -57,50 +53,72 @@ pub record AddsEntries {D : Type 0} (state : D → DevicesState) (devices_tell :
   pub layout : new.layout ≡ old.layout
   pub after : ComesAfter devices_tell (state old.devices) (state new.devices)
 
--- Each of the lines was answered, in order: the history has the entries, and the page the lines and the tally of the
--- answers.
-pub record RunsLines {D : Type 0} (state : D → DevicesState) (devices_tell : Type 0) (lines : List Line) (old new : Log D) (page new_page : Page) : Type 0 where
+-- Where it is an acknowledgement, there was a sink that held just the lines up to it, since the sink was so; or printing had
+-- ended by then, and the sink is still that one.
+abbrev pub IsMade : {K : Type 0} → Type 0 → (K → List ℕ) → K → Page → K → List ℕ → Reply → Type 0
+IsMade {K} sink_tells held start page last text reply =
+    acknowledges reply ≡ true
+    → (sink : K) × (sink_tells → (held sink ≡ held start ++ text) ⊎ ((has_ended page ≡ true) × (last ≡ sink) × GivesPrefix text (held start) (held sink)))
+
+-- so is each of these answers, the lines before which have this text
+abbrev pub AreMade : {K : Type 0} → Type 0 → (K → List ℕ) → K → Page → K → List ℕ → List Answered → Type 0
+AreMade sink_tells held start page last text [] = Unit {0}
+AreMade sink_tells held start page last text (first ∷ answered) =
+    IsMade sink_tells held start page last (text ++ reply_line first) first.reply × AreMade sink_tells held start page last (text ++ reply_line first) answered
+
+-- The lines of these answers were printed after a text, each acknowledgement when it was made.
+pub record PrintsLines {K : Type 0} (sink_tells : Type 0) (held : K → List ℕ) (faults : K → ℕ) (start : K) (text : List ℕ) (answered : List Answered) (page : Page) (sink : K) : Type 0 where
+  pub prints : Prints sink_tells held faults start (text ++ reply_lines answered) page sink
+  pub made : AreMade sink_tells held start page sink text answered
+
+-- Each of the lines was answered, in order, and printed: the history has the entries, and the page the tally of the answers.
+pub record RunsLines {D K : Type 0} (state : D → DevicesState) (devices_tell sink_tells : Type 0) (held : K → List ℕ) (faults : K → ℕ) (lines : List Line) (old new : Log D) (page new_page : Page) (sink new_sink : K) : Type 0 where
   pub answered : List Answered
   pub are : map (λ a. a.line) answered ≡ lines
   pub history : AddsEntries state devices_tell old new (filter_map entry_of answered)
-  pub shows : (before : List ℕ) → HasPrefix page before → HasPrefix new_page (before ++ reply_lines answered)
+  pub prints : (start : K) (text : List ℕ) → Prints sink_tells held faults start text page sink → PrintsLines sink_tells held faults start text answered new_page new_sink
+  pub ended : has_ended page ≡ true → (has_ended new_page ≡ true) × (new_sink ≡ sink)
   pub tally : new_page.tally ≡ tally_after page.tally (map (λ a. a.reply) answered)
 
 -- A last sync was answered: its entry comes after the history, and nothing is printed for it.
 pub record RunsSync {D : Type 0} (state : D → DevicesState) (devices_tell : Type 0) (old new : Log D) (page new_page : Page) : Type 0 where
   pub reply : Reply
   pub history : AddsEntries state devices_tell old new (last_entry reply)
-  pub text : new_page.text ≡ page.text
-  pub is_cut : new_page.is_cut ≡ page.is_cut
-  pub tally : new_page.tally ≡ tally_with page.tally reply
+  pub noted : new_page ≡ record page { tally = tally_with page.tally reply }
 
 -- what a run prints whose lines have this text, after a history and with the tally of its replies
 abbrev pub text_with_end : Forest → History → Tally → List ℕ → List ℕ
 text_with_end forest trace tally text = text ++ end_line_of (commit_count forest trace) tally.synced
 
--- A run has ended after its lines: a last sync was answered, and the sink has gained the text of the lines and the last
--- line, or a prefix of it.
-pub record RunsEnd {D : Type 0} (forest : Forest) (state : D → DevicesState) (devices_tell sink_tells : Type 0) (old new : Log D) (page : Page) (held held_after : List ℕ) (sink_faults sink_faults_after status : ℕ) : Type 0 where
+-- What was printed of a text by the end of a run with such a tally: all of it unless the status is 5 or 7, and a prefix of it
+-- then.
+pub record EndsPrinting {K : Type 0} (sink_tells : Type 0) (held : K → List ℕ) (faults : K → ℕ) (start : K) (text : List ℕ) (tally : Tally) (sink : K) (status : ℕ) : Type 0 where
+  pub prefix : sink_tells → GivesPrefix text (held start) (held sink)
+  pub whole : sink_tells → status ≢ 5 → status ≢ 7 → held sink ≡ held start ++ text
+  pub failed : status ≡ 5 → RoseBy 1 (faults start) (faults sink)
+  pub printed : status ≢ 5 → faults sink ≡ faults start
+  pub otherwise : status ≢ 5 → (status ≡ tally_status tally) ⊎ ((status ≡ 7) × (sink_tells → IsCut text (held start) (held sink)))
+
+-- A run has ended after its lines: a last sync was answered, and the last line was printed.
+pub record RunsEnd {D K : Type 0} (forest : Forest) (state : D → DevicesState) (devices_tell sink_tells : Type 0) (held : K → List ℕ) (faults : K → ℕ) (old new : Log D) (page : Page) (sink new_sink : K) (status : ℕ) : Type 0 where
   pub reply : Reply
   pub history : AddsEntries state devices_tell old new (last_entry reply)
-  pub prefix : sink_tells → (text : List ℕ) → HasPrefix page text → GivesPrefix (text_with_end forest new.trace (tally_with page.tally reply) text) held held_after
-  pub whole : sink_tells → status ≢ 5 → status ≢ 7 → (text : List ℕ) → HasPrefix page text → held_after ≡ held ++ text_with_end forest new.trace (tally_with page.tally reply) text
-  pub failed : status ≡ 5 → RoseBy 1 sink_faults sink_faults_after
-  pub printed : status ≢ 5 → sink_faults_after ≡ sink_faults
-  pub otherwise : status ≢ 5 → (status ≡ tally_status (tally_with page.tally reply))
-      ⊎ ((status ≡ 7) × (sink_tells → (text : List ℕ) → HasPrefix page text → IsCut (text_with_end forest new.trace (tally_with page.tally reply) text) held held_after))
+  pub ends : (start : K) (text : List ℕ) → Prints sink_tells held faults start text page sink
+      → EndsPrinting sink_tells held faults start (text_with_end forest new.trace (tally_with page.tally reply) text) (tally_with page.tally reply) new_sink status
+  pub ended : has_ended page ≡ true → new_sink ≡ sink
 
 -- A script was run: each of its lines was answered, in order, and then a last sync.
-pub record RunsScript (forest : Forest) (sink_tells : Type 0) (script : List Line) (held held_after : List ℕ) (sink_faults sink_faults_after status : ℕ) (trace : History) : Type 0 where
+pub record RunsScript {K : Type 0} (forest : Forest) (sink_tells : Type 0) (held : K → List ℕ) (faults : K → ℕ) (script : List Line) (sink sink_after : K) (status : ℕ) (trace : History) : Type 0 where
   pub answered : List Answered
   pub last : Reply
   pub lines : map (λ a. a.line) answered ≡ script
   pub entries : trace ≡ entries_of answered last
-  pub prefix : sink_tells → GivesPrefix (text_of forest answered last) held held_after
-  pub whole : sink_tells → status ≢ 5 → status ≢ 7 → held_after ≡ held ++ text_of forest answered last
-  pub failed : status ≡ 5 → RoseBy 1 sink_faults sink_faults_after
-  pub printed : status ≢ 5 → sink_faults_after ≡ sink_faults
-  pub otherwise : status ≢ 5 → IsRunStatus sink_tells (replies_of answered last) (text_of forest answered last) held held_after status
+  pub made : WereMade sink_tells held sink sink_after [] answered
+  pub prefix : sink_tells → GivesPrefix (text_of forest answered last) (held sink) (held sink_after)
+  pub whole : sink_tells → status ≢ 5 → status ≢ 7 → held sink_after ≡ held sink ++ text_of forest answered last
+  pub failed : status ≡ 5 → RoseBy 1 (faults sink) (faults sink_after)
+  pub printed : status ≢ 5 → faults sink_after ≡ faults sink
+  pub otherwise : status ≢ 5 → IsRunStatus sink_tells (replies_of answered last) (text_of forest answered last) (held sink) (held sink_after) status
 
 -- Nothing of a script ran: there is no history, and the sink has gained this line, or a prefix of it with status 5.
 pub record EndsEarly (sink_tells : Type 0) (line : List ℕ) (as_asked : ℕ) (held held_after : List ℕ) (sink_faults sink_faults_after status : ℕ) (trace : History) (acks : List Ack) : Type 0 where

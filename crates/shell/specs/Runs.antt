@@ -20,10 +20,12 @@ pub record StreamFaults : Type 0 where
   pub sink_after : ℕ
 
 -- A run: its arguments, its source and sink, its devices and what they showed, and how it ended.
-pub record Run (D : Type 0) : Type 0 where
+pub record Run (D K : Type 0) : Type 0 where
   pub arguments : List (List ℕ)
   pub streams : Streams
   pub faults : StreamFaults
+  pub sink : K
+  pub sink_after : K
   pub devices : D
   pub devices_after : D
   pub state : DevicesState

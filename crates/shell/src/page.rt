@@ -1,35 +1,41 @@
-ghost use Rattle.std.specs.Prelude.{◌≡◌, ◌++◌, ◌||◌, [], false, true, ℕ, List, OnOk, OnErr, if◌then◌else◌};
-ghost use Rattle.vol_types.specs.Faults.{CountsFaults};
-ghost use Rattle.text_io.specs.Streams.{GivesPrefix};
+ghost use Rattle.std.specs.Prelude.{◌≡◌, ◌<◌, ◌++◌, [], true, false, ℕ, List, length};
 ghost use Rattle.script_text.specs.Replies.{reply_line_of, end_line_of};
-ghost use Rattle.shell.specs.Phases.{HasPrefix, tally_with};
+ghost use Rattle.shell.specs.Outcome.{acknowledges};
+ghost use Rattle.shell.specs.Printing.{Prints, has_ended, page_status};
+ghost use Rattle.shell.specs.Phases.{tally_with};
 
 use crate::tally::Tally;
 use plain_forest::Reply;
 use script_text::{end_line, reply_line};
 use std::alloc::Global;
 use text_io::{Sink, give_all};
-use vol_types::{Bytes, Failed};
+use vol_types::Bytes;
 
-/// What is to be printed, with the tally of the replies. After a line that was out of memory nothing more is added, so
-/// that what is printed is a prefix of the whole.
+/// So many bytes of lines may gather before they are given to the sink.
+const MOST_GATHERED: usize = 4096;
+
+/// What is being printed: the lines that are still to be given to the sink, how printing has ended, if it has, and the tally
+/// of the replies. After a line that was out of memory, or a call of the sink that failed, nothing more is printed, so that
+/// what is printed is a prefix of the whole.
 #[derive(Drop)]
 pub struct Page {
     pub alloc: Global,
-    pub text: Bytes,
+    pub lines: Bytes,
     pub is_cut: bool,
+    pub has_failed: bool,
     pub tally: Tally,
 }
 
 impl Page {
     /// An empty page. It takes no memory.
     pub fn new(alloc: Global) -> Self
-        ensures { result ≡ record { alloc = alloc; text = []; is_cut = false; tally = record { lacks_memory = false; has_failed = false; synced = 0 } } }
+        ensures { result ≡ record { alloc = alloc; lines = []; is_cut = false; has_failed = false; tally = record { lacks_memory = false; has_failed = false; synced = 0 } } }
     {
         Page {
             alloc,
-            text: Bytes::new(alloc),
+            lines: Bytes::new(alloc),
             is_cut: false,
+            has_failed: false,
             tally: Tally::new(),
         }
     }
@@ -40,55 +46,123 @@ impl Page {
     {
         self.tally = self.tally.with(reply);
     }
+
+    /// Whether nothing more is printed.
+    fn has_ended(&self) -> bool
+        ensures { result ≡ has_ended self.now }
+    {
+        self.is_cut || self.has_failed
+    }
+
+    /// The status of a run that has printed this: 5 where the sink failed, else 7 where it was out of memory, else 6 where a
+    /// device failed, else 0.
+    pub fn status(&self) -> u8
+        ensures { result ≡ page_status self.now }
+    {
+        if self.has_failed {
+            return 5;
+        }
+        if self.tally.lacks_memory || self.is_cut {
+            return 7;
+        }
+        if self.tally.has_failed {
+            return 6;
+        }
+        0
+    }
 }
 
-/// Notes a reply, and adds its line.
-pub fn add_reply(page: &mut Page, client: u8, line: u32, reply: &Reply)
-    ensures shows { (before : List ℕ) → HasPrefix page.old before → HasPrefix page.new (before ++ reply_line_of client line reply.now) }
+/// Gives the lines that have gathered to the sink, unless printing has ended.
+pub fn give_lines<K: Sink>(page: &mut Page, sink: &mut K)
+    ensures prints { (start : K) (text : List ℕ) → Prints K.tells K.held K.faults start text page.old sink.old → Prints K.tells K.held K.faults start text page.new sink.new }
+    ensures given { page.new.lines ≡ [] }
+    ensures cut { page.new.is_cut ≡ page.old.is_cut }
+    ensures tally { page.new.tally ≡ page.old.tally }
+    ensures ended { has_ended page.old ≡ true → has_ended page.new ≡ true }
+    ensures same { has_ended page.old ≡ true → sink.new ≡ sink.old }
+{
+    if page.has_ended() {
+        page.lines.truncate(0);
+        return;
+    }
+    page.has_failed = give_all(sink, page.lines.as_slice()).is_err();
+    page.lines.truncate(0);
+}
+
+/// Notes a reply, and prints its line. The lines that have gathered are given to the sink where they are many, and where
+/// the reply acknowledges commits: before the next operation begins.
+pub fn print_reply<K: Sink>(page: &mut Page, sink: &mut K, client: u8, line: u32, reply: &Reply)
+    ensures prints { (start : K) (text : List ℕ) → Prints K.tells K.held K.faults start text page.old sink.old → Prints K.tells K.held K.faults start (text ++ reply_line_of client line reply.now) page.new sink.new }
     ensures tally { page.new.tally ≡ tally_with page.old.tally reply.now }
+    ensures made { acknowledges reply.now ≡ true → has_ended page.new ≡ false → page.new.lines ≡ [] }
+    ensures ended { has_ended page.old ≡ true → has_ended page.new ≡ true }
+    ensures same { has_ended page.old ≡ true → sink.new ≡ sink.old }
 {
     page.note(reply);
-    add_line(page, client, line, reply);
+    print_line(page, sink, client, line, reply);
 }
 
-// Adds the line of a reply.
-fn add_line(page: &mut Page, client: u8, line: u32, reply: &Reply)
-    ensures shows { (before : List ℕ) → HasPrefix page.old before → HasPrefix page.new (before ++ reply_line_of client line reply.now) }
+// Prints the line of a reply.
+fn print_line<K: Sink>(page: &mut Page, sink: &mut K, client: u8, line: u32, reply: &Reply)
+    ensures prints { (start : K) (text : List ℕ) → Prints K.tells K.held K.faults start text page.old sink.old → Prints K.tells K.held K.faults start (text ++ reply_line_of client line reply.now) page.new sink.new }
     ensures tally { page.new.tally ≡ page.old.tally }
+    ensures made { acknowledges reply.now ≡ true → has_ended page.new ≡ false → page.new.lines ≡ [] }
+    ensures ended { has_ended page.old ≡ true → has_ended page.new ≡ true }
+    ensures same { has_ended page.old ≡ true → sink.new ≡ sink.old }
 {
-    if !page.is_cut {
-        let alloc = page.alloc;
-        page.is_cut = reply_line(&mut page.text, alloc, client, line, reply).is_err();
+    if page.has_ended() {
+        return;
+    }
+    let alloc = page.alloc;
+    if reply_line(&mut page.lines, alloc, client, line, reply).is_err() {
+        cut(page, sink);
+        return;
+    }
+    if are_due(page.lines.len(), reply) {
+        give_lines(page, sink);
     }
 }
 
-/// Prints the lines.
-pub fn print_lines<K: Sink>(page: &Page, sink: &mut K) -> Result<(), Failed>
-    ensures ok { K.tells → OnOk result (K.held sink.new ≡ K.held sink.old ++ page.now.text) }
-    ensures failed { K.tells → OnErr result (GivesPrefix page.now.text (K.held sink.old) (K.held sink.new)) }
-    ensures cause { CountsFaults result (K.faults sink.old) (K.faults sink.new) }
+// Whether so many bytes of lines are to be given to the sink: they are many, or the reply acknowledges commits.
+fn are_due(gathered: usize, reply: &Reply) -> bool
+    ensures { acknowledges reply.now ≡ true → result ≡ true }
 {
-    give_all(sink, page.text.as_slice())
+    acknowledges(reply) || gathered >= MOST_GATHERED
 }
 
-/// Prints the last line, unless the page was cut before: how many commits the run made, and the greatest number of them
-/// that was acknowledged.
-pub fn print_end<K: Sink>(page: &mut Page, commits: u64, sink: &mut K) -> Result<(), Failed>
-    ensures ok { K.tells → OnOk result (K.held sink.new ≡ K.held sink.old ++ (if page.new.is_cut then [] else end_line_of commits page.old.tally.synced)) }
-    ensures failed { K.tells → OnErr result (GivesPrefix (end_line_of commits page.old.tally.synced) (K.held sink.old) (K.held sink.new)) }
-    ensures not_cut { OnErr result (page.new.is_cut ≡ false) }
-    ensures cause { CountsFaults result (K.faults sink.old) (K.faults sink.new) }
-    ensures text { page.new.text ≡ page.old.text }
+// Ends printing at a line that is out of memory: the lines before it are given.
+fn cut<K: Sink>(page: &mut Page, sink: &mut K)
+    requires { has_ended page.old ≡ false }
+    ensures prints { (start : K) (text line : List ℕ) → 0 < length line → Prints K.tells K.held K.faults start text page.old sink.old → Prints K.tells K.held K.faults start (text ++ line) page.new sink.new }
     ensures tally { page.new.tally ≡ page.old.tally }
-    ensures cut { page.old.is_cut ≡ true → page.new.is_cut ≡ true }
+    ensures ended { has_ended page.new ≡ true }
 {
-    if page.is_cut {
-        return Ok(());
+    give_lines(page, sink);
+    page.is_cut = true;
+}
+
+/// Prints the last line: how many commits the run made, and the greatest number of them that was acknowledged.
+pub fn print_end<K: Sink>(page: &mut Page, commits: u64, sink: &mut K)
+    ensures prints { (start : K) (text : List ℕ) → Prints K.tells K.held K.faults start text page.old sink.old → Prints K.tells K.held K.faults start (text ++ end_line_of commits page.old.tally.synced) page.new sink.new }
+    ensures given { has_ended page.new ≡ false → page.new.lines ≡ [] }
+    ensures tally { page.new.tally ≡ page.old.tally }
+    ensures same { has_ended page.old ≡ true → sink.new ≡ sink.old }
+{
+    if page.has_ended() {
+        return;
     }
-    let mut line = Bytes::new(page.alloc);
-    if end_line(&mut line, page.alloc, commits, page.tally.synced).is_err() {
-        page.is_cut = true;
-        return Ok(());
+    let alloc = page.alloc;
+    let synced = page.tally.synced;
+    if end_line(&mut page.lines, alloc, commits, synced).is_err() {
+        cut(page, sink);
+        return;
     }
-    give_all(sink, line.as_slice())
+    give_lines(page, sink);
+}
+
+// Whether the reply acknowledges commits.
+fn acknowledges(reply: &Reply) -> bool
+    ensures { result ≡ acknowledges reply.now }
+{
+    matches!(reply, Reply::Synced(_))
 }

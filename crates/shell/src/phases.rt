@@ -5,7 +5,7 @@ ghost use Rattle.record_log.specs.Log.{IsFlat};
 ghost use Rattle.shell.specs.Flat.{AreFlat, IsFlatLine};
 ghost use Rattle.shell.specs.Phases.{AddsEntries, RunsEnd, RunsLines, RunsSync};
 
-use crate::page::{Page, add_reply, print_end, print_lines};
+use crate::page::{Page, give_lines, print_end, print_reply};
 use dev_model::{BEFORE_COMMIT, Devices, Gate};
 use plain_forest::{Op, Reply};
 use record_log::RecordLog;
@@ -15,46 +15,54 @@ use std::alloc::{AllocError, Global};
 use text_io::Sink;
 use vol_types::Duplicate;
 
-/// Runs the lines of a script, and puts their replies on a page.
-pub fn run_lines<D: Devices, O: Opening, G: Gate>(
+/// Runs the lines of a script, and prints their replies.
+pub fn run_lines<K: Sink, D: Devices, O: Opening, G: Gate>(
     log: &mut RecordLog<D, O>,
     script: &[Line],
     gate: &G,
     page: &mut Page,
+    sink: &mut K,
 )
     requires { AreFlat script.now }
-    ensures { RunsLines D.state D.tells script.now log.old log.new page.old page.new }
+    ensures { RunsLines D.state D.tells K.tells K.held K.faults script.now log.old log.new page.old page.new sink.old sink.new }
 {
     for line in script {
-        run_line(log, line, gate, page);
+        run_line(log, line, gate, page, sink);
     }
 }
 
 // Runs a line; a barrier does nothing.
-fn run_line<D: Devices, O: Opening, G: Gate>(
+fn run_line<K: Sink, D: Devices, O: Opening, G: Gate>(
     log: &mut RecordLog<D, O>,
     line: &Line,
     gate: &G,
     page: &mut Page,
+    sink: &mut K,
 )
     requires { IsFlatLine line.now }
-    ensures { RunsLines D.state D.tells (line.now ∷ []) log.old log.new page.old page.new }
+    ensures { RunsLines D.state D.tells K.tells K.held K.faults (line.now ∷ []) log.old log.new page.old page.new sink.old sink.new }
 {
     if let Some(op) = &line.op {
         gate.at(line.client, BEFORE_COMMIT);
-        answer(log, line, op, page);
+        answer(log, line, op, page, sink);
     }
 }
 
-fn answer<D: Devices, O: Opening>(log: &mut RecordLog<D, O>, line: &Line, op: &Op, page: &mut Page)
+fn answer<K: Sink, D: Devices, O: Opening>(
+    log: &mut RecordLog<D, O>,
+    line: &Line,
+    op: &Op,
+    page: &mut Page,
+    sink: &mut K,
+)
     requires flat { IsFlat op.now }
     requires op { line.now.op ≡ Some op.now }
     requires client { line.now.client ≡ 0 }
-    ensures { RunsLines D.state D.tells (line.now ∷ []) log.old log.new page.old page.new }
+    ensures { RunsLines D.state D.tells K.tells K.held K.faults (line.now ∷ []) log.old log.new page.old page.new sink.old sink.new }
 {
     match ask(page.alloc, log, op) {
-        Ok(reply) => add_reply(page, line.client, line.line, &reply),
-        Err(_) => add_reply(page, line.client, line.line, &Reply::NoMemory),
+        Ok(reply) => print_reply(page, sink, line.client, line.line, &reply),
+        Err(_) => print_reply(page, sink, line.client, line.line, &Reply::NoMemory),
     }
 }
 
@@ -82,31 +90,17 @@ pub fn final_sync<D: Devices, O: Opening>(log: &mut RecordLog<D, O>, page: &mut 
     }
 }
 
-/// Prints the page, makes every commit durable, and prints the last line. The status of the run: 5 where the sink
-/// failed, else 7 where it was out of memory, else 6 where a device failed, else 0.
+/// Gives the lines that have gathered to the sink, makes every commit durable, and prints the last line. The status of the
+/// run: 5 where the sink failed, else 7 where it was out of memory, else 6 where a device failed, else 0.
 pub fn end_run<K: Sink, D: Devices, O: Opening>(
     log: &mut RecordLog<D, O>,
     page: &mut Page,
     sink: &mut K,
 ) -> u8
-    ensures { RunsEnd O.forest D.state D.tells K.tells log.old log.new page.old (K.held sink.old) (K.held sink.new) (K.faults sink.old) (K.faults sink.new) result }
+    ensures { RunsEnd O.forest D.state D.tells K.tells K.held K.faults log.old log.new page.old sink.old sink.new result }
 {
-    let begun = print_lines(page, sink);
+    give_lines(page, sink);
     final_sync(log, page);
-    if begun.is_err() {
-        return 5;
-    }
-    if print_end(page, log.commits(), sink).is_err() {
-        return 5;
-    }
-    if page.tally.lacks_memory {
-        return 7;
-    }
-    if page.is_cut {
-        return 7;
-    }
-    if page.tally.has_failed {
-        return 6;
-    }
-    0
+    print_end(page, log.commits(), sink);
+    page.status()
 }

@@ -55,7 +55,7 @@ pub fn run_words<R, S: Source, K: Sink, D: Devices, G: Gate>(
     devices: D,
     gate: &G,
 ) -> Ended<D>
-    ensures { Headline S.tells K.tells D.tells (record { arguments = map rc_str_bytes words.now; streams = record { left = S.left source.old; held = K.held sink.old; held_after = K.held sink.new }; faults = record { source = S.faults source.old; source_after = S.faults source.new; sink = K.faults sink.old; sink_after = K.faults sink.new }; devices = devices; devices_after = result.devices; state = D.state devices; state_after = D.state result.devices; status = result.status; early_end = result.early_end; trace = result.trace; acks = result.acks; shorts = result.shorts }) }
+    ensures { Headline S.tells K.tells D.tells K.held (record { arguments = map rc_str_bytes words.now; streams = record { left = S.left source.old; held = K.held sink.old; held_after = K.held sink.new }; faults = record { source = S.faults source.old; source_after = S.faults source.new; sink = K.faults sink.old; sink_after = K.faults sink.new }; sink = sink.old; sink_after = sink.new; devices = devices; devices_after = result.devices; state = D.state devices; state_after = D.state result.devices; status = result.status; early_end = result.early_end; trace = result.trace; acks = result.acks; shorts = result.shorts }) }
 {
     reading_is_survived();
     match read_task(alloc, words, devices.count()) {
@@ -146,7 +146,7 @@ fn run_script<S: Source, K: Sink, D: Devices, G: Gate, B: Opening>(
     gate: &G,
 ) -> Ended<D>
     requires { B.start ≡ D.state devices }
-    ensures { (arguments : List (List ℕ)) → IsRun arguments (D.state devices).sizes → Headline S.tells K.tells D.tells (record { arguments = arguments; streams = record { left = S.left source.old; held = K.held sink.old; held_after = K.held sink.new }; faults = record { source = S.faults source.old; source_after = S.faults source.new; sink = K.faults sink.old; sink_after = K.faults sink.new }; devices = devices; devices_after = result.devices; state = D.state devices; state_after = D.state result.devices; status = result.status; early_end = result.early_end; trace = result.trace; acks = result.acks; shorts = result.shorts }) }
+    ensures { (arguments : List (List ℕ)) → IsRun arguments (D.state devices).sizes → Headline S.tells K.tells D.tells K.held (record { arguments = arguments; streams = record { left = S.left source.old; held = K.held sink.old; held_after = K.held sink.new }; faults = record { source = S.faults source.old; source_after = S.faults source.new; sink = K.faults sink.old; sink_after = K.faults sink.new }; sink = sink.old; sink_after = sink.new; devices = devices; devices_after = result.devices; state = D.state devices; state_after = D.state result.devices; status = result.status; early_end = result.early_end; trace = result.trace; acks = result.acks; shorts = result.shorts }) }
 {
     let mut devices = devices;
     match prepare(alloc, source, &mut devices) {
@@ -174,7 +174,7 @@ fn run_plan<K: Sink, D: Devices, G: Gate, O: Opening>(
     requires goes_on { GoOn O.start (D.state devices) }
     requires flat { AreFlat plan.script }
     ensures legal { IsLegal O.forest result.trace }
-    ensures ran { RunsScript O.forest K.tells plan.script (K.held sink.old) (K.held sink.new) (K.faults sink.old) (K.faults sink.new) result.status result.trace }
+    ensures ran { RunsScript O.forest K.tells K.held K.faults plan.script sink.old sink.new result.status result.trace }
     ensures halts { (halt : Option Halt) × Halts halt O.start (D.state result.devices) result.trace × EachEntry (IsExact O.forest plan.loaded.records plan.loaded.layout.journal (halt_or_none halt)) result.trace }
     ensures no_commit { NoCommitAfterHalt O.forest result.trace }
     ensures faults { HaveCauses O.start.faults (D.state result.devices).faults result.trace }
@@ -187,7 +187,7 @@ fn run_plan<K: Sink, D: Devices, G: Gate, O: Opening>(
     let Plan { script, loaded } = plan;
     let mut log = RecordLog::<D, O>::start(alloc, devices, loaded);
     let mut page = Page::new(alloc);
-    run_lines(&mut log, script.as_slice(), gate, &mut page);
+    run_lines(&mut log, script.as_slice(), gate, &mut page, sink);
     let status = end_run(&mut log, &mut page, sink);
     let Finished {
         devices,

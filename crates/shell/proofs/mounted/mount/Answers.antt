@@ -1,8 +1,8 @@
-use Rattle.std.proofs.Common.{◌≡◌, ◌+◌, ◌<◌, ◌≤◌, ℕ, List, Ok, Err, length, inr, ap, ◌∙◌, sym, subst}
+use Rattle.std.proofs.Common.{◌≡◌, ◌+◌, ◌<◌, ◌≤◌, ℕ, Err, length, inr, ap, ◌∙◌, sym, subst}
 use Rattle.std.specs.Prelude.{IfSome}
 use Rattle.dev_model.specs.Disk.{as_read}
 use Rattle.dev_model.specs.Devices.{FaultCounts, now}
-use Rattle.dev_model.specs.Frames.{GoOn, after_writes}
+use Rattle.dev_model.specs.Frames.{after_writes}
 use Rattle.dev_model.specs.FrameLaws.{go_on_reading, go_on_then}
 use Rattle.geometry.specs.Sessions.{IsSessionPlace}
 use Rattle.log_records.specs.Found.{IsMountAnswer, failed_mount_device}

@@ -1,4 +1,4 @@
-use Rattle.std.proofs.Common.{◌≡◌, inl, inr, refl}
+use Rattle.std.proofs.Common.{inl, inr, refl}
 use Rattle.dev_model.specs.FrameLaws.{go_on_here, only_read_here, stay_here}
 use Rattle.shell.specs.Causes.{EarlyCause, SourceFailed}
 use Rattle.shell.proofs.Preparing.{handed_on}

@@ -1,4 +1,3 @@
-use Rattle.std.proofs.Common.{◌≡◌, subst, sym}
 use Rattle.script_text.specs.Lines.{lines_of}
 use Rattle.shell.proofs.FlatScripts.{script_is_flat}
 use Rattle.shell.proofs.prepare.read_text.Goals as goal

@@ -1,4 +1,4 @@
-use Rattle.std.proofs.Common.{◌≡◌, ◌<◌, length, Err, ap, ◌∙◌, subst}
+use Rattle.std.proofs.Common.{◌<◌, length, subst}
 use Rattle.std.specs.Prelude.{IfSome}
 use Rattle.dev_model.specs.Frames.{AreAfterCalls}
 use Rattle.geometry.specs.Faults.{failed_device}

@@ -1,4 +1,4 @@
-use Rattle.std.proofs.Common.{◌≡◌, ℕ, List, ap, ◌∙◌, subst, sym}
+use Rattle.std.proofs.Common.{◌≡◌, ℕ, ap, ◌∙◌, subst, sym}
 use Rattle.plain_forest.specs.History.{EachEntry}
 use Rattle.session_history.specs.Fits.{last_entry}
 use Rattle.log_records.specs.Found.{mounted_as}
@@ -11,6 +11,7 @@ use Rattle.shell.specs.Outcome.{entry_of}
 use Rattle.shell.specs.Mounts.{ComesAfter}
 use Rattle.shell.specs.Phases.{RunsLines}
 use Rattle.shell.proofs.Ending.{script_ran}
+use Rattle.shell.proofs.Printing.{prints_nothing}
 use Rattle.shell.proofs.Running.{adds_then}
 use Rattle.shell.proofs.run.run_plan.Goals as goal
 
@@ -19,10 +20,14 @@ returns-clause-ran g c =
     let K = g.K.Sink in
     let O = g.O.Opening in
     let D = g.D.Devices in
-    let lines : RunsLines D.state D.tells c.args.plan.script c.start-log.result c.run_lines.new.log c.new-page.result c.run_lines.new.page =
-    subst (λ script. RunsLines D.state D.tells script c.start-log.result c.run_lines.new.log c.new-page.result c.run_lines.new.page) c.as_slice.ensures c.run_lines.ensures in
-    script_ran O.forest D.state D.tells K.tells c.end_run-status.result c.args.plan.script c.start-log.result c.run_lines.new.log c.end_run-status.new.log c.new-page.result c.run_lines.new.page c.finish-devices.result.trace (K.held c.args.sink.now) (K.held c.end_run-status.new.sink) (K.faults c.args.sink.now) (K.faults c.end_run-status.new.sink)
-    (ap (λ (log : Log g.row.D.Denot). log.trace) c.start-log.ensures) (ap (λ p. p.text) c.new-page.ensures) (ap (λ p. p.tally) c.new-page.ensures) lines c.end_run-status.ensures c.finish-devices.ensures.trace
+    let first = c.args.sink.now in
+    let page = c.new-page.result in
+    let lines : RunsLines D.state D.tells K.tells K.held K.faults c.args.plan.script c.start-log.result c.run_lines.new.log page c.run_lines.new.page first c.run_lines.new.sink =
+    subst (λ script. RunsLines D.state D.tells K.tells K.held K.faults script c.start-log.result c.run_lines.new.log page c.run_lines.new.page first c.run_lines.new.sink) c.as_slice.ensures c.run_lines.ensures in
+    script_ran O.forest D.state D.tells K.tells K.held K.faults c.end_run-status.result c.args.plan.script c.start-log.result c.run_lines.new.log c.end_run-status.new.log page c.run_lines.new.page first c.run_lines.new.sink c.end_run-status.new.sink c.finish-devices.result.trace
+    (ap (λ (log : Log g.row.D.Denot). log.trace) c.start-log.ensures) (ap (λ p. p.tally) c.new-page.ensures)
+    (prints_nothing K.tells K.held K.faults first page (ap (λ p. p.lines) c.new-page.ensures) (ap (λ p. p.is_cut) c.new-page.ensures) (ap (λ p. p.has_failed) c.new-page.ensures))
+    lines c.end_run-status.ensures c.finish-devices.ensures.trace
 
 pub returns-clause-survives : goal.returns-clause-survives
 returns-clause-survives g c told =

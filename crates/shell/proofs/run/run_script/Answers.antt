@@ -1,6 +1,6 @@
-use Rattle.std.proofs.Common.{◌≡◌, ◌+◌, ◌≤◌, ℕ, List, [], Some, refl, ap, ◌∙◌, sym, subst}
+use Rattle.std.proofs.Common.{◌≡◌, ◌+◌, ◌≤◌, [], Some, refl, ap, ◌∙◌, sym, subst}
 use Rattle.dev_model.specs.Disk.{as_read}
-use Rattle.dev_model.specs.Devices.{DevicesState, FaultCounts, now}
+use Rattle.dev_model.specs.Devices.{DevicesState, now}
 use Rattle.dev_model.specs.Crashes.{EachCrash, IsCrashImageBut}
 use Rattle.dev_model.specs.Frames.{GoOn}
 use Rattle.geometry.specs.Sessions.{IsSessionPlace, session_in}
@@ -69,6 +69,7 @@ returns-in-Ok g c arguments run =
         lines = ran.lines;
         entries = ran.entries;
         fits = run_fits opening.forest plan.loaded.records plan.loaded.layout.journal (halt_or_none halts.0) ran.answered ran.last trace ran.entries halts.2;
+        made = ran.made;
         prefix = ran.prefix;
         whole = ran.whole;
       };
@@ -103,10 +104,12 @@ returns-in-Err g c arguments run =
     let ended = c.end_early.result in
     let left = S.left c.args.source.now in
     let old = D.state first in
-    let all : Run g.row.D.Denot = record {
+    let all : Run g.row.D.Denot g.row.K.Denot = record {
       arguments = arguments;
       streams = record { left = left; held = K.held c.args.sink.now; held_after = K.held c.end_early.new.sink };
       faults = record { source = S.faults c.args.source.now; source_after = S.faults c.prepare.new.source; sink = K.faults c.args.sink.now; sink_after = K.faults c.end_early.new.sink };
+      sink = c.args.sink.now;
+      sink_after = c.end_early.new.sink;
       devices = first;
       devices_after = ended.devices;
       state = old;
@@ -117,7 +120,7 @@ returns-in-Err g c arguments run =
       acks = ended.acks;
       shorts = ended.shorts;
     } in
-    ended_early S.tells K.tells D.tells all end early.ends
+    ended_early S.tells K.tells D.tells K.held all end early.ends
     (subst (λ d. EarlyCause S.tells D.tells arguments left old (D.state d) first d end) (sym early.devices) (c.in-Err.ensures.cause arguments run))
     c.in-Err.ensures.source
     (subst (λ d. OnlyReadUnmounted D.tells old (D.state d)) (sym early.devices) c.prepare.ensures.unmounted)

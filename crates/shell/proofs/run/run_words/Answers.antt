@@ -51,10 +51,12 @@ returns-in-Ok g c =
     let ended = c.format_devices.result in
     let format : IsFormat words (D.state c.args.devices).sizes layout =
     subst (λ n. task_of n words ≡ Some (ToFormat layout)) c.count.ensures.count (subst (λ (task : Task). task_of c.count.result words ≡ Some task) c.in-Ok-Format.field-0-is c.in-Ok-Format.ensures.ok) in
-    let all : Run g.row.D.Denot = record {
+    let all : Run g.row.D.Denot g.row.K.Denot = record {
       arguments = words;
       streams = record { left = S.left c.args.source.now; held = K.held c.args.sink.now; held_after = K.held c.format_devices.new.sink };
       faults = record { source = S.faults c.args.source.now; source_after = S.faults c.args.source.now; sink = K.faults c.args.sink.now; sink_after = K.faults c.format_devices.new.sink };
+      sink = c.args.sink.now;
+      sink_after = c.format_devices.new.sink;
       devices = c.args.devices;
       devices_after = ended.devices;
       state = D.state c.args.devices;
@@ -65,7 +67,7 @@ returns-in-Ok g c =
       acks = ended.acks;
       shorts = ended.shorts;
     } in
-    formatted S.tells K.tells D.tells all layout format c.format_devices.ensures.formats refl c.format_devices.ensures.shorts
+    formatted S.tells K.tells D.tells K.held all layout format c.format_devices.ensures.formats refl c.format_devices.ensures.shorts
 
 pub returns-in-Ok-Format : goal.returns-in-Ok-Format
 returns-in-Ok-Format g c =
@@ -78,10 +80,12 @@ returns-in-Ok-Format g c =
     let old = D.state first in
     let words = map (rc_str_bytes {Z = Global}) c.args.words.now in
     let left = S.left c.args.source.now in
-    let all : Run g.row.D.Denot = record {
+    let all : Run g.row.D.Denot g.row.K.Denot = record {
       arguments = words;
       streams = record { left = left; held = K.held c.args.sink.now; held_after = K.held c.end_early.new.sink };
       faults = record { source = S.faults c.args.source.now; source_after = S.faults c.args.source.now; sink = K.faults c.args.sink.now; sink_after = K.faults c.end_early.new.sink };
+      sink = c.args.sink.now;
+      sink_after = c.end_early.new.sink;
       devices = first;
       devices_after = ended.devices;
       state = old;
@@ -92,7 +96,7 @@ returns-in-Ok-Format g c =
       acks = ended.acks;
       shorts = ended.shorts;
     } in
-    ended_early S.tells K.tells D.tells all OutOfMemory early.ends
+    ended_early S.tells K.tells D.tells K.held all OutOfMemory early.ends
     (inl (record { cause = inl tt; untouched = early.devices })) refl
     (subst (λ d. OnlyReadUnmounted D.tells old (D.state d)) (sym early.devices) (λ told error. only_read_here D.tells old))
     (λ told volume. subst (λ d. Survives volume old (D.state d) [] []) (sym early.devices) (c.reading_is_survived.ensures volume old old (stay_here old)))
@@ -110,10 +114,12 @@ returns g c =
     let old = D.state first in
     let words = map (rc_str_bytes {Z = Global}) c.args.words.now in
     let left = S.left c.args.source.now in
-    let all : Run g.row.D.Denot = record {
+    let all : Run g.row.D.Denot g.row.K.Denot = record {
       arguments = words;
       streams = record { left = left; held = K.held c.args.sink.now; held_after = K.held c.end_early-in-Err.new.sink };
       faults = record { source = S.faults c.args.source.now; source_after = S.faults c.args.source.now; sink = K.faults c.args.sink.now; sink_after = K.faults c.end_early-in-Err.new.sink };
+      sink = c.args.sink.now;
+      sink_after = c.end_early-in-Err.new.sink;
       devices = first;
       devices_after = ended.devices;
       state = old;
@@ -124,7 +130,7 @@ returns g c =
       acks = ended.acks;
       shorts = ended.shorts;
     } in
-    ended_early S.tells K.tells D.tells all c.from.result early.ends
+    ended_early S.tells K.tells D.tells K.held all c.from.result early.ends
     (inl (record {
       cause = inl (subst (ArgumentsCause words old.sizes) (sym c.from.ensures) (arguments_cause words old.sizes c.in-Err.fault (λ usage. subst (λ n. task_of n words ≡ None) c.count.ensures.count (c.in-Err.ensures.usage usage))));
       untouched = early.devices;

@@ -1,0 +1,25 @@
+use Rattle.std.proofs.Common.{◌≡◌, ◌++◌, refl, ◌∙◌, sym, subst}
+use Rattle.std.specs.Prelude.{OnOk, OnErr}
+use Rattle.text_io.specs.Streams.{GivesPrefix}
+use Rattle.shell.specs.declared.page.Page.{Page}
+use Rattle.shell.proofs.Printing.{prints_ended, prints_given}
+use Rattle.shell.proofs.page.give_lines.Goals as goal
+
+pub returns-then-has_ended-clause-prints : goal.returns-then-has_ended-clause-prints
+returns-then-has_ended-clause-prints g c start text prints =
+    let K = g.K.Sink in
+    let old = c.args.page.now in
+    let new : Page = record { alloc = old.alloc; lines = c.truncate.new.self; is_cut = old.is_cut; has_failed = old.has_failed; tally = old.tally } in
+    prints_ended K.tells K.held K.faults start text old new c.args.sink.now (sym c.has_ended.ensures ∙ c.if-has_ended.true) refl refl prints
+
+pub returns-clause-prints : goal.returns-clause-prints
+returns-clause-prints g c start text prints =
+    let K = g.K.Sink in
+    let old = c.args.page.now in
+    let new : Page = record { alloc = old.alloc; lines = c.truncate-2.new.self; is_cut = old.is_cut; has_failed = c.is_err-page.result; tally = old.tally } in
+    let held = K.held c.args.sink.now in
+    let held_after = K.held c.give_all.new.sink in
+    prints_given K.tells K.held K.faults start text c.give_all.result old new c.args.sink.now c.give_all.new.sink (sym c.has_ended.ensures ∙ c.if-has_ended.false) c.truncate-2.ensures refl c.is_err-page.ensures.value
+    (λ told. subst (λ b. OnOk c.give_all.result (held_after ≡ held ++ b)) c.as_slice.ensures (c.give_all.ensures.ok told))
+    (λ told. subst (λ b. OnErr c.give_all.result (GivesPrefix b held held_after)) c.as_slice.ensures (c.give_all.ensures.failed told))
+    c.give_all.ensures.cause prints
