@@ -47,6 +47,7 @@ pub fn run_over(
         trace,
         acks,
         shorts: _,
+        early_end: _,
     } = ended;
     let calls = devices.calls().saturating_sub(before);
     Ok(Ran {
