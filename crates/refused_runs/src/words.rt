@@ -1,4 +1,4 @@
-use dev_model::MemDevices;
+use dev_model::{Devices, MemDevices};
 use std::alloc::{AllocError, Global};
 use std::test::Fail;
 use text_io::{MemSink, MemSource};
