@@ -53,7 +53,7 @@ unfoldable pub update_item : Option Update → FormatOf RecordFault Update
 update_item before = mapped (followed (both btree byte) (λ place. both position (value_in place.0 place.1)))
     (λ x. record { btree = x.0.0; level = x.0.1; pos = x.1.0; value = x.1.1 }) (λ u. ((u.btree, u.level), (u.pos, u.value)))
 
--- an entry: its sequence, the oldest sequence that is needed, up to its own, its session, the number of commits before it, the roots, and the updates after their number
+-- an entry: its sequence, the oldest sequence that is needed, up to its own, its session, the number of commits since format, its own included, the roots, and the updates after their number
 unfoldable pub entry_format : FormatOf RecordFault EntryRecord
 entry_format = mapped (followed u64_field (λ sequence. both (checked u64_field (λ oldest. nat_le oldest sequence) Field) (both u64_field (both u64_field (both roots (listing update_item))))))
     (λ x. record { sequence = x.0; oldest = x.1.0; session = x.1.1.0; commits = x.1.1.1.0; roots = x.1.1.1.1.0; updates = x.1.1.1.1.1 })

@@ -25,7 +25,7 @@ pub struct EntryRecord {
     /// The oldest entry that is needed besides this one, by its sequence.
     pub oldest: u64,
     pub session: u64,
-    /// How many commits there were before those of this entry.
+    /// How many commits there were since format, those of this entry included.
     pub commits: u64,
     /// The root of each btree.
     pub roots: Roots,

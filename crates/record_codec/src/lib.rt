@@ -18,7 +18,7 @@
 //! | sequence | 8 |
 //! | oldest sequence that is needed, up to its own | 8 |
 //! | session | 8 |
-//! | number of commits | 8 |
+//! | number of commits since format, those of this entry included | 8 |
 //! | for each of the nine btrees its root, as the fields of a `Node` | |
 //! | number of updates | 4 |
 //! | the updates in the order of their commits, each a btree, a level, and a key | |

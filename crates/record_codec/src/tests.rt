@@ -493,7 +493,7 @@ fn put_commit(payload: &mut Vec<u8>, number: u8) -> Result<(), AllocError> {
 fn an_entry_of_sixty_commits(rt: HostRuntime) -> Result<(), Fail> {
     let alloc = rt.alloc();
     let mut payload = bytes_of(alloc, "0200000000000000 0100000000000000")?;
-    payload.extend_from_slice(&bytes_of(alloc, "0200000000000000 0000000000000000")?)?;
+    payload.extend_from_slice(&bytes_of(alloc, "0200000000000000 3c00000000000000")?)?;
     for btree in 0..9 {
         payload.extend_from_slice(&[btree, 0, 0, 0, 1, 0, 0, 0, 0, 2])?;
         payload.extend_from_slice(&[0, 16, 1, 0, 0, 1, 16, 1, 0, 0])?;
@@ -506,6 +506,7 @@ fn an_entry_of_sixty_commits(rt: HostRuntime) -> Result<(), Fail> {
     let entry = get_entry(alloc, &payload)
         .ok()
         .ok_or("the payload is an entry")?;
+    assert_eq!(rt; entry.commits, 60);
     assert_eq!(rt; entry.updates.len(), 180);
     let written = put_entry(alloc, &entry)?;
     assert_eq!(rt; written.as_slice(), payload.as_slice());
