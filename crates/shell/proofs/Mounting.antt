@@ -22,7 +22,7 @@ use Rattle.record_log.specs.Beginning.{begin_fault_device, failed_begin_device}
 use Rattle.session_history.specs.Acknowledged.{AreAcks}
 use Rattle.record_log.specs.Survives.{Survives}
 use Rattle.session_history.specs.declared.acks.Ack.{Ack}
-use Rattle.shell.specs.Mounts.{HasFailed, IsFailedDevice, HasRefused, IsMountable, MountCause}
+use Rattle.shell.specs.Mounts.{DeviceFailed, IsFailedDevice, HasRefused, IsMountable, MountCause}
 use Rattle.shell.specs.declared.early_end.Refusal.TheVariants as refusals
 use Rattle.shell.specs.EarlyEnds.{end_of_begin, end_of_mount}
 
@@ -92,7 +92,7 @@ begun_since touched old mid new stay crashes = record {
 }
 
 -- why loading failed
-pub load_ended : (tells read_failed : Type 0) (old new : DevicesState) (fault : MountFault) → (tells → IsMountAnswer read_failed (as_read (now old)) (Err fault)) → IfSome (mount_fault_device fault) (λ dev. (dev < length old.sizes) × HasFailed old.faults new.faults dev) → AreOnlyRead tells old new → MountCause tells old new (end_of_mount fault)
+pub load_ended : (tells read_failed : Type 0) (old new : DevicesState) (fault : MountFault) → (tells → IsMountAnswer read_failed (as_read (now old)) (Err fault)) → IfSome (mount_fault_device fault) (λ dev. (dev < length old.sizes) × DeviceFailed old.faults new.faults dev) → AreOnlyRead tells old new → MountCause tells old new (end_of_mount fault)
 load_ended tells read_failed old new faults.NoSuper found cause read = record { reason = found; read = read }
 load_ended tells read_failed old new faults.Version found cause read = record { reason = found; read = read }
 load_ended tells read_failed old new faults.Mixed found cause read = record { reason = found; read = read }

@@ -45,13 +45,13 @@ pub record HasRefused (devices_tell : Type 0) (old new : DevicesState) (refusal 
   pub read : AreOnlyRead devices_tell old new
 
 -- A call of this device failed in between: its count rose, or stands still at its end.
-abbrev pub HasFailed : FaultCounts → FaultCounts → ℕ → Type 0
-HasFailed old new dev = RoseBy 1 (slice_index_or old.calls dev 0) (slice_index_or new.calls dev 0)
+abbrev pub DeviceFailed : FaultCounts → FaultCounts → ℕ → Type 0
+DeviceFailed old new dev = RoseBy 1 (slice_index_or old.calls dev 0) (slice_index_or new.calls dev 0)
 
 -- It is one of the devices, and a call of it failed in between.
 pub record IsFailedDevice (old new : DevicesState) (dev : ℕ) : Type 0 where
   pub device : dev < length old.sizes
-  pub rose : HasFailed old.faults new.faults dev
+  pub rose : DeviceFailed old.faults new.faults dev
 
 -- Why the volume wasn't mounted: it was refused, or this device failed. Out of memory may come at any time.
 abbrev pub MountCause : Type 0 → DevicesState → DevicesState → EarlyEnd → Type 0

@@ -10,7 +10,7 @@ ghost use Rattle.record_log.specs.Durable.{NamesSession};
 ghost use Rattle.record_log.specs.Survives.{Survives};
 ghost use Rattle.shell.specs.Flat.{AreFlat};
 ghost use Rattle.shell.specs.Tasks.{IsRun};
-ghost use Rattle.shell.specs.Mounts.{HasFailed, IsMountable, OnlyReadUnmounted, last_session};
+ghost use Rattle.shell.specs.Mounts.{DeviceFailed, IsMountable, OnlyReadUnmounted, last_session};
 ghost use Rattle.shell.specs.Output.{GaveScript, IsTaken, script_limit};
 ghost use Rattle.shell.specs.Causes.{EarlyCause, SourceFailed, TextCause};
 
@@ -41,7 +41,7 @@ pub fn prepare<S: Source, D: Devices>(
     devices: &mut D,
 ) -> Result<Plan, EarlyEnd>
     ensures found { D.tells → let image = as_read (now (D.state devices.old)) in
-        IfOk result (λ plan. ((dev : ℕ) × HasFailed (D.state devices.old).faults (D.state devices.new).faults dev → AreMirrored plan.loaded.layout image) → mounts image ≡ Ok (volume_of plan.loaded)) }
+        IfOk result (λ plan. ((dev : ℕ) × DeviceFailed (D.state devices.old).faults (D.state devices.new).faults dev → AreMirrored plan.loaded.layout image) → mounts image ≡ Ok (volume_of plan.loaded)) }
     ensures mountable { D.tells → IfOk result (λ plan. IsMountable (as_read (now (D.state devices.old))) plan.loaded.layout plan.loaded.session) }
     ensures unspent { IfOk result (λ plan. plan.loaded.session < last_session) }
     ensures fits { IfOk result (λ plan. is_layout_of (D.state devices.new).sizes plan.loaded.layout ≡ true) }
