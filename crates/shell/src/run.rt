@@ -46,7 +46,7 @@ use vol_types::{Bytes, Layout};
 /// doesn't touch the source. The status is 0 where all went well, 1 for other arguments, or a layout that no volume may have, 2
 /// for a script with a line that is no operation or of more than 16 MiB, 3 where the volume isn't mounted, 4 where the source
 /// failed, 5 where the sink failed, 6 where a device failed, and 7 where it was out of memory.
-pub fn run_words<R, S: Source, K: Sink, D: Devices, G: Gate>(
+pub fn run_words<R, S: Source, K: Sink, D: Devices + Send, G: Gate + Sync>(
     _rt: &R,
     alloc: Global,
     words: &[RcStr],
