@@ -24,13 +24,13 @@ module _ {X Y : Type 0} (f : X → Y) (test : Y → Bool) (xs : List X) (i : ℕ
   pub not_here : test (f x) ≡ false → position_from test i (drop i (map f xs)) ≡ position_from test (i + 1) (drop (i + 1) (map f xs))
   not_here fails = ap (position_from test i) (from_here f xs i x within is) ∙ ap (λ b. cond b (Some i) (position_from test (i + 1) (drop (i + 1) (map f xs)))) fails
 
--- one to eight files behind a place
+-- one to eight files after a place
 pub split_is : {X : Type 0} (f : X → List ℕ) (xs files : List X) (place : ℕ) → files ≡ drop (place + 1) xs → 1 ≤ length files → length files ≤ 8 → split_at (map f xs) place ≡ Some (map f (take place xs), map f files)
 split_is f xs files place are some few =
-    let behind : drop (place + 1) (map f xs) ≡ map f files = drop-map f (place + 1) xs ∙ ap (map f) (sym are) in
-    let size : length (drop (place + 1) (map f xs)) ≡ length files = ap length behind ∙ length-map files f in
+    let later : drop (place + 1) (map f xs) ≡ map f files = drop-map f (place + 1) xs ∙ ap (map f) (sym are) in
+    let size : length (drop (place + 1) (map f xs)) ≡ length files = ap length later ∙ length-map files f in
     let fits : nat_le 1 (length files) && nat_le (length files) 8 ≡ true = grind (arith, nat_tests) in
     let test : nat_le 1 (length (drop (place + 1) (map f xs))) && nat_le (length (drop (place + 1) (map f xs))) 8 ≡ true = ap (λ n. nat_le 1 n && nat_le n 8) size ∙ fits in
     ap (λ b. cond b (Some (take place (map f xs), drop (place + 1) (map f xs))) None) test
     ∙ ap (λ words. Some (words, drop (place + 1) (map f xs))) (take-map f place xs)
-    ∙ ap (λ list. Some (map f (take place xs), list)) behind
+    ∙ ap (λ list. Some (map f (take place xs), list)) later

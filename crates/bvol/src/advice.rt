@@ -125,6 +125,9 @@ impl fmt::Display for RefusalAdvice<'_> {
     fn fmt<W: fmt::Write>(&self, f: &mut fmt::Formatter<W>) -> fmt::Result {
         match self.refusal {
             Refusal::Usage => write_usage(f, self.arguments, self.images),
+            Refusal::NotText => {
+                f.write_str("bvol: an argument isn't UTF-8; give the image a name that is")
+            }
             Refusal::Device(dev, trouble) => {
                 let name = name_of(self.images, dev);
                 let text = trouble_text(trouble);

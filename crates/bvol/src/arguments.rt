@@ -31,7 +31,7 @@ fn help_of(command: &RcStr) -> Option<&'static str> {
     }
 }
 
-/// The words before the first `--`, and the image files behind it. None where there is no `--`, no file, or more files
+/// The arguments before the first `--`, and the image files after it. None where there is no `--`, no file, or more files
 /// than there can be devices.
 pub fn words_and_paths(args: &[RcStr]) -> Option<(&[RcStr], &[RcStr])>
     ensures parts { option_map (λ parts. (map rc_str_bytes parts.0.now, map rc_str_bytes parts.1.now)) result ≡ words_and_files (map rc_str_bytes args.now) }

@@ -35,8 +35,8 @@ pub const FORMAT_HELP: &str = "\
 bvol format OPTIONS -- IMAGE..
 
 Makes a new, empty volume of the IMAGEs, one to eight files. A shorter file is
-made as long as it has to be; whatever the files held is lost. A format that is
-stopped leaves the volume that was there, or none that mounts, or the new one.
+made as long as it has to be; whatever the files held is lost. After a crash
+the files hold the volume that was there, or none that mounts, or the new one.
 
 options, each as `--NAME VALUE` or `--NAME=VALUE`, in any order:
   --id U              the volume's id, a UUID in any of its forms; needed
@@ -54,7 +54,7 @@ prints
 
 exit status:
   0  the files hold the new volume
-  1  error 1 usage: other words, or numbers that no volume may have; nothing
+  1  error 1 usage: other arguments, or numbers that no volume may have; nothing
      was touched
   5  standard output couldn't be written
   6  error 6 device D: file D, from 0, isn't there, is in use, or can't be read
@@ -77,8 +77,8 @@ Reads the whole script, mounts the volume in the IMAGEs, answers each line, and
 then makes all changes durable. `run` has no options. The IMAGEs are all files
 that `bvol format` made the volume of, in the same order. A script that has a bad
 line changes nothing, nor does a run whose volume isn't mounted. Whenever the run
-is stopped, and however, the IMAGEs have the volume after some first part of its
-commits, with all that a `sync` had acknowledged.
+is killed, or the machine crashes, the IMAGEs have the volume after some first
+part of its commits, with all that a `sync` had acknowledged.
 
 Each commit that a run makes takes one block of the journal for good.
 
@@ -105,7 +105,7 @@ are known to be on the disks.
 
 exit status:
   0  the script ran, and all its commits are on the disks
-  1  error 1 usage: other words than `run -- IMAGE..`
+  1  error 1 usage: other arguments than `run -- IMAGE..`
   2  error 2 line L not-built: line L is no line of a script
      error 2 too-long: the script has more than 16 MiB
   3  mount refused 1: a file has no superblock, so it isn't formatted

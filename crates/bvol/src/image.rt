@@ -5,9 +5,7 @@ use std::io::{self, Seek, SeekFrom};
 use std::os::unix::fs::FileExt;
 use std::path::AsPath;
 use std::rt::Files;
-
-/// The bytes of a block.
-const BLOCK_SIZE: u64 = 4096;
+use vol_types::BLOCK_SIZE;
 
 /// A file that holds a device's blocks: its whole pieces of 4,096 bytes. Only `extend` changes the bytes after them.
 #[derive(Drop)]
@@ -48,14 +46,14 @@ impl Image<File> {
 fn whole_blocks(bytes: u64) -> u32
     ensures { result ≡ min (bytes / 4096) (2 ^ 32 - 1) }
 {
-    u32::try_from(bytes / BLOCK_SIZE).unwrap_or(u32::MAX)
+    u32::try_from(bytes / BLOCK_SIZE as u64).unwrap_or(u32::MAX)
 }
 
 // Where a block begins.
 fn offset_of(block: u32) -> u64
     ensures { result ≡ block * 4096 }
 {
-    u64::from(block) * BLOCK_SIZE
+    u64::from(block) * BLOCK_SIZE as u64
 }
 
 impl<F: FileExt + OpenFile + Drop> Image<F> {

@@ -9,17 +9,19 @@ mod devices;
 mod help;
 mod image;
 mod judging;
+mod overwriting;
 mod refusal;
 #[cfg(test)]
 mod tests;
 
 use advice::{Advice, RefusalAdvice};
 use arguments::{help_for, words_and_paths};
-use dev_model::NoGate;
-use devices::{MOST_DEVICES, open_devices};
-use judging::judge_words;
+use dev_model::{Devices, NoGate};
+use devices::{FileDevices, MOST_DEVICES, open_devices};
+use judging::judge_arguments;
+use overwriting::{Overwritten, volume_on};
 use refusal::Refusal;
-use shell::run_words;
+use shell::{Task, run_words};
 use std::alloc::Global;
 use std::env;
 use std::fs::File;
@@ -52,22 +54,28 @@ fn run<R: Files<File = File> + Env + AllocGlobal + Print + Eprint, I: Read + Dro
     input: I,
     output: O,
 ) -> Result<u8, Refusal> {
-    let args = read_arguments(rt, alloc)?;
+    let args = match read_arguments(rt, alloc) {
+        Ok(args) => args,
+        Err(refusal) => return Err(advised(rt, refusal, &[], &[])),
+    };
     if let Some(text) = help_for(&args) {
         return Ok(printed(rt.print(text), 0));
     }
     let (arguments, images) = words_and_paths(&args).unwrap_or((&args, &[]));
     match run_on(rt, alloc, arguments, images, input, output) {
         Ok(status) => Ok(status),
-        Err(refusal) => {
-            let _ = rt.eprintln(RefusalAdvice {
-                refusal,
-                arguments,
-                images,
-            });
-            Err(refusal)
-        }
+        Err(refusal) => Err(advised(rt, refusal, arguments, images)),
     }
+}
+
+// The refusal, of which standard error has its sentence.
+fn advised<R: Eprint>(rt: &R, refusal: Refusal, arguments: &[RcStr], images: &[RcStr]) -> Refusal {
+    let _ = rt.eprintln(RefusalAdvice {
+        refusal,
+        arguments,
+        images,
+    });
+    refusal
 }
 
 // Judges the arguments, opens and locks the images, and does what is asked for on them.
@@ -86,9 +94,12 @@ fn run_on<
     if images.is_empty() || images.len() > MOST_DEVICES {
         return Err(Refusal::Usage);
     }
-    judge_words(alloc, arguments, images.len() as u8)?;
-    let devices = open_devices(rt, alloc, images)?;
+    let task = judge_arguments(alloc, arguments, images.len() as u8)?;
+    let mut devices = open_devices(rt, alloc, images)?;
     devices.lock()?;
+    if let Task::Format(_) = task {
+        say_what_is_lost(rt, &mut devices, images);
+    }
     let mut source = StdSource::new(input);
     let mut sink = StdSink::new(output);
     let ended = run_words(
@@ -108,6 +119,19 @@ fn run_on<
         });
     }
     Ok(ended.status)
+}
+
+// Says on standard error of which volumes the images hold parts that a format writes over.
+fn say_what_is_lost<R: Eprint>(rt: &R, devices: &mut FileDevices<File>, images: &[RcStr]) {
+    for (dev, image) in images.iter().enumerate() {
+        if dev >= devices.count() as usize {
+            return;
+        }
+        if let Some(volume) = volume_on(devices, dev as u8) {
+            let image = image.as_str();
+            let _ = rt.eprintln(Overwritten { image, volume });
+        }
+    }
 }
 
 // The arguments after the program's name.

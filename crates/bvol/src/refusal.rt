@@ -10,6 +10,8 @@ use std::{fmt, io};
 pub enum Refusal {
     /// The arguments name no files, or too many.
     Usage,
+    /// An argument isn't UTF-8.
+    NotText,
     /// This file can't be opened for this reason.
     Device(u8, Trouble),
     /// Out of memory.
@@ -22,7 +24,7 @@ impl Refusal {
         ensures { result ≡ refusal_status self }
     {
         match self {
-            Refusal::Usage => 1,
+            Refusal::Usage | Refusal::NotText => 1,
             Refusal::Device(_, _) => 6,
             Refusal::Memory => 7,
         }
@@ -32,7 +34,7 @@ impl Refusal {
 impl fmt::Display for Refusal {
     fn fmt<W: fmt::Write>(&self, f: &mut fmt::Formatter<W>) -> fmt::Result {
         match *self {
-            Refusal::Usage => f.write_str("error 1 usage"),
+            Refusal::Usage | Refusal::NotText => f.write_str("error 1 usage"),
             Refusal::Device(dev, _) => write!(f, "error 6 device {dev}"),
             Refusal::Memory => f.write_str("error 7 memory"),
         }
@@ -80,7 +82,7 @@ impl From<io::Error> for Refusal {
     fn from(error: io::Error) -> Self {
         match error.kind() {
             io::ErrorKind::OutOfMemory => Refusal::Memory,
-            _ => Refusal::Usage,
+            _ => Refusal::NotText,
         }
     }
 }

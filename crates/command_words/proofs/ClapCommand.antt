@@ -1,4 +1,4 @@
--- What clap makes of the command `format` is what the words ask for.
+-- What clap makes of the command `format` is what the arguments ask for.
 use Rattle.std.proofs.Common.{◌≡◌, ◌∙◌, ℕ, Bool, cond, true, false, not, true≢false, List, [], ◌∷◌, ◌||◌, Option, Some, None, is_some, refl, sym, ap, ap₂, subst, codes}
 use Rattle.std.specs.List.{AllByRecursion, find, fold, list_any}
 use Rattle.std.specs.Option.{option_map, option_map_or}
@@ -55,7 +55,7 @@ unknown_by name other =
 options : HasOptions top
 options = record { once = refl; known = λ name is. known_by name _ _ _ _ _ refl refl refl refl refl is; unknown = unknown_by; place = refl }
 
--- ---- what stands behind the walk
+-- ---- what stands after the walk
 
 -- the rules have no default
 abbrev HasNoDefault : List Rule → Type 0
@@ -189,7 +189,7 @@ module _ (words : List Text) where
       (check_fault top (matches_of format_app words) (is_some (entered (built format_app) end.stopped)))))) (no_default_fault top.rules none_by_default found)
       ∙ ap₂ (λ rs inner. or_else walking (or_else ending (check_fault top rs (is_some inner)))) matches_are (no_entry end.stopped)
 
-  -- what clap makes of words without a stray one is what they ask for
+  -- what clap makes of arguments without a stray one is what they ask for
   pub clap_is_format : list_any is_stray words ≡ false
       → when_none (fault_of format_app words) (format_with (λ name. first_of name (matches_of format_app words))) ≡ format_of words
   clap_is_format plain =

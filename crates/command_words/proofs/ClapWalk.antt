@@ -1,4 +1,4 @@
--- The walk of clap over words that are long options reads what `read_options` reads.
+-- The walk of clap over arguments that are long options reads what `read_options` reads.
 use Rattle.std.proofs.Common.{◌≡◌, ◌∙◌, ◌⊎◌, Bool, cond, if◌then◌else◌, true, false, not, true≢false, List, [], ◌∷◌, ◌++◌, map, ◌&&◌, ◌||◌, Option, Some, None, inl, inr, refl, sym, ap, ap₂, append-nil}
 use Rattle.std.specs.List.{fold, list_any}
 use Rattle.std.specs.Option.{option_map}
@@ -54,7 +54,7 @@ pub neither : (a b : Bool) → (a || b) ≡ false → (a ≡ false) × (b ≡ fa
 neither false b e = (refl, e)
 neither true b e = absurd (true≢false e)
 
--- a change at a name that no row has leaves the rows, with what is missing behind them
+-- a change at a name that no row has leaves the rows, with what is missing after them
 at_new : (id : Text) (change : Row → List Row) (missing given : List Row) → has_row id given ≡ false → at_row id change missing given ≡ given ++ missing
 at_new id change missing [] new = refl
 at_new id change missing (r ∷ rs) new =
@@ -89,7 +89,7 @@ use_is_again : (name value : Text) (required : Bool) (given : Options) → has_n
     → use_fault false (rule name required) (value ∷ []) (rows given) ≡ kind.ArgumentConflict ∷ []
 use_is_again name value required given again = rw (has_row_given name given ∙ again) refl
 
--- a word that nothing takes is a fault
+-- an argument that nothing takes is a fault
 stray_is_fault : {X : Type 0} (s : Shape) (o : Option X) → when_none (stray_fault s) o ≡ None
 stray_is_fault s o = go s.is_leaf
   where
@@ -99,14 +99,14 @@ stray_is_fault s o = go s.is_leaf
 
 -- ---- the walk
 
--- between two options, and behind the name of one that waits for its value
+-- between two options, and after the name of one that waits for its value
 abbrev pub idle_walk : Held → Walk
 idle_walk held = record { held = held; waiting = idle; position = 1; is_trailing = false; stopped = None }
 
 abbrev pub waiting_walk : Text → Held → Walk
 waiting_walk name held = record { held = held; waiting = option name; position = 1; is_trailing = false; stopped = None }
 
--- where the walk stands behind the options that are given: with none that is still to be noted, with one that has its
+-- where the walk stands after the options that are given: with none that is still to be noted, with one that has its
 -- value, or with a name that has none yet
 pub data Stage : Type 0 where
   fresh : Stage
@@ -129,7 +129,7 @@ HasName fresh = Unit {0}
 HasName (full name value) = is_known name ≡ true
 HasName (empty name) = is_known name ≡ true
 
--- what the words give from there on
+-- what the arguments give from there on
 abbrev pub read_at : Options → Stage → List Text → Option Options
 read_at given fresh words = read_options given None words
 read_at given (full name value) words = if has_name name given then None else read_options (given ++ (name, value) ∷ []) None words
@@ -149,11 +149,11 @@ pub record HasOptions (s : Shape) : Type 0 where
   pub place : arg_by_index s.rules 1 ≡ None
 
 module _ (s : Shape) (has : HasOptions s) where
-  -- the rows where the words end, if there is no fault
+  -- the rows where the arguments end, if there is no fault
   abbrev pub ends : Held → Option (List Row)
   ends held = when_none (settle_fault s.rules s.args_override_self held) (Some (settled s.rules held).rows)
 
-  -- the rows behind the words, if there is no fault
+  -- the rows after the arguments, if there is no fault
   unfoldable pub outcome : Walk → List Text → Option (List Row)
   outcome w [] = ends w.held
   outcome w (word ∷ words) = when_none (turn_fault s [] w word) (outcome (walked s.rules [] w word) words)
@@ -176,7 +176,7 @@ module _ (s : Shape) (has : HasOptions s) where
   unfolding outcome
   passed_turn w after word words e to = ap (λ faults. when_none faults (outcome (walked s.rules [] w word) words)) e ∙ ap (λ v. outcome v words) to
 
-  -- a word that is no option, between two options, is a fault
+  -- an argument that is no option, between two options, is a fault
   plain_word_refused : (held : Held) (word : Text) (words : List Text) → IsPlainWord word → outcome (idle_walk held) (word ∷ words) ≡ None
   unfolding outcome
   plain_word_refused held word words is =
@@ -242,7 +242,7 @@ module _ (s : Shape) (has : HasOptions s) where
   name_held : (held : Held) (given : Options) → Holds held given → (name : Text) → record (settled s.rules held) { pending = Some (name, []) } ≡ held_at given (empty name)
   name_held held given holds name = λ i. record { rows = holds.rows_are i; pending = Some (name, []); skip = holds.skip i }
 
-  -- ---- what `read_options` does at the same word
+  -- ---- what `read_options` does at the same argument
 
   read_plain : (given : Options) (word : Text) (words : List Text) → IsPlainWord word → read_options given None (word ∷ words) ≡ None
   unfolding read_options
@@ -269,9 +269,9 @@ module _ (s : Shape) (has : HasOptions s) where
   new_may : (name : Text) (given : Options) → is_known name ≡ true → has_name name given ≡ false → may_give name given ≡ true
   new_may name given known new = ap₂ (λ a b. a && not b) known new
 
-  -- ---- the walk and the reading, word by word
+  -- ---- the walk and the reading, argument by argument
 
-  -- the two agree on the words, wherever they stand
+  -- the two agree on the arguments, wherever they stand
   abbrev Agree : List Text → Type 0
   Agree words = (given : Options) (stage : Stage) → HasName stage → outcome (walk_at given stage) words ≡ option_map rows (read_at given stage words)
 
@@ -343,7 +343,7 @@ module _ (s : Shape) (has : HasOptions s) where
   empty_fault : (given : Options) (name : Text) → Knows s.rules name → settle_fault s.rules s.args_override_self (held_at given (empty name)) ≡ kind.InvalidValue ∷ []
   empty_fault given name k = rw k.by_id refl
 
-  -- where a fault is held, no word mends it
+  -- where a fault is held, no argument mends it
   blocked_word : (held : Held) (k : _) (ks : Kinds) → settle_fault s.rules s.args_override_self held ≡ k ∷ ks → (word : Text) (words : List Text)
       → IsPlainWord word ⊎ ((name : Text) × (value : Option Text) × IsLongWord word name value) → outcome (idle_walk held) (word ∷ words) ≡ None
   blocked_word held k ks e word words (inl is) = plain_word_refused held word words is
@@ -424,7 +424,7 @@ module _ (s : Shape) (has : HasOptions s) where
       waiting_refused given name known word words other value is _ refl
       ∙ sym (ap (option_map rows) (read_waiting given word name words ∙ ap (λ b. cond b (read_options (given ++ (name, word) ∷ []) None words) None) (not_hyphen name given word is.hyphen)))
 
-  -- ---- all the words
+  -- ---- all the arguments
 
   ends_full : (given : Options) (name value : Text) → Knows s.rules name → (again : Bool) → has_name name given ≡ again
       → ends (held_at given (full name value)) ≡ option_map rows (cond again None (Some (given ++ (name, value) ∷ [])))
@@ -439,7 +439,7 @@ module _ (s : Shape) (has : HasOptions s) where
   ends_agree given (full name value) n = ends_full given name value (has.known name n) _ refl
   ends_agree given (empty name) n = ap (λ faults. when_none faults (Some (settled s.rules (held_at given (empty name))).rows)) (empty_fault given name (has.known name n))
 
-  -- clap's walk over words without a stray one reads what `read_options` reads
+  -- clap's walk over arguments without a stray one reads what `read_options` reads
   pub walk_agrees : (words : List Text) → list_any is_stray words ≡ false → Agree words
   walk_agrees [] plain given stage n = ends_agree given stage n
   walk_agrees (word ∷ words) plain given fresh n =

@@ -1,4 +1,4 @@
--- What the values of the options make, and what clap's answer says of the words.
+-- What the values of the options make, and what clap's answer says of the arguments.
 use Rattle.std.proofs.Common.{◌≡◌, ◌∙◌, ◌↔◌, ℕ, Bool, true, false, true≢false, List, [], ◌∷◌, Option, Some, None, Result, Ok, Err, IfErr, IfOk, IsOk, inl, inr, refl, sym, ap, codes}
 use Rattle.std.specs.Result.{IsErrAnd, result_ok}
 use Rattle.std.proofs.lemmas.Option.{none-some}
@@ -44,14 +44,14 @@ pub app_is_plain : is_simple format_app ≡ true
 unfolding clap_on_literals
 app_is_plain = refl
 
--- what clap found makes what the words ask for
+-- what clap found makes what the arguments ask for
 pub found_format : (words : List Text) (f : Found) → list_any is_stray words ≡ false → fault_of format_app words ≡ [] → rows_of f ≡ matches_of format_app words
     → format_with (first_value f) ≡ format_of words
 found_format words f plain none found =
     (λ i. format_with (λ name. first_value-rows f name i)) ∙ ap (λ rs. format_with (λ name. first_of name rs)) found
     ∙ ap (λ faults. when_none faults (format_with (λ name. first_of name (matches_of format_app words)))) (sym none) ∙ clap_is_format words plain
 
--- words of which one is stray ask for nothing
+-- arguments of which one is stray ask for nothing
 pub stray_format : (words : List Text) → list_any is_stray words ≡ true → format_of words ≡ None
 stray_format words is = ap (option_and_then (λ given. format_with (λ name. value_of name given))) (stray_words words is [] None)
 
@@ -60,18 +60,18 @@ fault_is_none : {X : Type 0} (k : _) (kinds : Kinds) → IsAmong k kinds → (o 
 fault_is_none k [] h o = absurd h
 fault_is_none k (x ∷ xs) h o = refl
 
--- an error other than of memory means that the words ask for nothing
+-- an error other than of memory means that the arguments ask for nothing
 pub refused_format : (words : List Text) (e : Error) → list_any is_stray words ≡ false → HasKind (fault_of format_app words) e → (kind_of e ≡ kind.OutOfMemory → ⊥) → format_of words ≡ None
 refused_format words e plain (inl memory) other = absurd (other memory)
 refused_format words e plain (inr among) other =
     sym (clap_is_format words plain) ∙ fault_is_none (kind_of e) (fault_of format_app words) among (format_with (λ name. first_of name (matches_of format_app words)))
 
--- whether the fault is of the words
+-- whether the fault is of the arguments
 abbrev is_usage : WordsFault → Bool
 is_usage Usage = true
 is_usage NoMemory = false
 
--- where memory ran out the words are not at fault
+-- where memory ran out the arguments are not at fault
 pub memory_is_no_usage : {T : Type 0} (r : Result T WordsFault) (X : Type 0) → IsErrAnd r (λ fault. fault ≡ NoMemory) → IfErr r (λ fault. fault ≡ Usage → X)
 memory_is_no_usage (Ok x) X h = tt
 memory_is_no_usage (Err fault) X h = λ usage. absurd (true≢false (ap is_usage (sym usage ∙ h)))
@@ -81,7 +81,7 @@ pub answers : {T : Type 0} (o means : Option T) → o ≡ means → IfOk (ok_or 
 answers None means is = tt
 answers (Some x) means is = sym is
 
--- where there is no request the words are at fault
+-- where there is no request the arguments are at fault
 pub refuses : {T : Type 0} (o means : Option T) → o ≡ means → IfErr (ok_or o Usage) (λ fault. fault ≡ Usage → means ≡ None)
 refuses None means is = λ _. sym is
 refuses (Some x) means is = tt

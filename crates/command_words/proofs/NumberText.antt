@@ -1,4 +1,4 @@
--- What `parse` makes of a numeral, and that numerals are what `decimal` spells.
+-- What `parse` makes of a numeral, and that `decimal` gives numerals.
 use Rattle.std.proofs.Common.{◌≡◌, ◌∙◌, ◌↔◌, ℕ, ◌<◌, ◌^◌, ◌&&◌, ◌==◌, Bool, cond, true, false, not, List, [], ◌∷◌, length, get_or, zero, suc, Option, Some, None, Result, Ok, Err, refl, sym, ap, arith, true≢false, nat_lt, lt-ltb, ltb-true}
 use Rattle.std.specs.List.{list_all}
 use Rattle.std.specs.Char.{is_ascii_digit}
@@ -17,7 +17,7 @@ pub both : (a b : Bool) → (a && b) ≡ true → (a ≡ true) × (b ≡ true)
 both true b e = (refl, e)
 both false b e = absurd (true≢false (sym e))
 
--- the words for digits of std
+-- digits, as std defines them
 abbrev AreDigits : List ℕ → Type 0
 AreDigits ds = all_ascii_digits ds ≡ true
 
@@ -61,26 +61,26 @@ read_as_number text (Err x) is never false e = sym (number_of_numeral text is fa
 pub parsed_number : {E : Type 0} (text : List ℕ) (r : Result ℕ E) → is_numeral text ≡ true → ParsesUnsigned 64 10 text r → result_ok r ≡ number text
 parsed_number text r is h = read_as_number text r is (parse_digits digits 64 text r h (numeral_parts text is).1) _ refl
 
--- what `decimal` spells is a numeral
+-- what `decimal` gives is a numeral
 decimal_is_numeral : (n : ℕ) → n < 2 ^ 64 → is_numeral (decimal n) ≡ true
 decimal_is_numeral zero fits = ap is_numeral (decimal_digit 0 (omega arith))
 decimal_is_numeral (suc n) fits = numeral_made (decimal (suc n)) (decimal_nonempty (suc n) fits) (digits_decimal digits (suc n) fits) (λ e. omega (arith, first_decimal (suc n) (omega arith) fits, e))
 
--- a text of a number is its decimal spelling
-number_spelled : (text : List ℕ) (n : ℕ) → (is fits : Bool) → is_numeral text ≡ is → nat_lt (digits_value 10 text) (2 ^ 64) ≡ fits
+-- a text of a number is its decimal numeral
+number_numeral : (text : List ℕ) (n : ℕ) → (is fits : Bool) → is_numeral text ≡ is → nat_lt (digits_value 10 text) (2 ^ 64) ≡ fits
     → cond (is && fits) (Some (digits_value 10 text)) None ≡ Some n → text ≡ decimal n
-number_spelled text n true true is fits e =
+number_numeral text n true true is fits e =
     let parts = numeral_parts text is in
     sym (decimal-digits_value digits text parts.1 parts.0 parts.2 (ltb-true _ _ fits)) ∙ ap decimal (same_Some _ _ e)
-number_spelled text n true false is fits e = absurd (none-some n e)
-number_spelled text n false fits is _ e = absurd (none-some n e)
+number_numeral text n true false is fits e = absurd (none-some n e)
+number_numeral text n false fits is _ e = absurd (none-some n e)
 
--- the texts of a number are its decimal spelling alone
+-- the texts of a number are its decimal numeral alone
 pub number_is_decimal : (text : List ℕ) (n : ℕ) → n < 2 ^ 64 → number text ≡ Some n ↔ text ≡ decimal n
-number_is_decimal text n fits = (number_spelled text n _ _ refl refl, λ e. ap number e ∙ spells)
+number_is_decimal text n fits = (number_numeral text n _ _ refl refl, λ e. ap number e ∙ is)
   where
-    spells : number (decimal n) ≡ Some n
-    spells =
+    is : number (decimal n) ≡ Some n
+    is =
         let value : digits_value 10 (decimal n) ≡ n = digits_value-decimal digits n fits in
         number_of_numeral (decimal n) (decimal_is_numeral n fits) true (lt-ltb _ _ (rw value fits)) ∙ ap Some value
 
@@ -88,6 +88,6 @@ number_is_decimal text n fits = (number_spelled text n _ _ refl refl, λ e. ap n
 pub no_number : (text : List ℕ) → is_numeral text ≡ false → None ≡ number text
 no_number text is = sym (rw is refl)
 
--- what is the number of a text is so of its decimal spelling alone
-pub spelled_by : (answer : Option ℕ) (text : List ℕ) → answer ≡ number text → (n : ℕ) → n < 2 ^ 64 → answer ≡ Some n ↔ text ≡ decimal n
-spelled_by answer text is n fits = (λ e. (number_is_decimal text n fits).0 (sym is ∙ e), λ e. is ∙ (number_is_decimal text n fits).1 e)
+-- what is the number of a text is so of its decimal numeral alone
+pub numeral_by : (answer : Option ℕ) (text : List ℕ) → answer ≡ number text → (n : ℕ) → n < 2 ^ 64 → answer ≡ Some n ↔ text ≡ decimal n
+numeral_by answer text is n fits = (λ e. (number_is_decimal text n fits).0 (sym is ∙ e), λ e. is ∙ (number_is_decimal text n fits).1 e)

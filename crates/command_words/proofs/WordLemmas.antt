@@ -1,4 +1,4 @@
--- Tests of words behind references.
+-- Tests of arguments after references.
 use Rattle.std.proofs.Common.{◌≡◌, ◌||◌, Bool, List, [], ◌∷◌, map, refl, ap}
 use Rattle.std.specs.List.{list_any}
 

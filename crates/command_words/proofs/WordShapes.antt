@@ -1,11 +1,11 @@
--- What a word is to clap, by its first bytes.
+-- What an argument is to clap, by its first bytes.
 use Rattle.std.proofs.Common.{◌≡◌, ◌⊎◌, ℕ, Bool, true, false, not, true≢false, [], ◌∷◌, ◌==◌, ◌&&◌, Option, Some, None, inl, inr, refl}
 use Rattle.std.specs.Str.{bytes_eq}
 use Rattle.clap.specs.Lexer.{long_of, name_and_value, short_of}
 use Rattle.command_words.specs.Options.{Text, has_hyphen, long_word}
 use Rattle.command_words.specs.Words.{is_stray}
 
--- The word is no option.
+-- The argument is no option.
 pub record IsPlainWord (word : Text) : Type 0 where
   pub hyphen : has_hyphen word ≡ false
   pub long : long_of word ≡ None
@@ -13,7 +13,7 @@ pub record IsPlainWord (word : Text) : Type 0 where
   pub short : short_of word ≡ None
   pub dashes : bytes_eq word (45 ∷ 45 ∷ []) ≡ false
 
--- The word is an option of this name, with this value.
+-- The argument is an option of this name, with this value.
 pub record IsLongWord (word name : Text) (given : Option Text) : Type 0 where
   pub hyphen : has_hyphen word ≡ true
   pub long : long_of word ≡ Some (name, given)
@@ -23,7 +23,7 @@ pub record IsLongWord (word name : Text) (given : Option Text) : Type 0 where
 abbrev IsWord : Text → Type 0
 IsWord word = IsPlainWord word ⊎ ((name : Text) × (given : Option Text) × IsLongWord word name given)
 
--- a word of three bytes or more, by the tests of its first two
+-- an argument of three bytes or more, by the tests of its first two
 longer : (x y z : ℕ) (rest : Text) (first second : Bool) → (x == 45) ≡ first → (y == 45) ≡ second → (first && not second) ≡ false → IsWord (x ∷ y ∷ z ∷ rest)
 longer x y z rest false second is_x is_y e = inl (record { hyphen = is_x; long = rw is_x refl; ours = rw is_x refl; short = rw is_x refl; dashes = rw is_x refl })
 longer x y z rest true false is_x is_y e = absurd (true≢false e)
@@ -31,7 +31,7 @@ longer x y z rest true true is_x is_y e =
     let parts = name_and_value (z ∷ rest) in
     inr (parts.0, parts.1, record { hyphen = is_x; long = rw (is_x, is_y) refl; ours = rw (is_x, is_y) refl; dashes = rw (is_x, is_y) refl })
 
--- a word that is not stray is an option or no option
+-- an argument that is not stray is an option or no option
 pub word_shape : (word : Text) → is_stray word ≡ false → IsWord word
 word_shape [] e = inl (record { hyphen = refl; long = refl; ours = refl; short = refl; dashes = refl })
 word_shape (x ∷ []) e = inl (record { hyphen = e; long = rw e refl; ours = refl; short = rw e refl; dashes = rw e refl })

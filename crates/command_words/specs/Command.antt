@@ -1,4 +1,4 @@
--- The command `format` as clap is told it. What the words mean doesn't rest on this.
+-- The command `format` as clap is told it. What the arguments mean doesn't rest on this.
 use Rattle.std.specs.Prelude.{true, Some, codes}
 use Rattle.clap.specs.Words.{App, Rule, Text, new_app, new_rule, with_rule}
 use Rattle.clap.specs.Simple.{on_top}

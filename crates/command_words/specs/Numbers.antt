@@ -10,6 +10,6 @@ is_numeral [] = false
 is_numeral (digit ∷ []) = is_ascii_digit digit
 is_numeral (first ∷ second ∷ rest) = not (first == 48) && list_all is_ascii_digit (first ∷ second ∷ rest)
 
--- the number that the text spells, where it is below 2^64
+-- the number of the text, where it is below 2^64
 abbrev pub number : List ℕ → Option ℕ
 number text = if is_numeral text && nat_lt (digits_value 10 text) (2 ^ 64) then Some (digits_value 10 text) else None

@@ -1,4 +1,4 @@
--- Which options the words behind a command give: `--NAME VALUE` or `--NAME=VALUE`, in any order, each at most once.
+-- Which options the arguments after a command give: `--NAME VALUE` or `--NAME=VALUE`, in any order, each at most once.
 use Rattle.std.specs.Prelude.{ℕ, ◌==◌, ◌&&◌, Bool, false, not, List, [], ◌∷◌, ◌++◌, Option, Some, None, codes, if◌then◌else◌, find, option_map}
 use Rattle.std.specs.List.{after_first, before_first, list_any}
 use Rattle.std.specs.Str.{bytes_eq}
@@ -35,12 +35,12 @@ may_give name given = is_known name && not (has_name name given)
 abbrev pub is_equals : ℕ → Bool
 is_equals byte = byte == 61
 
--- the word begins with a hyphen
+-- the argument begins with a hyphen
 abbrev pub has_hyphen : Text → Bool
 has_hyphen [] = false
 has_hyphen (first ∷ rest) = first == 45
 
--- what stands behind two hyphens: a name, and the value behind the first `=` where there is one
+-- what stands after two hyphens: a name, and the value after the first `=` where there is one
 abbrev pub long_word : Text → Option (Text × Option Text)
 long_word (first ∷ second ∷ rest) =
     if first == 45 && second == 45
@@ -48,13 +48,13 @@ long_word (first ∷ second ∷ rest) =
     else None
 long_word _ = None
 
--- what a word makes of the options behind it: with its own value, or as a name that waits for the next word
+-- what an argument makes of the options after it: with its own value, or as a name that waits for the next argument
 abbrev pub begun : Option (Text × Option Text) → Options → (Options → Option Options) → (Text → Option Options) → Option Options
 begun None given further waiting = None
 begun (Some (name, Some value)) given further waiting = if may_give name given then further (given ++ (name, value) ∷ []) else None
 begun (Some (name, None)) given further waiting = waiting name
 
--- the options that are given and those that the words add, where a name may wait for its value; none where the words are no options
+-- the options that are given and those that the arguments add, where a name may wait for its value; none where the arguments are no options
 unfoldable pub read_options : Options → Option Text → List Text → Option Options
 read_options given None [] = Some given
 read_options given (Some name) [] = None
@@ -62,6 +62,6 @@ read_options given None (word ∷ words) = begun (long_word word) given (λ more
 read_options given (Some name) (word ∷ words) =
     if may_give name given && not (has_hyphen word) then read_options (given ++ (name, word) ∷ []) None words else None
 
--- the options that the words give
+-- the options that the arguments give
 abbrev pub options_of : List Text → Option Options
 options_of words = read_options [] None words

@@ -1,4 +1,4 @@
--- What the words on the command line ask for.
+-- What the arguments on the command line ask for.
 use Rattle.std.specs.Prelude.{ℕ, List, [], ◌∷◌, Option, Some, None, codes, if◌then◌else◌, option_and_then, option_map}
 use Rattle.std.specs.Str.{bytes_eq}
 use Rattle.uuid.specs.Text.{parsed}
@@ -8,7 +8,7 @@ use Rattle.command_words.specs.declared.request.FormatRequest.{FormatRequest}
 use Rattle.command_words.specs.declared.request.Request.{Request}
 use Rattle.command_words.specs.declared.request.Request.TheVariants.{Run, Format}
 
--- the number that a text spells, or this one where there is no text
+-- the number of a text, or this one where there is no text
 abbrev pub number_or : ℕ → Option Text → Option ℕ
 number_or otherwise None = Some otherwise
 number_or otherwise (Some text) = number text
@@ -27,16 +27,16 @@ format_with value =
     (option_and_then number (value (codes "blocks"))))
     (option_and_then parsed (value (codes "id")))
 
--- what the words behind `format` ask for
+-- what the arguments after `format` ask for
 abbrev pub format_of : List Text → Option FormatRequest
 format_of words = option_and_then (λ given. format_with (λ name. value_of name given)) (options_of words)
 
--- what the words behind `run` ask for: there are none
+-- what the arguments after `run` ask for: there are none
 abbrev pub run_of : List Text → Option Request
 run_of [] = Some Run
 run_of (word ∷ words) = None
 
--- what the words ask for, by the first of them
+-- what the arguments ask for, by the first of them
 abbrev pub request_of : List Text → Option Request
 request_of [] = None
 request_of (command ∷ words) =

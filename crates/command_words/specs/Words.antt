@@ -1,7 +1,7 @@
--- Which words the code refuses before clap reads them. What the words mean doesn't rest on this.
+-- Which arguments the code refuses before clap reads them. What the arguments mean doesn't rest on this.
 use Rattle.std.specs.Prelude.{ℕ, ◌==◌, ◌&&◌, Bool, false, not, List, [], ◌∷◌}
 
--- the word begins with a hyphen, but not with two hyphens and a name: `-`, `--`, `-x`
+-- the argument begins with a hyphen, but not with two hyphens and a name: `-`, `--`, `-x`
 abbrev pub is_stray : List ℕ → Bool
 is_stray [] = false
 is_stray (first ∷ []) = first == 45

@@ -20,7 +20,7 @@ const DEFAULT_JOURNAL: u64 = 256;
 /// The number of copies where none is given.
 const DEFAULT_REPLICAS: u64 = 1;
 
-// What the words behind `format` ask for.
+// What the arguments after `format` ask for.
 pub fn read_format<'a>(alloc: Global, words: &'a [RcStr]) -> Result<FormatRequest, WordsFault>
     ensures ok { IfOk result (λ format. format_of (map rc_str_bytes words.now) ≡ Some format) }
     ensures usage { IfErr result (λ fault. fault ≡ WordsFault.Usage → format_of (map rc_str_bytes words.now) ≡ None) }
@@ -36,14 +36,14 @@ pub fn read_format<'a>(alloc: Global, words: &'a [RcStr]) -> Result<FormatReques
     }
 }
 
-// Whether one of the words begins with a hyphen, but not with two hyphens and a name.
+// Whether one of the arguments begins with a hyphen, but not with two hyphens and a name.
 fn has_stray(words: &[RcStr]) -> bool
     ensures { result ≡ list_any (λ word. is_stray (rc_str_bytes word)) words.now }
 {
     words.iter().any(|word| is_stray(word.as_str().as_bytes()))
 }
 
-// Whether the word is `-`, `--`, or a hyphen and something else: clap takes `-` for a value, and `--` for the end of the
+// Whether the argument is `-`, `--`, or a hyphen and something else: clap takes `-` for a value, and `--` for the end of the
 // options.
 fn is_stray(word: &[u8]) -> bool
     ensures { result ≡ is_stray word.now }
@@ -96,7 +96,7 @@ fn read_matches(matches: &ArgMatches) -> Option<FormatRequest>
     })
 }
 
-// The number that the text spells, or the other one where there is no text.
+// The number of the text, or the other one where there is no text.
 fn number_or(otherwise: u64, text: Option<&str>) -> Option<u64>
     ensures { result ≡ number_or otherwise (option_map (λ s. s.now) text.entry) }
 {

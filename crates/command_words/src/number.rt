@@ -4,10 +4,10 @@ ghost use Rattle.std.specs.List.{list_all};
 ghost use Rattle.std.specs.Char.{is_ascii_digit};
 ghost use Rattle.command_words.specs.Numbers.{is_numeral, number};
 
-/// The number that the text spells in decimal digits, without a sign or a leading zero.
+/// The number of the text in decimal digits, without a sign or a leading zero.
 pub fn read_number(text: &str) -> Option<u64>
     ensures value { result ≡ number text.now }
-    ensures spelled { (n : ℕ) → n < 2 ^ 64 → result ≡ Some n ↔ text.now ≡ decimal n }
+    ensures numeral { (n : ℕ) → n < 2 ^ 64 → result ≡ Some n ↔ text.now ≡ decimal n }
 {
     if is_numeral(text.as_bytes()) {
         text.parse::<u64>().ok()

@@ -6,7 +6,7 @@ use crate::format::read_format;
 use std::alloc::{AllocError, Global};
 use std::rc::RcStr;
 
-/// What the words ask for.
+/// What the arguments ask for.
 #[derive(Clone, Copy, Debug, PartialEq, Eq)]
 pub enum Request {
     /// To run the script on standard input.
@@ -35,10 +35,10 @@ pub struct FormatRequest {
     pub meta_replicas: u64,
 }
 
-/// Why the words ask for nothing.
+/// Why the arguments ask for nothing.
 #[derive(Clone, Copy, Debug, PartialEq, Eq)]
 pub enum WordsFault {
-    /// The words are no request.
+    /// The arguments are no request.
     Usage,
 
     /// Memory ran out before it was known what they ask for.
@@ -56,7 +56,7 @@ impl From<AllocError> for WordsFault {
     }
 }
 
-/// Reads the words before the first `--`: a command and its options.
+/// Reads the arguments before the first `--`: a command and its options.
 pub fn read_words(alloc: Global, words: &[RcStr]) -> Result<Request, WordsFault>
     ensures ok { IfOk result (λ request. request_of (map rc_str_bytes words.now) ≡ Some request) }
     ensures usage { IfErr result (λ fault. fault ≡ WordsFault.Usage → request_of (map rc_str_bytes words.now) ≡ None) }
@@ -71,7 +71,7 @@ pub fn read_words(alloc: Global, words: &[RcStr]) -> Result<Request, WordsFault>
     }
 }
 
-// What the words behind `run` ask for.
+// What the arguments after `run` ask for.
 fn read_run(options: &[RcStr]) -> Result<Request, WordsFault>
     ensures ok { IfOk result (λ request. run_of (map rc_str_bytes options.now) ≡ Some request) }
     ensures usage { IfErr result (λ fault. fault ≡ WordsFault.Usage → run_of (map rc_str_bytes options.now) ≡ None) }

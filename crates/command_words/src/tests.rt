@@ -3,7 +3,7 @@ use std::alloc::Global;
 use std::rc::RcStr;
 use std::test::Fail;
 
-/// The id that the words of these tests give.
+/// The id that the arguments of these tests give.
 const ID: [u8; 16] = [0, 0, 0, 0, 0, 0, 0x40, 0, 0x80, 0, 0, 0, 0, 0, 0, 1];
 
 /// An id with letters in it: 67e55044-10b1-426f-9247-bb680e5fe0c8.
@@ -11,7 +11,7 @@ const LETTERS: [u8; 16] = [
     0x67, 0xe5, 0x50, 0x44, 0x10, 0xb1, 0x42, 0x6f, 0x92, 0x47, 0xbb, 0x68, 0x0e, 0x5f, 0xe0, 0xc8,
 ];
 
-// What the words of the line ask for. One blank stands between two words, and a word that is `.` stands for the id.
+// What the arguments of the line ask for. One blank stands between two arguments, and an argument that is `.` stands for the id.
 fn answer(alloc: Global, line: &str) -> Result<Result<Request, WordsFault>, Fail> {
     let mut words = Vec::new(alloc);
     for word in line.split(' ') {

@@ -46,7 +46,7 @@ stay_by result old new changes = record {
 }
 
 -- One failure more of a device leaves no count less.
-risen_no_fewer : (counts : List ℕ) (dev : ℕ) → AreNoFewer counts (changed dev risen counts)
+pub risen_no_fewer : (counts : List ℕ) (dev : ℕ) → AreNoFewer counts (changed dev risen counts)
 risen_no_fewer [] dev d = omega arith
 risen_no_fewer (count ∷ counts) zero zero = omega arith
 risen_no_fewer (count ∷ counts) zero (suc d) = omega arith

@@ -8,17 +8,17 @@ use Rattle.dev_model.specs.declared.disk.Pick.TheVariants.{NoneWritten}
 -- many calls there were.
 pub record Plan : Type 0 where
   pub failing : List ℕ
-  pub stop : Option ℕ
+  pub failing_from : Option ℕ
   pub leaves : Pick
   pub calls : ℕ
 
 -- before the first call, with none that is to fail
 abbrev pub no_faults : Plan
-no_faults = record { failing = []; stop = None; leaves = NoneWritten; calls = 0 }
+no_faults = record { failing = []; failing_from = None; leaves = NoneWritten; calls = 0 }
 
 -- The call with this number is to fail.
 abbrev pub FailsAt : Plan → ℕ → Type 0
-FailsAt plan call = Contains plan.failing call ⊎ IsSomeAnd plan.stop (λ first. first ≤ call)
+FailsAt plan call = Contains plan.failing call ⊎ IsSomeAnd plan.failing_from (λ first. first ≤ call)
 
 -- the plan after a call; the count of calls stands still at its end
 abbrev pub one_call_more : Plan → Plan

@@ -9,7 +9,7 @@ use std::marker::Model;
 #[derive(Drop)]
 pub struct FaultPlan {
     failing: Vec<u64>,
-    stop: Option<u64>,
+    failing_from: Option<u64>,
     leaves: Pick,
     calls: u64,
 }
@@ -19,7 +19,7 @@ impl Model for FaultPlan {
 
     ghost Value = { Plan };
 
-    ghost view = { λ p. record { failing = p.failing.items; stop = p.stop; leaves = p.leaves; calls = p.calls } };
+    ghost view = { λ p. record { failing = p.failing.items; failing_from = p.failing_from; leaves = p.leaves; calls = p.calls } };
 }
 
 impl FaultPlan {
@@ -28,7 +28,7 @@ impl FaultPlan {
     {
         FaultPlan {
             failing: Vec::new(alloc),
-            stop: None,
+            failing_from: None,
             leaves: Pick::NoneWritten,
             calls: 0,
         }
@@ -39,7 +39,7 @@ impl FaultPlan {
         ensures { self.new ≡ no_faults }
     {
         self.failing.clear();
-        self.stop = None;
+        self.failing_from = None;
         self.leaves = Pick::NoneWritten;
         self.calls = 0;
     }
@@ -66,11 +66,11 @@ impl FaultPlan {
         self.leaves = leaves;
     }
 
-    /// All calls from this one on are to fail, in place of those from an earlier stop on.
-    pub fn stop_after(&mut self, first: u64)
-        ensures { self.new ≡ record self.old { stop = Some first } }
+    /// All calls from this one on are to fail, in place of those from an earlier such call on.
+    pub fn fail_from(&mut self, first: u64)
+        ensures { self.new ≡ record self.old { failing_from = Some first } }
     {
-        self.stop = Some(first);
+        self.failing_from = Some(first);
     }
 
     /// Whether the next call is to fail. It counts the call.
@@ -80,7 +80,7 @@ impl FaultPlan {
     {
         let call = self.calls;
         self.calls = call.saturating_add(1);
-        self.failing.contains(&call) || self.stop.is_some_and(|first| first <= call)
+        self.failing.contains(&call) || self.failing_from.is_some_and(|first| first <= call)
     }
 
     /// What the next call leaves of its block, if it is a write, where it is to fail. It counts the call.

@@ -88,7 +88,7 @@ fn calls_fail_where_they_are_to(rt: HostRuntime) -> Result<(), Fail> {
     for failing in 0..4 {
         let mut devices = MemDevices::blank(alloc, &[4])?;
         devices.fail_at(&[failing])?;
-        devices.stop_after(4);
+        devices.fail_from(4);
         let mut block = vec![in alloc; 1; 4096]?;
         let read = devices.read(0, 3, &mut block).is_err();
         let written = devices.write(0, 3, &block).is_err();

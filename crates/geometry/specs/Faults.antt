@@ -1,5 +1,7 @@
--- Which device a fault names, and the faults of calls on devices as faults of reading superblocks.
-use Rattle.std.specs.Prelude.{ℕ, Option, Some, None, Result, Ok, Err}
+-- Which device a fault names, which one failed between two counts, and the faults of calls on devices as faults of reading superblocks.
+use Rattle.std.specs.Prelude.{ℕ, Option, Some, None, Result, Ok, Err, slice_index_or}
+use Rattle.vol_types.specs.Faults.{RoseBy}
+use Rattle.dev_model.specs.Devices.{FaultCounts}
 use Rattle.geometry.specs.declared.fault.DiskFault.{DiskFault}
 use Rattle.geometry.specs.declared.fault.DiskFault.TheVariants as of_disk
 use Rattle.geometry.specs.declared.fault.SuperFault.{SuperFault}
@@ -33,3 +35,11 @@ super_fault_device NoMemory = None
 abbrev pub failed_super_device : {T : Type 0} → Result T SuperFault → Option ℕ
 failed_super_device (Ok value) = None
 failed_super_device (Err fault) = super_fault_device fault
+
+-- A call of this device failed in between: its count rose, or stands at its end.
+abbrev pub DeviceFailed : ℕ → FaultCounts → FaultCounts → Type 0
+DeviceFailed dev old new = RoseBy 1 (slice_index_or old.calls dev 0) (slice_index_or new.calls dev 0)
+
+-- A call of some device failed in between.
+abbrev pub SomeFailed : FaultCounts → FaultCounts → Type 0
+SomeFailed old new = (dev : ℕ) × DeviceFailed dev old new

@@ -2,6 +2,7 @@ pub mod Layouts
 pub mod LayoutFacts
 pub mod Superblocks
 pub mod Faults
+pub mod FaultLaws
 pub mod Sessions
 pub mod Mirrors
 pub mod SessionLaws

@@ -4,7 +4,7 @@ use Rattle.std.specs.Int.{w64, to_le_bytes, from_le_bytes}
 use Rattle.std.specs.Str.{bytes_eq}
 use Rattle.sha2.specs.Sha256.{sha256}
 use Rattle.sealed_block.specs.declared.heads.Head.{Head}
-use Rattle.sealed_block.specs.Blocks.{spelling}
+use Rattle.sealed_block.specs.Blocks.{encoding}
 use Rattle.sealed_block.specs.Opening.{opened, payload_in}
 use Rattle.dev_model.specs.Disk.{Image, block_at}
 use Rattle.vol_types.specs.declared.layout.Layout.{Layout}
@@ -30,7 +30,7 @@ session_head id session = record {
 
 -- the bytes of that block
 unfoldable pub session_block : List ℕ → ℕ → List ℕ
-session_block id session = spelling (session_head id session) (to_le_bytes w64 session)
+session_block id session = encoding (session_head id session) (to_le_bytes w64 session)
 
 -- it is the head of a session's block, in this block
 abbrev pub is_session_head : List ℕ → ℕ → ℕ → Head → Bool

@@ -7,7 +7,7 @@ use Rattle.std.specs.Str.{bytes_eq}
 use Rattle.std.specs.Simd.{first_chunks}
 use Rattle.sha2.specs.Sha256.{sha256}
 use Rattle.sealed_block.specs.declared.heads.Head.{Head}
-use Rattle.sealed_block.specs.Blocks.{spelling}
+use Rattle.sealed_block.specs.Blocks.{encoding}
 use Rattle.sealed_block.specs.Opening.{field, opened, payload_in}
 use Rattle.dev_model.specs.Disk.{Image}
 use Rattle.vol_types.specs.declared.layout.Layout.{Layout}
@@ -38,7 +38,7 @@ super_head layout dev block sequence = record {
 
 -- the bytes of that copy
 unfoldable pub super_block : Layout → ℕ → ℕ → ℕ → List ℕ
-super_block layout dev block sequence = spelling (super_head layout dev block sequence) (super_payload layout dev)
+super_block layout dev block sequence = encoding (super_head layout dev block sequence) (super_payload layout dev)
 
 -- a copy of a superblock: its head and its payload
 abbrev pub Copy : Type 0

@@ -18,7 +18,7 @@ mod tests;
 pub use copies::{SuperCopy, read_counting};
 pub use fault::{DiskFault, SuperFault};
 pub use laws::{layouts_have_places, layouts_stay, sessions_stay, written_layouts_are_read};
-pub use layouts::{have_room, is_layout, is_layout_of};
+pub use layouts::{have_room, is_layout_of};
 pub use mirrors::{flush_device, flush_devices, settle_mirrors, write_device, write_mirrors};
 pub use reading::read_block;
 pub use sessions::{read_session, session_bytes, session_named, session_place, write_session};

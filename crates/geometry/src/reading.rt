@@ -7,7 +7,7 @@ ghost use Rattle.geometry.specs.Faults.{failed_device};
 use crate::fault::DiskFault;
 use dev_model::Devices;
 use std::alloc::{AllocError, Global};
-use vol_types::Bytes;
+use vol_types::{BLOCK_SIZE, Bytes};
 
 /// A block's bytes. It costs one read, and takes memory for the block.
 pub fn read_block<D: Devices>(
@@ -23,7 +23,7 @@ pub fn read_block<D: Devices>(
     ensures cause { (D.state devices.new).faults ≡ after_reads (failed_device result) (D.state devices.old).faults }
     ensures device { IfSome (failed_device result) (λ failed. failed ≡ dev) }
 {
-    let mut bytes = vec![in alloc; 0; 4096]?;
+    let mut bytes = vec![in alloc; 0; BLOCK_SIZE]?;
     match devices.read(dev, block, &mut bytes) {
         Ok(()) => Ok(Bytes::from(bytes)),
         Err(_) => Err(DiskFault::DeviceFault(dev)),

@@ -17,7 +17,7 @@ use dev_model::Devices;
 use sealed_block::{Head, SESSION, payload, seal, sealed_blocks_open, unseal};
 use std::alloc::{AllocError, Global};
 use vol_digest::digest;
-use vol_types::{Bytes, Layout};
+use vol_types::{BLOCK_SIZE, Bytes, Layout};
 
 /// The block of each metadata device in which a session is sealed: 4 or 5, by turns.
 pub fn session_place(session: u64) -> u32
@@ -62,7 +62,7 @@ fn sealed_session(alloc: Global, id: &[u8; 16], session: u64) -> Result<Bytes, A
     ensures named { IfOk result (λ bytes. session_named id.now (session_place session) bytes ≡ Some session) }
     ensures size { IfOk result (λ bytes. length bytes ≡ 4096) }
 {
-    let mut bytes = vec![in alloc; 0; 4096]?;
+    let mut bytes = vec![in alloc; 0; BLOCK_SIZE]?;
     session_bytes(id, session, &mut bytes);
     Ok(Bytes::from(bytes))
 }

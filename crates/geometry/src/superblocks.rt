@@ -7,7 +7,8 @@ ghost use Rattle.dev_model.specs.Disk.{as_read};
 ghost use Rattle.dev_model.specs.Frames.{AreOnlyRead, after_reads};
 ghost use Rattle.sealed_block.specs.Blocks.{IsInRanges};
 ghost use Rattle.geometry.specs.Faults.{failed_device, failed_super_device};
-ghost use Rattle.geometry.specs.Layouts.{is_layout, is_layout_of};
+ghost use Rattle.vol_types.specs.Layouts.{is_layout};
+ghost use Rattle.geometry.specs.Layouts.{is_layout_of};
 ghost use Rattle.geometry.specs.Superblocks.{IsSuperAnswer};
 ghost use Rattle.geometry.specs.Superblocks.{all_there, copy_in, counting, layout_in, super_block, super_copy, super_head, super_payload};
 

@@ -4,8 +4,8 @@ ghost use Rattle.dev_model.specs.Disk.{NothingPending};
 
 use crate::reading::sizes_of;
 use crate::{
-    DiskFault, SuperFault, have_room, is_layout, is_layout_of, read_session, read_super,
-    session_bytes, session_named, session_place, write_session, write_super,
+    DiskFault, SuperFault, have_room, is_layout_of, read_session, read_super, session_bytes,
+    session_named, session_place, write_session, write_super,
 };
 use dev_model::{Devices, MemDevices};
 use sealed_block::{Head, SUPERBLOCK, seal};
@@ -37,7 +37,7 @@ fn copy_of(
     block: u32,
     sequence: u64,
 ) -> Result<Bytes, Fail> {
-    if !is_layout(layout) || dev as usize >= layout.blocks.len() {
+    if !layout.is_valid() || dev as usize >= layout.blocks.len() {
         return Err(Fail::from("the layout has no such device"));
     }
     let mut bytes = vec![in alloc; 0xff; 4096]?;
@@ -159,7 +159,7 @@ fn layouts_and_sizes(rt: HostRuntime) -> Result<(), Fail> {
         ([1024, 1_048_592], false),
         ([1024, 2056], false),
     ] {
-        assert_eq!(rt; is_layout(&layout_on(alloc, ID, &sizes)?), stands);
+        assert_eq!(rt; layout_on(alloc, ID, &sizes)?.is_valid(), stands);
     }
     for (journal, meta, replicas, stands) in [
         (256, 2, 2, true),
@@ -174,7 +174,7 @@ fn layouts_and_sizes(rt: HostRuntime) -> Result<(), Fail> {
         layout.journal = journal;
         layout.metadata_replicas = meta;
         layout.data_replicas = replicas;
-        assert_eq!(rt; is_layout(&layout), stands);
+        assert_eq!(rt; layout.is_valid(), stands);
     }
     let layout = layout_on(alloc, ID, &[1024, 2048])?;
     assert!(rt; is_layout_of(&[1030, 2048], &layout));

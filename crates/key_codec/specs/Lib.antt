@@ -1,5 +1,13 @@
-pub mod Formats
+pub mod Appending
+pub mod Combined
 pub mod Exact
-pub mod Kinds
+pub mod FieldLaws
+pub mod Formats
+pub mod ItemLoop
+pub mod KeyLaws
 pub mod Keys
+pub mod KindLaws
+pub mod Kinds
+pub mod LengthLaws
+pub mod ListLaws
 pub mod Reading

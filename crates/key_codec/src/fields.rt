@@ -151,7 +151,7 @@ pub(crate) fn name_at(field: u8, bytes: &[u8]) -> Result<(&[u8], &[u8]), KeyFaul
 }
 
 /// Appends a byte. What stood in `into` before stands there still, whatever comes; so with all calls that append.
-#[tactic(auto, using(crate::proofs::Appending::appending), unfolding(crate::specs::Formats::u8_byte))]
+#[tactic(auto, using(crate::specs::Appending::appending), unfolding(crate::specs::Formats::u8_byte))]
 pub fn put_u8(into: &mut Bytes, number: u8) -> Result<(), AllocError>
     ensures ok { OnOk result (into.new ≡ into.old ++ u8_byte.encode number) }
     ensures kept { into.new ≡ into.old ++ drop (length into.old) into.new }
@@ -161,7 +161,7 @@ pub fn put_u8(into: &mut Bytes, number: u8) -> Result<(), AllocError>
 }
 
 /// Appends a number in four bytes.
-#[tactic(auto, using(crate::proofs::Appending::appending), unfolding(crate::specs::Formats::u32_le))]
+#[tactic(auto, using(crate::specs::Appending::appending), unfolding(crate::specs::Formats::u32_le))]
 pub fn put_u32(into: &mut Bytes, number: u32) -> Result<(), AllocError>
     ensures ok { OnOk result (into.new ≡ into.old ++ u32_le.encode number) }
     ensures width { number < 2 ^ 32 }
@@ -171,7 +171,7 @@ pub fn put_u32(into: &mut Bytes, number: u32) -> Result<(), AllocError>
 }
 
 /// Appends a number in eight bytes.
-#[tactic(auto, using(crate::proofs::Appending::appending), unfolding(crate::specs::Formats::u64_le))]
+#[tactic(auto, using(crate::specs::Appending::appending), unfolding(crate::specs::Formats::u64_le))]
 pub fn put_u64(into: &mut Bytes, number: u64) -> Result<(), AllocError>
     ensures ok { OnOk result (into.new ≡ into.old ++ u64_le.encode number) }
     ensures width { number < 2 ^ 64 }
@@ -181,7 +181,7 @@ pub fn put_u64(into: &mut Bytes, number: u64) -> Result<(), AllocError>
 }
 
 /// Appends the bytes.
-#[tactic(auto, using(crate::proofs::Appending::appending))]
+#[tactic(auto, using(crate::specs::Appending::appending))]
 pub(crate) fn put_bytes(into: &mut Bytes, bytes: &[u8]) -> Result<(), AllocError>
     ensures ok { OnOk result (into.new ≡ into.old ++ bytes.now) }
     ensures width { AreBytes bytes.now }

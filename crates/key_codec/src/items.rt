@@ -67,7 +67,7 @@ pub(crate) fn counted_at<T: Item>(
 }
 
 /// Appends the members.
-#[tactic(auto, using(crate::proofs::Appending::appending), unfolding(crate::specs::Formats::items))]
+#[tactic(auto, using(crate::specs::Appending::appending), unfolding(crate::specs::Formats::items))]
 pub(crate) fn put_items<T: Item>(into: &mut Bytes, members: &[T]) -> Result<(), AllocError>
     requires { All T.Writable members.now }
     ensures ok { OnOk result (into.new ≡ into.old ++ (items T.format (length members.now)).encode members.now) }
@@ -81,7 +81,7 @@ pub(crate) fn put_items<T: Item>(into: &mut Bytes, members: &[T]) -> Result<(), 
 }
 
 /// Appends the count of the members, and the members. It is encoded alike under each field number and greatest count.
-#[tactic(auto, using(crate::proofs::Appending::appending), unfolding(crate::specs::Formats::counted, crate::specs::Formats::ranged))]
+#[tactic(auto, using(crate::specs::Appending::appending), unfolding(crate::specs::Formats::counted, crate::specs::Formats::ranged))]
 pub(crate) fn put_counted<T: Item>(into: &mut Bytes, members: &[T]) -> Result<(), AllocError>
     requires few { length members.now ≤ 255 }
     requires each { All T.Writable members.now }

@@ -1,5 +1,5 @@
 ghost use Rattle.std.specs.Prelude.{◌≡◌, ◌<◌, ◌^◌, ◌++◌, length, drop, OnOk};
-ghost use Rattle.vol_types.specs.Ranges.{IsExtent, IsNode, most_links, most_bytes};
+ghost use Rattle.vol_types.specs.Ranges.{IsExtent, IsNode};
 ghost use Rattle.vol_types.specs.Widths.{PosFits, ExtentFits, SnapFits, NodeFits};
 ghost use Rattle.key_codec.specs.Kinds.{position, inode_fields, extent_fields, snap_fields, live_fields, node_fields};
 ghost use Rattle.key_codec.specs.Reading.{Gives};
@@ -32,7 +32,7 @@ pub fn position_at(bytes: &[u8]) -> Result<(Pos, &[u8]), KeyFault>
 }
 
 /// Appends the position.
-#[tactic(auto, using(crate::proofs::Appending::appending), unfolding(crate::specs::Kinds::position))]
+#[tactic(auto, using(crate::specs::Appending::appending), unfolding(crate::specs::Kinds::position))]
 pub fn put_position(into: &mut Bytes, pos: &Pos) -> Result<(), AllocError>
     ensures ok { OnOk result (into.new ≡ into.old ++ position.encode pos.now) }
     ensures width { OnOk result (PosFits pos.now) }
@@ -49,33 +49,13 @@ pub(crate) fn inode_at(bytes: &[u8]) -> Result<(Inode, &[u8]), KeyFault>
     ensures { Gives (λ x. (x.0, x.1.now)) result (inode_fields.read bytes.now) }
 {
     let (kind, rest) = file_kind_at(1, bytes)?;
-    let (links, rest) = u32_within(2, 1, most_links(kind), rest)?;
-    let (size, rest) = u64_up_to(3, most_bytes(kind), rest)?;
+    let (links, rest) = u32_within(2, 1, kind.most_links(), rest)?;
+    let (size, rest) = u64_up_to(3, kind.most_bytes(), rest)?;
     Ok((Inode { kind, links, size }, rest))
 }
 
-// The most links that an inode of this kind has.
-fn most_links(kind: FileKind) -> u32
-    ensures { result ≡ most_links kind }
-{
-    match kind {
-        FileKind::File => 255,
-        FileKind::Directory => 1,
-    }
-}
-
-// The greatest size of an inode of this kind, in bytes.
-fn most_bytes(kind: FileKind) -> u64
-    ensures { result ≡ most_bytes kind }
-{
-    match kind {
-        FileKind::File => 16_777_216,
-        FileKind::Directory => 0,
-    }
-}
-
 /// Appends the inode.
-#[tactic(auto, using(crate::proofs::Appending::appending), unfolding(crate::specs::Kinds::inode_fields, crate::specs::Kinds::file_kind, crate::specs::Formats::ranged))]
+#[tactic(auto, using(crate::specs::Appending::appending), unfolding(crate::specs::Kinds::inode_fields, crate::specs::Kinds::file_kind, crate::specs::Formats::ranged))]
 pub(crate) fn put_inode(into: &mut Bytes, inode: &Inode) -> Result<(), AllocError>
     ensures ok { OnOk result (into.new ≡ into.old ++ inode_fields.encode inode.now) }
     ensures kept { into.new ≡ into.old ++ drop (length into.old) into.new }
@@ -97,7 +77,7 @@ pub(crate) fn extent_at(alloc: Global, bytes: &[u8]) -> Result<(Extent, &[u8]), 
 }
 
 /// Appends the extent.
-#[tactic(auto, using(crate::proofs::Appending::appending), unfolding(crate::specs::Kinds::extent_fields, crate::specs::Formats::counted, crate::specs::Formats::ranged))]
+#[tactic(auto, using(crate::specs::Appending::appending), unfolding(crate::specs::Kinds::extent_fields, crate::specs::Formats::counted, crate::specs::Formats::ranged))]
 pub(crate) fn put_extent(into: &mut Bytes, extent: &Extent) -> Result<(), AllocError>
     requires { IsExtent extent.now }
     ensures ok { OnOk result (into.new ≡ into.old ++ extent_fields.encode extent.now) }
@@ -130,7 +110,7 @@ pub(crate) fn snap_at(bytes: &[u8]) -> Result<(Snap, &[u8]), KeyFault>
 }
 
 /// Appends the snapshot id.
-#[tactic(auto, using(crate::proofs::Appending::appending), unfolding(crate::specs::Kinds::snap_fields, crate::specs::Kinds::snap_state, crate::specs::Formats::ranged))]
+#[tactic(auto, using(crate::specs::Appending::appending), unfolding(crate::specs::Kinds::snap_fields, crate::specs::Kinds::snap_state, crate::specs::Formats::ranged))]
 pub(crate) fn put_snap(into: &mut Bytes, snap: &Snap) -> Result<(), AllocError>
     ensures ok { OnOk result (into.new ≡ into.old ++ snap_fields.encode snap.now) }
     ensures width { OnOk result (SnapFits snap.now) }
@@ -153,7 +133,7 @@ pub(crate) fn live_at(bytes: &[u8]) -> Result<(Live, &[u8]), KeyFault>
 }
 
 /// Appends the bucket.
-#[tactic(auto, using(crate::proofs::Appending::appending), unfolding(crate::specs::Kinds::live_fields, crate::specs::Formats::ranged))]
+#[tactic(auto, using(crate::specs::Appending::appending), unfolding(crate::specs::Kinds::live_fields, crate::specs::Formats::ranged))]
 pub(crate) fn put_live(into: &mut Bytes, live: &Live) -> Result<(), AllocError>
     ensures ok { OnOk result (into.new ≡ into.old ++ live_fields.encode live.now) }
     ensures width { OnOk result (live.now.generation < 2 ^ 32) }
@@ -182,7 +162,7 @@ pub fn node_at(alloc: Global, bytes: &[u8]) -> Result<(NodePtr, &[u8]), KeyFault
 }
 
 /// Appends the pointer to a node.
-#[tactic(auto, using(crate::proofs::Appending::appending), unfolding(crate::specs::Kinds::node_fields, crate::specs::Formats::counted, crate::specs::Formats::ranged))]
+#[tactic(auto, using(crate::specs::Appending::appending), unfolding(crate::specs::Kinds::node_fields, crate::specs::Formats::counted, crate::specs::Formats::ranged))]
 pub fn put_node(into: &mut Bytes, node: &NodePtr) -> Result<(), AllocError>
     requires { IsNode node.now }
     ensures ok { OnOk result (into.new ≡ into.old ++ node_fields.encode node.now) }

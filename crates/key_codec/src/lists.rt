@@ -36,7 +36,7 @@ impl Item for Link {
         Ok((Link { number, kind, name }, rest))
     }
 
-    #[tactic(auto, using(crate::proofs::Appending::appending), unfolding(crate::specs::Kinds::link_item, crate::specs::Kinds::name, crate::specs::Kinds::file_kind, crate::specs::Formats::ranged, crate::specs::Formats::raw))]
+    #[tactic(auto, using(crate::specs::Appending::appending), unfolding(crate::specs::Kinds::link_item, crate::specs::Kinds::name, crate::specs::Kinds::file_kind, crate::specs::Formats::ranged, crate::specs::Formats::raw))]
     fn put(&self, into: &mut Bytes) -> Result<(), AllocError> {
         put_u64(into, self.number)?;
         put_u8(into, self.kind.code())?;
@@ -87,7 +87,7 @@ impl Item for Sub {
         ))
     }
 
-    #[tactic(auto, using(crate::proofs::Appending::appending), unfolding(crate::specs::Kinds::sub_item, crate::specs::Kinds::name, crate::specs::Kinds::flag, crate::specs::Formats::ranged, crate::specs::Formats::raw))]
+    #[tactic(auto, using(crate::specs::Appending::appending), unfolding(crate::specs::Kinds::sub_item, crate::specs::Kinds::name, crate::specs::Kinds::flag, crate::specs::Formats::ranged, crate::specs::Formats::raw))]
     fn put(&self, into: &mut Bytes) -> Result<(), AllocError> {
         put_u32(into, self.id)?;
         put_u64(into, self.root)?;
@@ -130,7 +130,7 @@ impl Item for Pointer {
         Ok((Pointer { place, generation }, rest))
     }
 
-    #[tactic(auto, using(crate::proofs::Appending::appending), unfolding(crate::specs::Kinds::pointer_item, crate::specs::Formats::ranged))]
+    #[tactic(auto, using(crate::specs::Appending::appending), unfolding(crate::specs::Kinds::pointer_item, crate::specs::Formats::ranged))]
     fn put(&self, into: &mut Bytes) -> Result<(), AllocError> {
         put_u8(into, self.place.dev)?;
         put_u32(into, self.place.block)?;
@@ -169,7 +169,7 @@ impl Item for Place {
         Ok((Place { dev, block }, rest))
     }
 
-    #[tactic(auto, using(crate::proofs::Appending::appending), unfolding(crate::specs::Kinds::place_item, crate::specs::Formats::ranged))]
+    #[tactic(auto, using(crate::specs::Appending::appending), unfolding(crate::specs::Kinds::place_item, crate::specs::Formats::ranged))]
     fn put(&self, into: &mut Bytes) -> Result<(), AllocError> {
         put_u8(into, self.dev)?;
         put_u32(into, self.block)

@@ -32,7 +32,7 @@ pub fn put_key(
     put
 }
 
-#[tactic(auto, using(crate::proofs::Appending::appending), unfolding(crate::specs::Keys::key_format, crate::specs::Keys::fields_of))]
+#[tactic(auto, using(crate::specs::Appending::appending), unfolding(crate::specs::Keys::key_format, crate::specs::Keys::fields_of))]
 fn put_parts(into: &mut Bytes, pos: &Pos, value: Option<&Value>) -> Result<(), AllocError>
     requires { IsKeyValue (option_copied value) }
     ensures ok { OnOk result (into.new ≡ into.old ++ encoding pos.now (option_copied value.entry)) }
@@ -50,7 +50,7 @@ fn put_parts(into: &mut Bytes, pos: &Pos, value: Option<&Value>) -> Result<(), A
 }
 
 // Appends the fields of the value.
-#[tactic(auto, using(crate::proofs::Appending::appending), unfolding(crate::specs::Keys::fields_of, crate::specs::Kinds::hole_fields, crate::specs::Kinds::names_fields, crate::specs::Kinds::subs_fields, crate::specs::Formats::ranged))]
+#[tactic(auto, using(crate::specs::Appending::appending), unfolding(crate::specs::Keys::fields_of, crate::specs::Kinds::hole_fields, crate::specs::Kinds::names_fields, crate::specs::Kinds::subs_fields, crate::specs::Formats::ranged))]
 fn put_fields(into: &mut Bytes, value: &Value) -> Result<(), AllocError>
     requires { IsValue value.now }
     ensures ok { OnOk result (into.new ≡ into.old ++ fields_of (Some value.now)) }

@@ -9,7 +9,8 @@ use Rattle.dev_model.specs.Disk.{Image, block_at, blocks_of, zeros}
 use Rattle.geometry.specs.declared.copies.SuperCopy.{SuperCopy}
 use Rattle.geometry.specs.declared.fault.SuperFault.TheVariants.{NoSuper}
 use Rattle.geometry.specs.LayoutFacts.{few_devices, has_places}
-use Rattle.geometry.specs.Layouts.{is_layout, is_layout_of}
+use Rattle.vol_types.specs.Layouts.{is_layout}
+use Rattle.geometry.specs.Layouts.{is_layout_of}
 use Rattle.geometry.specs.Sessions.{session_block, session_in, session_named}
 use Rattle.geometry.specs.SessionLaws.{session_is_there}
 use Rattle.geometry.specs.SuperLaws.{block_of, layout_of_copies, no_super}

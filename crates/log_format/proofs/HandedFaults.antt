@@ -1,16 +1,11 @@
 -- What a result that hands on the fault of a call says of the devices.
-use Rattle.std.proofs.Common.{◌≡◌, ◌<◌, ℕ, Option, None, Some, Result, Ok, Err, inl, inr, ap, sym, subst, arith}
-use Rattle.std.specs.Prelude.{IfSome}
+use Rattle.std.proofs.Common.{◌≡◌, ℕ, Option, None, Some, Result, inl, inr, sym, subst}
 use Rattle.std.specs.Result.{IsErrAnd}
 use Rattle.dev_model.specs.Devices.{FaultCounts}
 use Rattle.dev_model.specs.Frames.{AreAfterCalls, after_reads, after_writes}
 use Rattle.geometry.specs.declared.fault.DiskFault.{DiskFault}
 use Rattle.geometry.specs.Faults.{failed_device, fault_device}
-
--- It names the device that the fault names.
-pub handed_device : {T : Type 0} (result : Result T DiskFault) (error : DiskFault) → IsErrAnd result (λ e. e ≡ error) → failed_device result ≡ fault_device error
-handed_device (Ok value) error is = absurd is
-handed_device (Err e) error is = ap fault_device is
+use Rattle.geometry.specs.FaultLaws.{handed_device}
 
 -- Reads are calls,
 pub calls_by_reads : (device : Option ℕ) (old new : FaultCounts) → new ≡ after_reads device old → AreAfterCalls device old new
@@ -29,11 +24,3 @@ calls_then device old mid new same calls = subst (λ (f : FaultCounts). AreAfter
 -- What is said of the device that the fault names is said of the one that the result names.
 pub handed_calls : {T : Type 0} (result : Result T DiskFault) (error : DiskFault) (old new : FaultCounts) → IsErrAnd result (λ e. e ≡ error) → AreAfterCalls (fault_device error) old new → AreAfterCalls (failed_device result) old new
 handed_calls result error old new is calls = subst (λ (dev : Option ℕ). AreAfterCalls dev old new) (sym (handed_device result error is)) calls
-
-pub handed_named : {T : Type 0} (result : Result T DiskFault) (error : DiskFault) (P : ℕ → Type 0) → IsErrAnd result (λ e. e ≡ error) → IfSome (fault_device error) P → IfSome (failed_device result) P
-handed_named result error P is holds = subst (λ (dev : Option ℕ). IfSome dev P) (sym (handed_device result error is)) holds
-
--- The named device is one of so many where it is one of them.
-pub named_below : (device : Option ℕ) (dev count : ℕ) → dev < count → IfSome device (λ failed. failed ≡ dev) → IfSome device (λ failed. failed < count)
-named_below None dev count below is = tt
-named_below (Some failed) dev count below is = omega (arith, below, is)

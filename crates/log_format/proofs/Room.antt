@@ -2,7 +2,8 @@
 use Rattle.std.proofs.Common.{◌≡◌, ℕ, suc, ◌<◌, ◌≤◌, true, List, [], ◌∷◌, length, get_or, refl, arith}
 use Rattle.std.proofs.lemmas.Bool.{and_from, le-leb}
 use Rattle.vol_types.specs.declared.layout.Layout.{Layout}
-use Rattle.geometry.specs.Layouts.{have_room, is_layout, is_layout_of}
+use Rattle.vol_types.specs.Layouts.{is_layout}
+use Rattle.geometry.specs.Layouts.{have_room, is_layout_of}
 
 room_from : (blocks sizes : List ℕ) → length blocks ≡ length sizes → ((dev : ℕ) → dev < length sizes → get_or blocks dev 0 ≤ get_or sizes dev 0) → have_room blocks sizes ≡ true
 room_from [] [] count room = refl

@@ -7,7 +7,7 @@ use Rattle.vol_types.specs.declared.layout.Layout.{Layout}
 use Rattle.dev_model.specs.Disk.{Disk, Image, IsCrashImage, as_read, block_at, blocks_of, sizes_of, zeros}
 use Rattle.dev_model.specs.Devices.{DevicesState, now}
 use Rattle.dev_model.specs.Frames.{DisksStay}
-use Rattle.geometry.specs.Layouts.{is_layout}
+use Rattle.vol_types.specs.Layouts.{is_layout}
 use Rattle.geometry.specs.Sessions.{session_block, session_named}
 use Rattle.geometry.specs.Superblocks.{copy_in, super_block, super_copy}
 use Rattle.log_records.specs.Found.{mounts}

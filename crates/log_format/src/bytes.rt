@@ -3,7 +3,7 @@ ghost use Rattle.dev_model.specs.Devices.{now};
 ghost use Rattle.dev_model.specs.Disk.{as_read, blocks_of, zeros};
 ghost use Rattle.dev_model.specs.Frames.{AreOnlyRead, after_reads};
 ghost use Rattle.geometry.specs.Faults.{failed_device};
-ghost use Rattle.geometry.specs.Layouts.{is_layout};
+ghost use Rattle.vol_types.specs.Layouts.{is_layout};
 ghost use Rattle.geometry.specs.Sessions.{session_block, session_named};
 ghost use Rattle.geometry.specs.Superblocks.{copy_in, super_block, super_copy};
 ghost use Rattle.log_format.specs.Formatting.{spare_beside, spare_block};

@@ -4,7 +4,7 @@ ghost use Rattle.dev_model.specs.Devices.{DevicesState, now};
 ghost use Rattle.dev_model.specs.Disk.{as_read, sizes_of, zeros};
 ghost use Rattle.dev_model.specs.Frames.{AreAfterCalls, DisksStay, GoOn, after_writes};
 ghost use Rattle.geometry.specs.Faults.{failed_device};
-ghost use Rattle.geometry.specs.Layouts.{is_layout};
+ghost use Rattle.vol_types.specs.Layouts.{is_layout};
 ghost use Rattle.geometry.specs.Sessions.{session_block};
 ghost use Rattle.log_records.specs.Found.{mounts};
 ghost use Rattle.log_format.specs.Formatting.{Done, Extend, FormatSurvives, fresh_volume};

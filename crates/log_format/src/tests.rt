@@ -4,7 +4,7 @@ ghost use Rattle.dev_model.specs.Disk.{NothingPending};
 
 use crate::format;
 use dev_model::{Devices, MemDevices};
-use geometry::{DiskFault, is_layout, read_session, read_super};
+use geometry::{DiskFault, read_session, read_super};
 use std::alloc::{AllocError, Global};
 use std::test::Fail;
 use vol_types::{Blocks, Layout};
@@ -37,7 +37,7 @@ fn format_as(
     devices: &mut MemDevices,
     layout: &Layout,
 ) -> Result<Result<(), DiskFault>, Fail> {
-    if !is_layout(layout) || layout.blocks.len() != devices.count() as usize {
+    if !layout.is_valid() || layout.blocks.len() != devices.count() as usize {
         return Err(Fail::from("the devices can't have the layout"));
     }
     Ok(format(alloc, devices, layout))

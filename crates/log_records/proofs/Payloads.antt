@@ -1,4 +1,4 @@
--- The payload of a record is spelled in one way.
+-- The payload of a record has one encoding.
 use Rattle.std.proofs.Common.{◌≡◌, ℕ, ◌^◌, ◌<◌, ◌≤◌, true, cond, List, ◌∷◌, ◌++◌, length, take, drop, get_or, Some, None, ap, ◌∙◌, sym, arith}
 use Rattle.std.specs.Int.{w64, to_le_bytes, from_le_bytes}
 use Rattle.std.specs.Str.{bytes_eq}

@@ -10,7 +10,8 @@ use Rattle.dev_model.specs.Devices.{AreFaultCounts, FaultCounts, risen}
 use Rattle.dev_model.specs.Frames.{AreNoFewer, after_reads}
 use Rattle.plain_forest.specs.Forest.{Forest}
 use Rattle.log_records.specs.Records.{first_of_two, first_record, record_at, record_on}
-use Rattle.log_records.specs.Found.{AreMirrored, DeviceFailed, IsMirroredAt, forest_with_next, log_in, scanned_from}
+use Rattle.geometry.specs.Faults.{DeviceFailed}
+use Rattle.log_records.specs.Found.{AreMirrored, IsMirroredAt, forest_with_next, log_in, scanned_from}
 use Rattle.log_records.specs.declared.files.MadeFile.{MadeFile}
 
 -- What failed at first, failed in all,

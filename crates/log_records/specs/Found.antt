@@ -1,10 +1,8 @@
 -- What an image means: its layout, and the fresh forest after the files that the records of its log make.
-use Rattle.std.specs.Prelude.{◌≡◌, ℕ, zero, suc, ◌<◌, ◌==◌, if◌then◌else◌, List, [], ◌∷◌, codes, slice_index_or, Option, Some, None, Result, Ok, Err, option_and_then}
+use Rattle.std.specs.Prelude.{◌≡◌, ℕ, zero, suc, ◌<◌, ◌==◌, if◌then◌else◌, List, [], ◌∷◌, codes, Option, Some, None, Result, Ok, Err, option_and_then}
 use Rattle.std.specs.Option.{option_map_or}
 use Rattle.std.specs.Result.{result_ok}
-use Rattle.vol_types.specs.Faults.{RoseBy}
 use Rattle.dev_model.specs.Disk.{Image}
-use Rattle.dev_model.specs.Devices.{FaultCounts}
 use Rattle.vol_types.specs.declared.layout.Layout.{Layout}
 use Rattle.geometry.specs.Superblocks.{layout_in}
 use Rattle.geometry.specs.Sessions.{session_in}
@@ -87,14 +85,6 @@ mount_fault_device NoMemory = None
 abbrev pub failed_mount_device : {T : Type 0} → Result T MountFault → Option ℕ
 failed_mount_device (Ok value) = None
 failed_mount_device (Err fault) = mount_fault_device fault
-
--- A call of this device failed in between: its count rose, or stands at its end.
-abbrev pub DeviceFailed : ℕ → FaultCounts → FaultCounts → Type 0
-DeviceFailed dev old new = RoseBy 1 (slice_index_or old.calls dev 0) (slice_index_or new.calls dev 0)
-
--- A call of some device failed in between.
-abbrev pub SomeFailed : FaultCounts → FaultCounts → Type 0
-SomeFailed old new = (dev : ℕ) × DeviceFailed dev old new
 
 -- what the log says, where a session is named
 abbrev pub mounted_if : Layout → Image → Option ℕ → Result Mounted MountFault

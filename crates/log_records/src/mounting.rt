@@ -2,12 +2,12 @@ ghost use Rattle.std.specs.Prelude.{◌≡◌, ◌<◌, ◌≤◌, true, false, 
 ghost use Rattle.dev_model.specs.Devices.{now};
 ghost use Rattle.dev_model.specs.Disk.{as_read};
 ghost use Rattle.dev_model.specs.Frames.{AreOnlyRead};
-ghost use Rattle.geometry.specs.Faults.{failed_device};
+ghost use Rattle.geometry.specs.Faults.{DeviceFailed, SomeFailed, failed_device};
 ghost use Rattle.geometry.specs.Layouts.{is_layout_of};
 ghost use Rattle.geometry.specs.Sessions.{session_in};
 ghost use Rattle.geometry.specs.Superblocks.{layout_in};
 ghost use Rattle.log_records.specs.Records.{record_at};
-ghost use Rattle.log_records.specs.Found.{AreMirrored, DeviceFailed, IsMirroredAt, IsMountAnswer, SomeFailed, failed_mount_device, forest_with_next, log_in};
+ghost use Rattle.log_records.specs.Found.{AreMirrored, IsMirroredAt, IsMountAnswer, failed_mount_device, forest_with_next, log_in};
 
 use crate::blocks::read_record;
 use crate::fault::MountFault;

@@ -4,7 +4,7 @@ ghost use Rattle.dev_model.specs.Disk.{NothingPending};
 
 use crate::{Loaded, MadeFile, MountFault, load, read_record, seal_record};
 use dev_model::{Devices, MemDevices};
-use geometry::{is_layout, session_bytes, write_super};
+use geometry::{session_bytes, write_super};
 use std::alloc::Global;
 use std::test::Fail;
 use vol_digest::digest;
@@ -81,7 +81,7 @@ fn volume(alloc: Global) -> Result<MemDevices, Fail>
         metadata_replicas: 2,
         data_replicas: 1,
     };
-    if !is_layout(&layout) || layout.blocks.len() != 2 {
+    if !layout.is_valid() || layout.blocks.len() != 2 {
         return Err(Fail::from("the layout is one of two devices"));
     }
     let mut devices = MemDevices::blank(alloc, &[1024, 1024])?;

@@ -1,11 +1,11 @@
 -- How many bytes a node would take after changes, change by change.
-use Rattle.std.proofs.Common.{◌≡◌, ℕ, ◌+◌, ◌-◌, ◌*◌, ◌^◌, ◌<◌, ◌≤◌, Bool, true, false, cond, Some, List, [], ◌∷◌, ◌++◌, length, map, take, get_or, refl, sym, ap, ◌∙◌, arith}
+use Rattle.std.proofs.Common.{◌≡◌, ℕ, ◌+◌, ◌-◌, ◌*◌, ◌^◌, ◌<◌, ◌≤◌, Bool, true, false, cond, Some, List, [], ◌∷◌, ◌++◌, length, sym, ap, ◌∙◌, arith}
 use Rattle.std.specs.Prelude.{unwrap_or}
 use Rattle.std.specs.BTreeMap.{is_at}
-use Rattle.std.proofs.lemmas.List.{length-append, map-append, take_more}
+use Rattle.std.proofs.lemmas.List.{length-append}
 use Rattle.vol_types.specs.KeyMaps.{Entries, keys_in}
-use Rattle.vol_types.specs.Maps.{IsMap, value_at, with_value, put_at}
-use Rattle.vol_types.specs.MapLaws.{IsMap-put_at, value_at-put_at, value_at-with_value}
+use Rattle.vol_types.specs.Maps.{IsMap, value_at, with_value}
+use Rattle.vol_types.specs.MapLaws.{value_at-put_at, value_at-with_value}
 use Rattle.vol_types.specs.Positions.{pos_cmp}
 use Rattle.vol_types.specs.PositionLaws.{pos_total}
 use Rattle.vol_types.specs.Sets.{set_length_of}
@@ -13,17 +13,8 @@ use Rattle.vol_types.specs.declared.keys.Key.{Key}
 use Rattle.vol_types.specs.declared.positions.Pos.{Pos}
 use Rattle.node_mem.specs.Counts.{length_of}
 use Rattle.node_mem.specs.Nodes.{with_keys}
-use Rattle.node_mem.proofs.Counting.{length-put_at}
-
--- keys put one after another are joined keys
-pub with_keys-append : (first second : List Key) (entries : Entries) → with_keys (first ++ second) entries ≡ with_keys second (with_keys first entries)
-with_keys-append [] second entries = refl
-with_keys-append (key ∷ first) second entries = with_keys-append first second (put_at pos_cmp key.pos key.value entries)
-
--- with keys put, entries are a map still
-pub IsMap-with_keys : (keys : List Key) (entries : Entries) → IsMap pos_cmp entries → IsMap pos_cmp (with_keys keys entries)
-IsMap-with_keys [] entries rises = rises
-IsMap-with_keys (key ∷ keys) entries rises = IsMap-with_keys keys (put_at pos_cmp key.pos key.value entries) (IsMap-put_at pos_total key.pos key.value entries rises)
+use Rattle.node_mem.specs.CountLaws.{length-put_at}
+use Rattle.node_mem.specs.MergeLaws.{with_keys-append, IsMap-with_keys}
 
 -- After some changes the bytes are counted, and of each position that was changed the length of its key is known.
 pub record IsSizing (entries : Entries) (bytes : ℕ) (done : List Key) (lengths : List (Pos × ℕ)) (after : ℕ) : Type 0 where
@@ -66,7 +57,3 @@ module _ (entries : Entries) (rises : IsMap pos_cmp entries) (bytes : ℕ) (done
         ∙ ap (λ es. length_of (value_at pos_cmp q es)) (sym (with_keys-append done (key ∷ []) entries));
     bound = omega (arith, lt, sizing.bound, length-append done (key ∷ []));
   }
-
--- the keys of the first members of a list and one more
-pub keys_more : {C : Type 0} (key : C → Key) (changes : List C) (i : ℕ) (change : C) → i < length changes → change ≡ get_or changes i change → map key (take (i + 1) changes) ≡ map key (take i changes) ++ key change ∷ []
-keys_more key changes i change lt is = ap (map key) (take_more changes i change lt) ∙ map-append key (take i changes) (get_or changes i change ∷ []) ∙ ap (λ c. map key (take i changes) ++ key c ∷ []) (sym is)

@@ -21,7 +21,7 @@ use Rattle.vol_types.specs.declared.positions.Pos.{Pos}
 use Rattle.vol_types.specs.declared.values.Value.{Value}
 use Rattle.node_mem.specs.Nodes.{Node, IsNode, with_entries, with_keys}
 use Rattle.node_mem.specs.Sets.{AreSetKeys}
-use Rattle.node_mem.proofs.Copies.{insert_entry-greatest}
+use Rattle.vol_types.specs.CopyLaws.{insert_entry-greatest}
 use Rattle.node_mem.proofs.Counting.{node-put_at}
 
 module _ {X Y Z : Type 0} (f : X → Y) (g : X → Z) (P : Y → Type 0) (Q : Z → Type 0) (so : (x : X) → P (f x) → Q (g x)) where

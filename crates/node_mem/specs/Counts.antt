@@ -1,5 +1,5 @@
 -- What a node in memory keeps beside its values: how many bytes they take.
-use Rattle.std.specs.Prelude.{◌≡◌, ℕ, ◌<◌, ◌^◌, Option, Some, None, All, sum_by}
+use Rattle.std.specs.Prelude.{◌≡◌, ℕ, Option, Some, None, sum_by}
 use Rattle.std.specs.Map.{values_of}
 use Rattle.vol_types.specs.KeyMaps.{Entries, keys_in}
 use Rattle.vol_types.specs.Lengths.{key_length_of}
@@ -15,7 +15,6 @@ length_of (Some value) = key_length_of (Some value)
 abbrev pub lengths_of : Entries → ℕ
 lengths_of entries = sum_by (λ value. key_length_of (Some value)) (values_of entries)
 
--- The bytes of a node's set are counted, and those of each key fit 32 bits.
+-- The bytes of a node's set are counted.
 pub record IsCounted (entries : Entries) (bytes : ℕ) : Type 0 where
   pub total : bytes ≡ set_length_of (keys_in entries)
-  pub each : All (λ value. key_length_of (Some value) < 2 ^ 32) (values_of entries)

@@ -8,7 +8,7 @@ use std::collections::BTreeMap;
 use vol_types::{Duplicate, Key, Keys, Pos, Value};
 
 /// Puts a value at a position or takes it away, and gives the one that was there. An `Err` changes nothing.
-pub(crate) fn exchange(
+pub fn exchange(
     entries: &mut BTreeMap<Pos, Value>,
     pos: Pos,
     value: Option<Value>,
@@ -26,23 +26,8 @@ pub(crate) fn exchange(
     }
 }
 
-/// An equal map. It goes over all entries.
-#[tactic(auto, using(crate::proofs::Copies::copy_more))]
-pub(crate) fn copy_map<K: Ord + Duplicate, V: Duplicate>(
-    alloc: Global,
-    map: &BTreeMap<K, V>,
-) -> Result<BTreeMap<K, V>, AllocError>
-    ensures { IfOk result (λ copy. copy.entries ≡ map.now.entries) }
-{
-    let mut copy = BTreeMap::new(alloc);
-    for (key, value) in map.iter() {
-        copy.insert(key.copy(alloc)?, value.copy(alloc)?)?;
-    }
-    Ok(copy)
-}
-
 /// The entries as keys, in their order. It copies each value.
-pub(crate) fn copy_keys(alloc: Global, entries: &BTreeMap<Pos, Value>) -> Result<Keys, AllocError>
+pub fn copy_keys(alloc: Global, entries: &BTreeMap<Pos, Value>) -> Result<Keys, AllocError>
     ensures { IfOk result (λ keys. keys ≡ keys_in entries.now.entries) }
 {
     let mut keys = Keys::new(alloc);

@@ -1,13 +1,16 @@
-ghost use Rattle.std.specs.Prelude.{◌≡◌, ◌+◌, ◌/◌, ◌<◌, ◌≤◌, ◌^◌, ◌++◌, ℕ, List, [], length, All, IsSome, IfSome};
+ghost use Rattle.std.specs.Prelude.{◌≡◌, ◌+◌, ◌/◌, ◌<◌, ◌≤◌, ◌^◌, ◌++◌, ℕ, List, [], Option, length, All, IsSome, IfSome};
 ghost use Rattle.std.specs.Map.{values_of};
 ghost use Rattle.vol_types.specs.KeyMaps.{Entries, keys_in};
-ghost use Rattle.vol_types.specs.Maps.{IsMap};
+ghost use Rattle.vol_types.specs.Maps.{IsMap, put_at, value_at};
 ghost use Rattle.vol_types.specs.Positions.{pos_cmp, IsWithin};
 ghost use Rattle.vol_types.specs.Ranges.{IsKeyValue};
 ghost use Rattle.vol_types.specs.Sets.{set_length_of};
 ghost use Rattle.vol_types.specs.Standing.{MayStand};
 ghost use Rattle.vol_types.specs.declared.keys.Key.{Key as AKey};
 ghost use Rattle.vol_types.specs.declared.positions.Btree.{Btree as ABtree};
+ghost use Rattle.vol_types.specs.declared.positions.Pos.{Pos as APos};
+ghost use Rattle.vol_types.specs.declared.values.Value.{Value as AValue};
+ghost use Rattle.node_mem.specs.Counts.{length_of, lengths_of};
 ghost use Rattle.node_mem.specs.Nodes.{Node, IsNode, with_entries, with_keys, entries_after, entries_up_to, middle_of};
 ghost use Rattle.node_mem.specs.Sets.{AreSetKeys};
 
@@ -31,4 +34,10 @@ pub fn middles_halve()
     ensures stay { (entries : Entries) → IsMap pos_cmp entries → IfSome (middle_of entries) (λ at. length (entries_up_to at entries) ≡ (length entries + 1) / 2) }
     ensures leave { (entries : Entries) → IsMap pos_cmp entries → IfSome (middle_of entries) (λ at. length (entries_after at entries) ≡ length entries / 2) }
     ensures two { (entries : Entries) → 2 ≤ length entries → IsSome (middle_of entries) }
+{}
+
+/// What a set takes after a value is put at a position or taken away, with what was there, and what joined entries take.
+pub fn puts_are_counted()
+    ensures put { (pos : APos) (entries : Entries) → IsMap pos_cmp entries → (value : Option AValue) → set_length_of (keys_in (put_at pos_cmp pos value entries)) + length_of (value_at pos_cmp pos entries) ≡ set_length_of (keys_in entries) + length_of value }
+    ensures joined { (first second : Entries) → lengths_of (first ++ second) ≡ lengths_of first + lengths_of second }
 {}

@@ -10,25 +10,26 @@ ghost use Rattle.vol_types.specs.Ranges.{IsKeyValue};
 ghost use Rattle.node_mem.specs.Nodes.{IsNode, with_keys, entries_after, entries_up_to, first_of, last_of, middle_of, size_of};
 
 mod changes;
-mod entries;
+pub mod entries;
 mod laws;
-mod lengths;
+pub mod lengths;
 mod positions;
 mod sizing;
 mod splitting;
 
-use crate::entries::{copy_keys, copy_map, exchange};
+use crate::entries::{copy_keys, exchange};
 use crate::lengths::{length, total};
 use crate::positions::middle_after;
 use crate::sizing::bytes_after;
-use crate::splitting::{follower, wide};
+use crate::splitting::follower;
 pub use changes::Change;
-pub use laws::{keys_are_merged, middles_halve, nodes_are_sets};
+pub use laws::{keys_are_merged, middles_halve, nodes_are_sets, puts_are_counted};
+pub use splitting::wide;
 use std::alloc::{AllocError, Global};
 use std::collections::{BTreeMap, btree_map};
 use std::marker::Model;
 use std::ops::Bound;
-use vol_types::{Duplicate, Key, Keys, Pos, Value};
+use vol_types::{Duplicate, Key, Keys, Pos, Value, copy_map};
 
 /// How many bytes a set takes before its keys.
 const SET_HEAD: u128 = 56;

@@ -26,7 +26,7 @@ pub(crate) fn middle_after<C: Change>(
 }
 
 // The positions of the entries.
-#[tactic(auto, using(crate::proofs::Copies::copy_key_more))]
+#[tactic(auto, using(vol_types::specs::CopyLaws::copy_key_more))]
 fn positions_of(alloc: Global, entries: &BTreeMap<Pos, Value>) -> Result<BTreeSet<Pos>, AllocError>
     ensures { IfOk result (λ positions. positions.keys ≡ keys_of entries.now.entries) }
 {

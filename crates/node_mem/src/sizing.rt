@@ -1,15 +1,15 @@
-ghost use Rattle.std.specs.Prelude.{◌≡◌, All, IfOk, map, unwrap_or};
+ghost use Rattle.std.specs.Prelude.{◌≡◌, All, IfOk, map};
 ghost use Rattle.std.specs.Map.{values_of};
 ghost use Rattle.vol_types.specs.KeyMaps.{keys_in};
-ghost use Rattle.vol_types.specs.Maps.{value_at, IsMap};
+ghost use Rattle.vol_types.specs.Maps.{IsMap};
 ghost use Rattle.vol_types.specs.Positions.{pos_cmp};
 ghost use Rattle.vol_types.specs.Ranges.{IsValue, IsKeyValue};
 ghost use Rattle.vol_types.specs.Sets.{set_length_of};
-ghost use Rattle.node_mem.specs.Counts.{IsCounted, length_of};
+ghost use Rattle.node_mem.specs.Counts.{IsCounted};
 ghost use Rattle.node_mem.specs.Nodes.{with_keys};
 
 use crate::Change;
-use crate::lengths::{borrowed_length, length_at};
+use crate::lengths::{borrowed_length, length_so_far};
 use std::alloc::{AllocError, Global};
 use std::collections::BTreeMap;
 use vol_types::{Pos, Value};
@@ -41,15 +41,4 @@ pub(crate) fn bytes_after<C: Change>(
         after = after + added as u128 - before as u128;
     }
     Ok(after)
-}
-
-// How many bytes the key at a position takes after some changes, by those at the positions that were changed.
-fn length_so_far(lengths: &BTreeMap<Pos, u32>, entries: &BTreeMap<Pos, Value>, pos: &Pos) -> u32
-    requires { All IsValue (values_of entries.now.entries) }
-    ensures { result ≡ unwrap_or (value_at pos_cmp pos.now lengths.now.entries) (length_of (value_at pos_cmp pos.now entries.now.entries)) }
-{
-    match lengths.get(pos) {
-        Some(length) => *length,
-        None => length_at(entries, pos),
-    }
 }

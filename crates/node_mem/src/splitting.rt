@@ -17,7 +17,7 @@ fn position(inode: u64, offset: u64, snapshot: u32) -> Pos
 }
 
 /// The same position, whose parts have the widths of their types.
-pub(crate) fn wide(pos: &Pos) -> Pos
+pub fn wide(pos: &Pos) -> Pos
     ensures same { result ≡ pos.now }
     ensures fits { PosFits pos.now }
 {

@@ -26,7 +26,7 @@ smaller_own : (x y : ℕ) (o : Option ℕ) → smaller (min x y) o ≡ smaller x
 smaller_own x y None = omega arith
 smaller_own x y (Some z) = omega arith
 
--- a smaller node isn't found behind a first one
+-- a smaller node isn't found after a first one
 later_gone : (node : ℕ) (e : ℕ × ℕ) (es : List (ℕ × ℕ)) → AllByRecursion (λ y. nat_cmp e.0 y ≡ Less) (keys_of es) → node < e.0 → value_at nat_cmp node es ≡ None
 later_gone node e es all lt = choose (value_at nat_cmp node es) refl
   where

@@ -37,7 +37,7 @@ pub record IsKept (numbers : List (ℕ × ℕ)) (oldest : Option ℕ) : Type 0 w
 abbrev pub AreSmallerBefore : List (ℕ × ℕ) → ℕ → ℕ → Type 0
 AreSmallerBefore pins place node = (k : ℕ) (pin : ℕ × ℕ) → k < place → slice_get pins k ≡ Some pin → pin.0 < node
 
--- The node's pin stands at the place, behind all smaller nodes.
+-- The node's pin stands at the place, after all smaller nodes.
 pub record IsPinAt (pins : List (ℕ × ℕ)) (node place : ℕ) : Type 0 where
   pub seq : ℕ
   pub here : slice_get pins place ≡ Some (node, seq)

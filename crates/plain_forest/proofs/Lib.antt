@@ -1,4 +1,3 @@
 pub mod Checks
-pub mod Copies
 pub mod Counting
 pub mod MapLemmas

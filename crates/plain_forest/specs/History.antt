@@ -64,7 +64,7 @@ may_fail Sync (DeviceFault dev) = true
 may_fail Sync (Halted dev tick) = true
 may_fail op reply = false
 
--- The reply is the forest's behind the entries before. A sync answers with a number of commits that stood before it,
+-- The reply is the forest's after the entries before. A sync answers with a number of commits that stood before it,
 -- and at least those up to the same client's entry before it.
 pub record IsAnswer (opening : Forest) (before : History) (entry : Entry) : Type 0 where
   pub count : ℕ
@@ -72,14 +72,14 @@ pub record IsAnswer (opening : Forest) (before : History) (entry : Entry) : Type
   pub at_most : count ≤ commit_count opening before
   pub reply : entry.reply ≡ reply_of entry.client entry.op count (after_all opening before)
 
--- an entry is legal behind those before it where its reply is the forest's, or a failure that its operation may have
+-- an entry is legal after those before it where its reply is the forest's, or a failure that its operation may have
 abbrev pub IsLegalEntry : Forest → History → Entry → Type 0
 IsLegalEntry opening before entry = IsAnswer opening before entry ⊎ IsTrue (may_fail entry.op entry.reply)
 
--- each entry of a history is so behind those before it
+-- each entry of a history is so after those before it
 abbrev pub EachEntry : (History → Entry → Type 0) → History → Type 0
 EachEntry IsSo history = (place : ℕ) (entry : Entry) → slice_get history place ≡ Some entry → IsSo (take place history) entry
 
--- a history is legal from a forest where each entry is legal behind those before it
+-- a history is legal from a forest where each entry is legal after those before it
 abbrev pub IsLegal : Forest → History → Type 0
 IsLegal opening history = EachEntry (IsLegalEntry opening) history

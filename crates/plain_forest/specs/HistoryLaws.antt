@@ -59,13 +59,13 @@ module _ (IsSo : History → Entry → Type 0) where
   pub EachEntry-none : EachEntry IsSo []
   EachEntry-none place entry is = absurd (none_some entry is)
 
-  -- of one entry more, which is so behind the others
+  -- of one entry more, which is so after the others
   pub EachEntry-push : (history : History) (entry : Entry) → EachEntry IsSo history → IsSo history entry → EachEntry IsSo (history ++ entry ∷ [])
   EachEntry-push history entry so_far next place found is = ⊎_elim
       (λ (before : place < length history).
       subst (λ h. IsSo h found) (sym (take-push history entry place (omega (arith, before)))) (so_far place found (sym (slice_get-push history entry place before) ∙ is)))
-      (λ (behind : length history ≤ place).
-      let last = slice_get-push_last history entry found place behind is in
+      (λ (after : length history ≤ place).
+      let last = slice_get-push_last history entry found place after is in
       let all : take place (history ++ entry ∷ []) ≡ history = ap (λ n. take n (history ++ entry ∷ [])) last.0 ∙ take-push history entry (length history) (omega arith) ∙ take_all (length history) history (omega arith) in
       subst (λ h. IsSo h found) (sym all) (subst (λ e. IsSo history e) last.1 next))
       (cases_lt place (length history))
@@ -74,6 +74,6 @@ module _ (IsSo : History → Entry → Type 0) where
 pub IsLegal-none : (opening : Forest) → IsLegal opening []
 IsLegal-none opening = EachEntry-none (IsLegalEntry opening)
 
--- a legal history goes on by an entry that is legal behind it
+-- a legal history goes on by an entry that is legal after it
 pub IsLegal-push : (opening : Forest) (history : History) (entry : Entry) → IsLegal opening history → IsLegalEntry opening history entry → IsLegal opening (history ++ entry ∷ [])
 IsLegal-push opening history entry legal next = EachEntry-push (IsLegalEntry opening) history entry legal next

@@ -24,7 +24,7 @@ is_good_name name = nat_le 1 (length name) && nat_le (length name) 255 && has_go
 abbrev pub is_good_subvolume_name : List ℕ → Bool
 is_good_subvolume_name name = is_good_name name && has_no_colon name
 
--- a good path has good names, at most 32 of them behind the subvolume's
+-- a good path has good names, at most 32 of them after the subvolume's
 abbrev pub is_good_path : Path → Bool
 is_good_path path = is_good_subvolume_name path.sub && nat_le (length path.names) 32 && list_all is_good_name path.names
 

@@ -3,13 +3,12 @@ ghost use Rattle.plain_forest.specs.Maps.{name_cmp, value_at, with_value};
 ghost use Rattle.plain_forest.specs.Steps.{count_in_slot, check_name};
 
 use crate::Cause;
-use crate::maps::copy_map;
 use crate::operation::refuse_if;
 use std::alloc::{AllocError, Global};
 use std::collections::{BTreeMap, btree_map};
 use std::marker::Model;
 use vol_digest::slot;
-use vol_types::{Bytes, Duplicate};
+use vol_types::{Bytes, Duplicate, copy_map};
 
 /// How many names of a directory may have one slot.
 const NAMES_PER_SLOT: u8 = 8;

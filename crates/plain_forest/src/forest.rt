@@ -5,7 +5,6 @@ ghost use Rattle.plain_forest.specs.Places.{place_of};
 ghost use Rattle.plain_forest.specs.Steps.{result_map, tree_of, new_place, directory_at, with_file, made_file, reply_of, forest_after, refusal_of, next_number, IsFree};
 
 use crate::directory::NameTable;
-use crate::maps::copy_map;
 use crate::operation::refuse_if;
 use crate::place::NewPlace;
 use crate::subvolume::Subvolume;
@@ -13,7 +12,7 @@ use crate::{Cause, Op, Path, Reply};
 use std::alloc::{AllocError, Global};
 use std::collections::BTreeMap;
 use std::marker::Model;
-use vol_types::{Bytes, Duplicate};
+use vol_types::{Bytes, Duplicate, copy_map};
 
 /// How many inode numbers a client has.
 pub const NUMBERS_PER_CLIENT: u64 = 1 << 48;

@@ -6,7 +6,6 @@
 
 mod directory;
 mod forest;
-mod maps;
 mod operation;
 mod path;
 mod place;

@@ -7,13 +7,12 @@ ghost use Rattle.plain_forest.specs.Forest.{Names};
 
 use crate::Cause;
 use crate::directory::NameTable;
-use crate::maps::copy_map;
 use crate::place::NewPlace;
 use std::alloc::{AllocError, Global};
 use std::collections::BTreeMap;
 use std::collections::btree_map::Entry;
 use std::marker::Model;
-use vol_types::{Bytes, Duplicate, FlagList, FlaggedName};
+use vol_types::{Bytes, Duplicate, FlagList, FlaggedName, copy_map};
 
 /// A subvolume with its file tree: by number the bytes of each file and the names of each directory.
 #[derive(Drop)]

@@ -8,7 +8,7 @@ use vol_types::{Bytes, Duplicate, FlagList, FlaggedName, NameList};
 /// A name of one byte more than a name may have.
 static LONG: [u8; 256] = [b'n'; 256];
 
-// The names of a text, each behind a blank but the first.
+// The names of a text, each after a blank but the first.
 fn names(alloc: Global, text: &[u8]) -> Result<NameList, AllocError> {
     let mut list = NameList::new(alloc);
     for name in text.split(|byte| *byte == b' ') {
@@ -122,7 +122,7 @@ fn files_are_made_or_refused(rt: HostRuntime) -> Result<(), Fail> {
     Ok(())
 }
 
-// Bytes above 127 come behind all others, and a name behind each name that begins it.
+// Bytes above 127 come after all others, and a name after each name that begins it.
 #[test]
 fn names_rise_by_their_bytes(rt: HostRuntime) -> Result<(), Fail> {
     let alloc = rt.alloc();

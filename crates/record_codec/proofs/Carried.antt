@@ -6,7 +6,7 @@ use Rattle.vol_types.specs.Btrees.{btree_code}
 use Rattle.key_codec.specs.declared.fault.KeyFault.{KeyFault}
 use Rattle.key_codec.specs.declared.fault.KeyFault.TheVariants.{Short, Kind, Range, Order, NoMemory}
 use Rattle.key_codec.specs.Formats.{FormatOf, carried}
-use Rattle.key_codec.proofs.ItemLoop.{last_of, IsReadTo, stops}
+use Rattle.key_codec.specs.ItemLoop.{last_of, IsReadTo, stops}
 use Rattle.key_codec.specs.Reading as of_keys
 use Rattle.record_codec.specs.Fields.{btree_of}
 use Rattle.record_codec.specs.Reading.{Fails, Gives, key_fault, root_fault}

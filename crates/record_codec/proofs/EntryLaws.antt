@@ -15,9 +15,9 @@ use Rattle.key_codec.specs.Exact.{IsExactBut}
 use Rattle.key_codec.specs.Formats.{u8_byte, u32_le, u64_le, checked, followed, both, items}
 use Rattle.key_codec.specs.Keys.{encoding, key_format}
 use Rattle.key_codec.specs.Kinds as kinds
-use Rattle.key_codec.proofs.Combined.{mapped-exact, checked-exact, followed-exact, both-exact, EncodesAlike, encodings_meet}
-use Rattle.key_codec.proofs.LengthLaws.{length-members, length-node, length-encoding}
-use Rattle.key_codec.proofs.ListLaws.{each-exact}
+use Rattle.key_codec.specs.Combined.{mapped-exact, checked-exact, followed-exact, both-exact, EncodesAlike, encodings_meet}
+use Rattle.key_codec.specs.LengthLaws.{length-members, length-node, length-encoding}
+use Rattle.key_codec.specs.ListLaws.{each-exact}
 use Rattle.record_codec.specs.declared.entries.EntryRecord.{EntryRecord}
 use Rattle.record_codec.specs.declared.fault.RecordFault.TheVariants.{Short, Field}
 use Rattle.vol_types.specs.Standing.{IsUpdate}

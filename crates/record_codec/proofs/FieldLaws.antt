@@ -14,10 +14,10 @@ use Rattle.key_codec.specs.Exact.{IsExactBut}
 use Rattle.key_codec.specs.Formats.{FormatOf, u8_byte, u32_le, u64_le, checked, checked_by, followed, both, items, lifted}
 use Rattle.key_codec.specs.Keys.{kind_number, fields}
 use Rattle.key_codec.specs.Kinds as kinds
-use Rattle.key_codec.proofs.Combined.{u8_byte-exact, mapped-exact, checked-exact, checked_by-exact, followed-exact, both-exact, lifted-exact}
-use Rattle.key_codec.proofs.FieldLaws as of_keys
-use Rattle.key_codec.proofs.KindLaws.{node-exact}
-use Rattle.key_codec.proofs.KeyLaws.{IsOfKind, kinds_known, fields-exact}
+use Rattle.key_codec.specs.Combined.{u8_byte-exact, mapped-exact, checked-exact, checked_by-exact, followed-exact, both-exact, lifted-exact}
+use Rattle.key_codec.specs.FieldLaws as of_keys
+use Rattle.key_codec.specs.KindLaws.{node-exact}
+use Rattle.key_codec.specs.KeyLaws.{IsOfKind, kinds_known, fields-exact}
 use Rattle.record_codec.specs.declared.fault.RecordFault.{RecordFault}
 use Rattle.record_codec.specs.declared.fault.RecordFault.TheVariants.{Short, Key, Field}
 use Rattle.record_codec.specs.Fields.{byte, u32_field, u64_field, position, root, zeros, btree_of, btree, value_in, listing}

@@ -18,9 +18,9 @@ use Rattle.key_codec.specs.Exact.{IsExactBut}
 use Rattle.key_codec.specs.Formats.{u8_byte, u32_le, u64_le, checked, followed, both, items, is_above}
 use Rattle.key_codec.specs.Keys.{encoding, key_format}
 use Rattle.key_codec.specs.Kinds as kinds
-use Rattle.key_codec.proofs.Combined.{mapped-exact, checked-exact, followed-exact, both-exact, EncodesAlike, encodings_meet}
-use Rattle.key_codec.proofs.LengthLaws.{length-members, length-position, length-encoding}
-use Rattle.key_codec.proofs.ListLaws.{above_from_test, test_from_above, RisesBy, AreRising, rising-exact}
+use Rattle.key_codec.specs.Combined.{mapped-exact, checked-exact, followed-exact, both-exact, EncodesAlike, encodings_meet}
+use Rattle.key_codec.specs.LengthLaws.{length-members, length-position, length-encoding}
+use Rattle.key_codec.specs.ListLaws.{above_from_test, test_from_above, RisesBy, AreRising, rising-exact}
 use Rattle.record_codec.specs.declared.fault.RecordFault.TheVariants.{Short, Order}
 use Rattle.record_codec.specs.declared.sets.SetHead.{SetHead}
 use Rattle.record_codec.specs.declared.sets.SetRecord.{SetRecord}

@@ -4,7 +4,7 @@ use Rattle.std.specs.Prelude.{IfOk}
 use Rattle.vol_types.specs.Widths.{AreBytes}
 use Rattle.key_codec.specs.Exact.{IsExactBut}
 use Rattle.key_codec.specs.Formats.{FormatOf, ◌>>=◌}
-use Rattle.key_codec.proofs.Combined.{bind_ok}
+use Rattle.key_codec.specs.Combined.{bind_ok}
 use Rattle.record_codec.specs.declared.fault.RecordFault.{RecordFault}
 use Rattle.record_codec.specs.declared.fault.RecordFault.TheVariants.{Short}
 use Rattle.record_codec.specs.Reading.{Gives}

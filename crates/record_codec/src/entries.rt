@@ -108,7 +108,7 @@ fn roots_at(alloc: Global, bytes: &[u8]) -> Result<(Roots, &[u8]), RecordFault>
 }
 
 // Appends the four numbers of the entry.
-#[tactic(auto, using(key_codec::proofs::Appending::appending))]
+#[tactic(auto, using(key_codec::specs::Appending::appending))]
 fn put_numbers(into: &mut Bytes, entry: &EntryRecord) -> Result<(), AllocError>
     ensures ok { OnOk result (into.new ≡ into.old ++ u64_le.encode entry.now.sequence ++ u64_le.encode entry.now.oldest ++ u64_le.encode entry.now.session ++ u64_le.encode entry.now.commits) }
     ensures sequence { OnOk result (entry.now.sequence < 2 ^ 64) }
@@ -153,7 +153,7 @@ impl Written for Update {
 
     ghost Fits = { UpdateFits };
 
-    #[tactic(auto, using(key_codec::proofs::Appending::appending), unfolding(key_codec::specs::Formats::u8_byte))]
+    #[tactic(auto, using(key_codec::specs::Appending::appending), unfolding(key_codec::specs::Formats::u8_byte))]
     fn put(&self, alloc: Global, into: &mut Bytes) -> Result<(), AllocError> {
         put_u8(into, self.btree.code())?;
         put_u8(into, self.level)?;

@@ -164,7 +164,7 @@ fn set_head_at(bytes: &[u8]) -> Result<(SetHead, &[u8]), RecordFault>
 }
 
 // Appends what stands before the number of keys.
-#[tactic(auto, using(key_codec::proofs::Appending::appending), unfolding(crate::specs::Sets::set_head, crate::specs::Fields::u64_field, crate::specs::Fields::btree, crate::specs::Fields::byte, crate::specs::Fields::zeros, crate::specs::Fields::position))]
+#[tactic(auto, using(key_codec::specs::Appending::appending), unfolding(crate::specs::Sets::set_head, crate::specs::Fields::u64_field, crate::specs::Fields::btree, crate::specs::Fields::byte, crate::specs::Fields::zeros, crate::specs::Fields::position))]
 fn put_set_head(into: &mut Bytes, head: &SetHead) -> Result<(), AllocError>
     ensures ok { OnOk result (into.new ≡ into.old ++ set_head.encode head.now) }
     ensures width { OnOk result (HeadFits head.now) }

@@ -95,6 +95,13 @@ impl<D: Devices, O: Opening> RecordLog<D, O> {
         }
     }
 
+    /// The devices on which it lies.
+    pub fn devices(&self) -> &D
+        ensures { result.now ≡ self.now.devices }
+    {
+        &self.devices
+    }
+
     /// How many commits the session has.
     pub fn commits(&self) -> u64
         ensures { result ≡ commit_count O.forest self.now.trace }

@@ -7,7 +7,7 @@ ghost use Rattle.record_log.specs.Log.{IsFlat};
 
 use crate::{Finished, RecordLog, begin_session};
 use dev_model::{Devices, MemDevices, Pick};
-use geometry::{is_layout, read_session, session_bytes, write_super};
+use geometry::{read_session, session_bytes, write_super};
 use log_records::{Loaded, load, make_file_op};
 use plain_forest::{Cause, Op, Path, Reply, Trace};
 use session_history::Opening;
@@ -39,7 +39,7 @@ fn volume(alloc: Global) -> Result<MemDevices, Fail> {
         metadata_replicas: 2,
         data_replicas: 1,
     };
-    if !is_layout(&layout) || layout.blocks.len() != 2 {
+    if !layout.is_valid() || layout.blocks.len() != 2 {
         return Err(Fail::from("the layout is one of two devices"));
     }
     let mut devices = MemDevices::blank(alloc, &[1024, 1024])?;

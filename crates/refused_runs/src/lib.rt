@@ -1,10 +1,10 @@
-//! Runs and formats that are refused, for their words, their script or their devices: what they print, and that nothing is
+//! Runs and formats that are refused, for their arguments, their script or their devices: what they print, and that nothing is
 //! touched. The crate holds tests alone.
 #![tactic(auto)]
 
 #[cfg(test)]
+mod arguments;
+#[cfg(test)]
 mod mounts;
 #[cfg(test)]
 mod scripts;
-#[cfg(test)]
-mod words;

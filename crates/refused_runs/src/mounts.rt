@@ -148,7 +148,7 @@ fn each_run_raises_the_session(rt: HostRuntime) -> Result<(), Fail> {
     Ok(())
 }
 
-// Behind session 4,294,967,295 there is none.
+// After session 4,294,967,295 there is none.
 #[test]
 fn the_last_session_is_spent(rt: HostRuntime) -> Result<(), Fail> {
     let alloc = rt.alloc();

@@ -16,7 +16,7 @@ fn is_refused(alloc: Global, script: &[u8], line: &[u8]) -> Result<bool, AllocEr
     )
 }
 
-// The words are looked at before the source, the source before what it gives, and that before the device.
+// The arguments are looked at before the source, the source before what it gives, and that before the device.
 #[test]
 fn the_first_cause_is_told(rt: HostRuntime) -> Result<(), Fail> {
     let alloc = rt.alloc();
@@ -26,12 +26,12 @@ fn the_first_cause_is_told(rt: HostRuntime) -> Result<(), Fail> {
         (&["run"], &[], b"x\n", 2, b"error 2 line 1 not-built\n"),
         (&["run"], &[], b"sync\n", 6, b"error 6 device 0\n"),
     ];
-    for (words, failing, script, status, line) in cases {
+    for (arguments, failing, script, status, line) in cases {
         let mut devices = one_device(alloc)?;
         fail(&mut devices, 0, true)?;
         let mut source = MemSource::new(alloc, script, failing)?;
         let sink = MemSink::new(alloc, &[])?;
-        let ran = run_over(alloc, words, &mut source, sink, devices)?;
+        let ran = run_over(alloc, arguments, &mut source, sink, devices)?;
         assert_eq!(rt; ran.status, status);
         assert_eq!(rt; ran.sink.held(), line);
         assert_eq!(rt; ran.trace.len(), 0);
@@ -40,7 +40,7 @@ fn the_first_cause_is_told(rt: HostRuntime) -> Result<(), Fail> {
     Ok(())
 }
 
-// Two blanks, a CR, an empty line, a comment and a `%`, each behind a good line; no line runs.
+// Two blanks, a CR, an empty line, a comment and a `%`, each after a good line; no line runs.
 #[test]
 fn bad_lines_are_refused(rt: HostRuntime) -> Result<(), Fail> {
     let alloc = rt.alloc();

@@ -1,3 +1,3 @@
 pub mod LineCuts
-pub mod Spelling
+pub mod OneOperation
 pub mod ScriptLemmas

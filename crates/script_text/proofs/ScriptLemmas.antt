@@ -9,7 +9,7 @@ use Rattle.script_text.specs.declared.reading.Line.{Line}
 use Rattle.script_text.specs.declared.reading.LineFault.{LineFault}
 use Rattle.script_text.specs.declared.reading.ScriptFault.{ScriptFault}
 use Rattle.script_text.specs.declared.reading.ScriptFault.TheVariants.{Bad, NoMemory}
-use Rattle.script_text.proofs.Spelling.{one_said, not_both}
+use Rattle.script_text.proofs.OneOperation.{one_said, not_both}
 
 same_line : (a b : Line) → a.line ≡ b.line → a.client ≡ b.client → a.op ≡ b.op → a ≡ b
 same_line a b line client op =
@@ -61,29 +61,29 @@ pub record IsReadTo (text rest : List ℕ) (script : List Line) : Type 0 where
 
 module _ (text rest : List ℕ) (script : List Line) (read : IsReadTo text rest script) where
   -- a line more is read
-  pub read_on : (line behind : List ℕ) (entry : Line) → lines_of rest ≡ line ∷ lines_of behind → length script + 1 + length behind ≤ length text
-      → IsLine (length script + 1) line entry → IsReadTo text behind (script ++ entry ∷ [])
-  read_on line behind entry cut room is = record {
+  pub read_on : (line later : List ℕ) (entry : Line) → lines_of rest ≡ line ∷ lines_of later → length script + 1 + length later ≤ length text
+      → IsLine (length script + 1) line entry → IsReadTo text later (script ++ entry ∷ [])
+  read_on line later entry cut room is = record {
     before = read.before ++ line ∷ [];
-    parts = read.parts ∙ ap (λ lines. read.before ++ lines) cut ∙ sym (append_assoc read.before (line ∷ []) (lines_of behind));
+    parts = read.parts ∙ ap (λ lines. read.before ++ lines) cut ∙ sym (append_assoc read.before (line ∷ []) (lines_of later));
     readable = IsScriptFrom-append 1 read.before script line entry read.readable (let number : length script + 1 ≡ 1 + length script = omega arith in subst (λ n. IsLine n line entry) number is);
     room = omega (arith, length-append script (entry ∷ []));
   }
 
   -- what is wrong with the next line is wrong with the text
-  pub read_no_further : (line behind : List ℕ) (fault : ScriptFault) → lines_of rest ≡ line ∷ lines_of behind → IsFaultOfLine (length script + 1) line fault
+  pub read_no_further : (line later : List ℕ) (fault : ScriptFault) → lines_of rest ≡ line ∷ lines_of later → IsFaultOfLine (length script + 1) line fault
       → IsFaultOf (lines_of text) fault
-  read_no_further line behind (Bad number cause) cut found = record {
+  read_no_further line later (Bad number cause) cut found = record {
     before = read.before;
     bad = line;
-    after = lines_of behind;
+    after = lines_of later;
     parts = read.parts ∙ ap (λ lines. read.before ++ lines) cut;
     place = omega (arith, found.0, length-script 1 read.before script read.readable);
     script = script;
     readable = read.readable;
     fault = found.1;
   }
-  read_no_further line behind NoMemory cut found = tt
+  read_no_further line later NoMemory cut found = tt
 
 -- where nothing is left, the script is whole
 pub read_whole : (text : List ℕ) (script : List Line) → IsReadTo text [] script → IsScript (lines_of text) script

@@ -17,7 +17,7 @@ escaped_byte byte = if is_plain byte then byte ∷ [] else 37 ∷ digit_glyph tr
 abbrev pub escaped : List ℕ → List ℕ
 escaped name = flat_map escaped_byte name
 
--- a name in a listing stands after a space, and has `/` behind it where it is a directory's
+-- a name in a listing stands after a space, and has `/` after it where it is a directory's
 abbrev pub listed_name : FlaggedName → List ℕ
 listed_name entry = codes " " ++ escaped entry.name ++ (if entry.flag == 2 then codes "/" else [])
 

@@ -32,7 +32,7 @@ pub record IsFirstBad (texts : List (List ℕ)) (number : ℕ) (cause : LineFaul
   pub readable : IsScript before script
   pub fault : HasFault bad cause
 
--- the lines have this fault; want of memory says nothing of them
+-- the lines have this fault; out of memory says nothing of them
 abbrev pub IsFaultOf : List (List ℕ) → ScriptFault → Type 0
 IsFaultOf texts (Bad number cause) = IsFirstBad texts number cause
 IsFaultOf texts NoMemory = Unit {0}

@@ -8,7 +8,7 @@ use plain_forest::{Op, Path};
 use std::alloc::{AllocError, Global};
 use vol_types::{Bytes, NameList};
 
-/// What a line spells, with its words where they stand in the line.
+/// What a line reads as, with its words where they stand in the line.
 #[derive(Clone, Copy)]
 pub(crate) enum Command<'a> {
     /// `mkfile` of this name in the root of `main`.
@@ -20,7 +20,7 @@ pub(crate) enum Command<'a> {
 }
 
 impl<'a> Command<'a> {
-    /// What the line spells. It takes no memory.
+    /// What the line reads as. It takes no memory.
     pub(crate) fn parse(line: &'a [u8]) -> Result<Self, LineFault>
         ensures ok { IfOk result (λ command. Says line.now (Some (op_of command))) }
         ensures err { IfErr result (HasFault line.now) }

@@ -1,13 +1,13 @@
 ghost use Rattle.std.specs.Prelude.{◌≡◌, ℕ, List};
 ghost use Rattle.plain_forest.specs.declared.operation.Op.{Op};
-ghost use Rattle.script_text.specs.Grammar.{Spells};
+ghost use Rattle.script_text.specs.Grammar.{ReadsAs};
 ghost use Rattle.script_text.specs.Scripts.{IsScript, IsFirstBad};
 ghost use Rattle.script_text.specs.declared.reading.Line.{Line};
 ghost use Rattle.script_text.specs.declared.reading.LineFault.{LineFault};
 
-/// A line spells at most one operation.
+/// A line reads as at most one operation.
 pub fn one_operation()
-    ensures { (line : List ℕ) (a b : Op) → Spells line a → Spells line b → a ≡ b }
+    ensures { (line : List ℕ) (a b : Op) → ReadsAs line a → ReadsAs line b → a ≡ b }
 {}
 
 /// Lines have at most one script.

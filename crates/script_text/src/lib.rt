@@ -5,7 +5,7 @@
 //! from 33 to 126 other than `%` and `/`. LF ends a line, and the last line may lack it. Client 0 runs all lines.
 //!
 //! The line of a reply is `@CLIENT LINE TEXT`, with the number of the line that it answers. In a listing a byte of a
-//! name that doesn't print, a blank or a `%` is written as `%` and two upper-case hex digits, and `/` stands behind a
+//! name that doesn't print, a blank or a `%` is written as `%` and two upper-case hex digits, and `/` stands after a
 //! directory's name.
 #![tactic(auto)]
 

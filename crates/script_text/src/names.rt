@@ -9,21 +9,21 @@ pub(crate) fn is_byte_plain(byte: u8) -> bool
     byte.is_ascii_graphic() && byte != b'%'
 }
 
-// Whether the byte may spell a name.
+// Whether the byte may stand in a name.
 fn is_byte_of_name(byte: u8) -> bool
     ensures { result ≡ is_name_byte byte }
 {
     is_byte_plain(byte) && byte != b'/'
 }
 
-// Whether each byte may spell a name.
+// Whether each byte may stand in a name.
 fn are_bytes_of_name(name: &[u8]) -> bool
     ensures { result ≡ list_all is_name_byte name.now }
 {
     name.iter().all(|byte| is_byte_of_name(*byte))
 }
 
-/// Whether the bytes spell a name.
+/// Whether the bytes are a name.
 pub(crate) fn is_name_word(name: &[u8]) -> bool
     ensures { result ≡ is_name name.now }
 {

@@ -26,7 +26,7 @@ pub type Script = Listing<Line>;
 /// Why a line can't be run.
 #[derive(Clone, Copy, Debug, PartialEq, Eq)]
 pub enum LineFault {
-    /// It spells no operation that is built.
+    /// It reads as no operation that is built.
     NotBuilt,
 }
 
@@ -68,10 +68,10 @@ pub fn read_script(alloc: Global, text: &[u8]) -> Result<Script, ScriptFault>
     let mut script = Script::new(alloc);
     let mut rest = text;
     while !rest.is_empty() {
-        let (line, behind) = cut_line(rest);
+        let (line, later) = cut_line(rest);
         let number = script.len() as u32 + 1;
         script.push(read_line(alloc, number, line)?)?;
-        rest = behind;
+        rest = later;
     }
     Ok(script)
 }

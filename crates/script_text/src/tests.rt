@@ -77,7 +77,7 @@ fn bad_lines_are_named(rt: HostRuntime) {
     }
 }
 
-// The line of a reply to line 1 of client 0, behind a byte that was there before.
+// The line of a reply to line 1 of client 0, after a byte that was there before.
 fn printed(alloc: Global, reply: &Reply) -> Result<Bytes, AllocError> {
     let mut into = Bytes::from_slice(alloc, b">".as_slice())?;
     reply_line(&mut into, alloc, 0, 1, reply)?;

@@ -38,9 +38,9 @@ first_fault blocks first p (Some h) result fault begins opens within below (inr 
 same_head : (block : List ℕ) (g h : Head) → opened block ≡ Some g → opened block ≡ Some h → g ≡ h
 same_head block g h opens also = cc
 
--- There is no part behind the blocks.
-no_part_behind : (blocks : List (List ℕ)) → IsPart blocks (length blocks) → ⊥
-no_part_behind blocks part =
+-- There is no part after the blocks.
+no_part_after : (blocks : List (List ℕ)) → IsPart blocks (length blocks) → ⊥
+no_part_after blocks part =
     let o = opens_from_opened (block_at blocks (length blocks)) part.head part.opens in
     let empty : block_at blocks (length blocks) ≡ [] = get_or_past blocks (length blocks) [] (omega arith) in
     let size = length-block (block_at blocks (length blocks)) _ _ o in
@@ -54,8 +54,8 @@ record StopsAt (blocks : List (List ℕ)) (p : ℕ) : Type 0 where
 one_stop : (blocks : List (List ℕ)) (p q : ℕ) → StopsAt blocks p → StopsAt blocks q → p ≡ q
 one_stop blocks p q s t =
     let not_before : p < q → ⊥ = λ lt. s.ends (t.below p lt) in
-    let not_behind : q < p → ⊥ = λ lt. t.ends (s.below q lt) in
-    omega (arith, not_before, not_behind)
+    let not_after : q < p → ⊥ = λ lt. t.ends (s.below q lt) in
+    omega (arith, not_before, not_after)
 
 stops_not_sealed : (blocks : List (List ℕ)) (p : ℕ) → IsFirstFault blocks (NotSealed p) → StopsAt blocks p
 stops_not_sealed blocks p fault = record { below = fault.0; ends = λ part. let opens = part.opens in let shut = fault.2 in cc }
@@ -69,10 +69,10 @@ foreign_part blocks p foreign part =
 
 stops_foreign : (blocks : List (List ℕ)) (p : ℕ) → IsFirstFault blocks (Foreign p) → StopsAt blocks p
 stops_foreign blocks p (below, inl foreign) = record { below = below; ends = foreign_part blocks p foreign.1 }
-stops_foreign blocks p (below, inr missing) = record { below = below; ends = subst (λ k. IsPart blocks k → ⊥) (sym missing.ends) (no_part_behind blocks) }
+stops_foreign blocks p (below, inr missing) = record { below = below; ends = subst (λ k. IsPart blocks k → ⊥) (sym missing.ends) (no_part_after blocks) }
 
 stops_all : (blocks : List (List ℕ)) (first : Head) → AreAllParts blocks first → StopsAt blocks (length blocks)
-stops_all blocks first all = record { below = subst (ArePartsBelow blocks) (sym all.count) all.parts; ends = no_part_behind blocks }
+stops_all blocks first all = record { below = subst (ArePartsBelow blocks) (sym all.count) all.parts; ends = no_part_after blocks }
 
 all_not_sealed : (blocks : List (List ℕ)) (first : Head) (p : ℕ) → AreAllParts blocks first → IsFirstFault blocks (NotSealed p) → ⊥
 all_not_sealed blocks first p all fault =
@@ -123,14 +123,14 @@ no_fault blocks payload Digest whole f =
     f.differs (ap sha256 (sym whole.joined) ∙ whole.digest ∙ ap (λ h. h.whole) same)
 no_fault blocks payload NoMemory whole f = f
 
--- whether a fault is want of memory
+-- whether a fault is that of memory
 is_memory : (fault : JoinFault) → (fault ≡ NoMemory) ⊎ (fault ≢ NoMemory)
 is_memory (NotSealed p) = inr (λ e. cc)
 is_memory (Foreign p) = inr (λ e. cc)
 is_memory Digest = inr (λ e. cc)
 is_memory NoMemory = inl refl
 
--- A result that is a record, or the first fault, or want of memory.
+-- A result that is a record, or the first fault, or out of memory.
 pub each_record : (blocks : List (List ℕ)) (result : Result (List ℕ) JoinFault) → IfOk result (IsRecord blocks) → IfErr result (λ fault. fault ≢ NoMemory → IsFirstFault blocks fault) → (payload : List ℕ) → IsRecord blocks payload → IsUnlessNoMemory result (Ok payload)
 each_record blocks (Ok joined) is fails payload whole = inl (ap (λ xs. Ok xs) (is.joined ∙ sym whole.joined))
 each_record blocks (Err fault) is fails payload whole =

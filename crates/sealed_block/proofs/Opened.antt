@@ -11,66 +11,66 @@ use Rattle.std.specs.Str.{bytes_eq}
 use Rattle.sha2.specs.Sha256.{sha256}
 use Rattle.sha2.proofs.Facts256.{length-sha256}
 use Rattle.sealed_block.specs.declared.heads.Head.{Head}
-use Rattle.sealed_block.specs.Blocks.{AreBytes, HasWidths, IsInRanges, Opens, covered, head_bytes, spelling}
+use Rattle.sealed_block.specs.Blocks.{AreBytes, HasWidths, IsInRanges, Opens, covered, head_bytes, encoding}
 use Rattle.sealed_block.specs.Opening.{field, head_in, is_in_ranges, opened, payload_in}
 use Rattle.sealed_block.proofs.Bytes.{AreBytes-Decides, AreBytes-sha256, from_le_bytes-lt_8}
 use Rattle.sealed_block.proofs.Fields.{AreBytes-head_bytes, head_in-head_bytes, length-head_bytes}
 
--- the zeros behind a payload
-abbrev zeros_behind : List ℕ → List ℕ
-zeros_behind payload = replicate (3968 - length payload) 0
+-- the zeros after a payload
+abbrev zeros_after : List ℕ → List ℕ
+zeros_after payload = replicate (3968 - length payload) 0
 
 -- What the digest covers is 4,064 bytes.
 pub length-covered : (h : Head) (payload : List ℕ) → HasWidths h → length payload ≤ 3968 → length (covered h payload) ≡ 4064
 unfolding covered
 length-covered h payload widths fits =
-    omega (arith, length-append (head_bytes h ++ payload) (zeros_behind payload), length-append (head_bytes h) payload, length-head_bytes h widths, length-replicate {A = ℕ} (3968 - length payload) 0)
+    omega (arith, length-append (head_bytes h ++ payload) (zeros_after payload), length-append (head_bytes h) payload, length-head_bytes h widths, length-replicate {A = ℕ} (3968 - length payload) 0)
 
--- A spelled block is 4,096 bytes.
-pub length-spelling : (h : Head) (payload : List ℕ) → HasWidths h → length payload ≤ 3968 → length (spelling h payload) ≡ 4096
-unfolding spelling
-length-spelling h payload widths fits =
+-- An encoded block is 4,096 bytes.
+pub length-encoding : (h : Head) (payload : List ℕ) → HasWidths h → length payload ≤ 3968 → length (encoding h payload) ≡ 4096
+unfolding encoding
+length-encoding h payload widths fits =
     omega (arith, length-append (covered h payload) (sha256 (covered h payload)), length-covered h payload widths fits, length-sha256 (covered h payload))
 
 AreBytes-covered : (h : Head) (payload : List ℕ) → HasWidths h → IsInRanges h → AreBytes payload → AreBytes (covered h payload)
 unfolding covered
 AreBytes-covered h payload widths ranges are =
-    All-append (λ b. b < 256) (head_bytes h ++ payload) (zeros_behind payload)
+    All-append (λ b. b < 256) (head_bytes h ++ payload) (zeros_after payload)
     (All-append (λ b. b < 256) (head_bytes h) payload (AreBytes-head_bytes h widths ranges) are)
     (All-replicate (λ b. b < 256) (3968 - length payload) 0 (omega arith))
 
 -- A sealed block is bytes.
 pub AreBytes-block : (block : List ℕ) (h : Head) (payload : List ℕ) → Opens block h payload → AreBytes block
-unfolding spelling
+unfolding encoding
 AreBytes-block block h payload o =
-    All-same (λ b. b < 256) block _ o.spelled
+    All-same (λ b. b < 256) block _ o.encoded
     (All-append (λ b. b < 256) (covered h payload) (sha256 (covered h payload)) (AreBytes-covered h payload o.widths o.ranges o.bytes) (AreBytes-sha256 (covered h payload)))
 
 -- A sealed block is 4,096 bytes.
 pub length-block : (block : List ℕ) (h : Head) (payload : List ℕ) → Opens block h payload → length block ≡ 4096
-length-block block h payload o = ap length o.spelled ∙ length-spelling h payload o.widths (omega (arith, o.fills, o.ranges.length))
+length-block block h payload o = ap length o.encoded ∙ length-encoding h payload o.widths (omega (arith, o.fills, o.ranges.length))
 
-regrouped : (front payload zeros digest : List ℕ) → front ++ payload ++ zeros ++ digest ≡ front ++ (payload ++ (zeros ++ digest))
-regrouped front payload zeros digest = simp append_assoc
+regrouped : (prefix payload zeros digest : List ℕ) → prefix ++ payload ++ zeros ++ digest ≡ prefix ++ (payload ++ (zeros ++ digest))
+regrouped prefix payload zeros digest = simp append_assoc
 
--- a spelled block is its head and the rest
-spelling-regrouped : (h : Head) (payload : List ℕ) → spelling h payload ≡ head_bytes h ++ (payload ++ (zeros_behind payload ++ sha256 (covered h payload)))
-unfolding spelling covered
-spelling-regrouped h payload = regrouped (head_bytes h) payload (zeros_behind payload) (sha256 (covered h payload))
+-- an encoded block is its head and the rest
+encoding-regrouped : (h : Head) (payload : List ℕ) → encoding h payload ≡ head_bytes h ++ (payload ++ (zeros_after payload ++ sha256 (covered h payload)))
+unfolding encoding covered
+encoding-regrouped h payload = regrouped (head_bytes h) payload (zeros_after payload) (sha256 (covered h payload))
 
 -- The head that a sealed block names is its own.
 pub head_in-block : (block : List ℕ) (h : Head) (payload : List ℕ) → Opens block h payload → head_in block ≡ h
 head_in-block block h payload o =
-    ap head_in (o.spelled ∙ spelling-regrouped h payload) ∙ head_in-head_bytes h (payload ++ (zeros_behind payload ++ sha256 (covered h payload))) o.widths o.ranges
+    ap head_in (o.encoded ∙ encoding-regrouped h payload) ∙ head_in-head_bytes h (payload ++ (zeros_after payload ++ sha256 (covered h payload))) o.widths o.ranges
 
 -- The payload that a sealed block names is its own.
 pub payload_in-block : (block : List ℕ) (h : Head) (payload : List ℕ) → Opens block h payload → payload_in block ≡ payload
 unfolding payload_in
 payload_in-block block h payload o =
     let size : (head_in block).length ≡ length payload = ap (λ g. g.length) (head_in-block block h payload o) ∙ sym o.fills in
-    let rest = zeros_behind payload ++ sha256 (covered h payload) in
-    let behind : drop 96 block ≡ payload ++ rest = ap (drop 96) (o.spelled ∙ spelling-regrouped h payload) ∙ drop_at (head_bytes h) (payload ++ rest) 96 (length-head_bytes h o.widths) in
-    ap (λ n. take n (drop 96 block)) size ∙ ap (take (length payload)) behind ∙ take_at payload rest (length payload) refl
+    let rest = zeros_after payload ++ sha256 (covered h payload) in
+    let later : drop 96 block ≡ payload ++ rest = ap (drop 96) (o.encoded ∙ encoding-regrouped h payload) ∙ drop_at (head_bytes h) (payload ++ rest) 96 (length-head_bytes h o.widths) in
+    ap (λ n. take n (drop 96 block)) size ∙ ap (take (length payload)) later ∙ take_at payload rest (length payload) refl
 
 -- A sealed block is sealed with the head and the payload that it names.
 pub opens_as_named : (block : List ℕ) (h : Head) (payload : List ℕ) → Opens block h payload → Opens block (head_in block) (payload_in block)
@@ -107,7 +107,7 @@ is_in_ranges-Decides h =
 
 -- the test of a block
 abbrev is_sealed : List ℕ → Bool
-is_sealed block = length block == 4096 && list_all (λ b. nat_lt b 256) block && is_in_ranges (head_in block) && bytes_eq block (spelling (head_in block) (payload_in block))
+is_sealed block = length block == 4096 && list_all (λ b. nat_lt b 256) block && is_in_ranges (head_in block) && bytes_eq block (encoding (head_in block) (payload_in block))
 
 -- 4,096 bytes hold the payload that their head names, where its length is in range.
 fills-payload_in : (block : List ℕ) → length block ≡ 4096 → (head_in block).length ≤ 3968 → length (payload_in block) ≡ (head_in block).length
@@ -119,13 +119,13 @@ unfolding payload_in
 AreBytes-payload_in block are = All-take (λ b. b < 256) (head_in block).length (drop 96 block) (All-drop (λ b. b < 256) 96 block are)
 
 -- Bytes in the form of a block are sealed as they name.
-pub opens_where : (block : List ℕ) → length block ≡ 4096 → AreBytes block → IsInRanges (head_in block) → block ≡ spelling (head_in block) (payload_in block) → Opens block (head_in block) (payload_in block)
-opens_where block size are ranges spelled = record {
+pub opens_where : (block : List ℕ) → length block ≡ 4096 → AreBytes block → IsInRanges (head_in block) → block ≡ encoding (head_in block) (payload_in block) → Opens block (head_in block) (payload_in block)
+opens_where block size are ranges encoded = record {
   widths = HasWidths-head_in block size are;
   ranges = ranges;
   bytes = AreBytes-payload_in block are;
   fills = fills-payload_in block size ranges.length;
-  spelled = spelled;
+  encoded = encoded;
 }
 
 -- The test of a block says whether it is sealed with the head and the payload that it names.
@@ -133,8 +133,8 @@ is_sealed-Decides : (block : List ℕ) → Decides (is_sealed block) (Opens bloc
 is_sealed-Decides block =
     Decides-like (is_sealed block)
     (λ facts. opens_where block facts.0.0.0 facts.0.0.1 facts.0.1 facts.1)
-    (λ o. (((length-block block _ _ o, AreBytes-block block _ _ o), o.ranges), o.spelled))
-    (Decides-and _ _ (Decides-and _ _ (Decides-and _ _ (Decides-eqb (length block) 4096) (AreBytes-Decides block)) (is_in_ranges-Decides (head_in block))) (bytes_eq-Decides block (spelling (head_in block) (payload_in block))))
+    (λ o. (((length-block block _ _ o, AreBytes-block block _ _ o), o.ranges), o.encoded))
+    (Decides-and _ _ (Decides-and _ _ (Decides-and _ _ (Decides-eqb (length block) 4096) (AreBytes-Decides block)) (is_in_ranges-Decides (head_in block))) (bytes_eq-Decides block (encoding (head_in block) (payload_in block))))
 
 -- A sealed block opens with its head.
 pub opened-block : (block : List ℕ) (h : Head) (payload : List ℕ) → Opens block h payload → opened block ≡ Some h

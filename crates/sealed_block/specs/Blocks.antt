@@ -1,4 +1,4 @@
--- The form of a sealed block: 4,096 bytes, which are a head of 96, a payload of up to 3,968 with zeros behind it, and the digest of all that.
+-- The form of a sealed block: 4,096 bytes, which are a head of 96, a payload of up to 3,968 with zeros after it, and the digest of all that.
 use Rattle.std.specs.Prelude.{◌≡◌, ℕ, ◌-◌, ◌^◌, ◌<◌, ◌≤◌, List, [], ◌∷◌, ◌++◌, length, All, codes, replicate}
 use Rattle.std.specs.Int.{w16, w32, w64, IsInRange, to_le_bytes}
 use Rattle.sha2.specs.Sha256.{sha256}
@@ -26,7 +26,7 @@ pub record IsInRanges (h : Head) : Type 0 where
   pub parts : h.parts ≤ 64
   pub length : h.length ≤ 3968
 
--- the first 96 bytes of a block: the head's fields behind the magic
+-- the first 96 bytes of a block: the head's fields after the magic
 unfoldable pub head_bytes : Head → List ℕ
 head_bytes h =
     codes "bvolseal"
@@ -42,8 +42,8 @@ unfoldable pub covered : Head → List ℕ → List ℕ
 covered h payload = head_bytes h ++ payload ++ replicate (3968 - length payload) 0
 
 -- the block with this head and this payload
-unfoldable pub spelling : Head → List ℕ → List ℕ
-spelling h payload = covered h payload ++ sha256 (covered h payload)
+unfoldable pub encoding : Head → List ℕ → List ℕ
+encoding h payload = covered h payload ++ sha256 (covered h payload)
 
 -- The block is sealed, with this head and this payload. The digest of the whole record isn't judged.
 pub record Opens (block : List ℕ) (h : Head) (payload : List ℕ) : Type 0 where
@@ -51,4 +51,4 @@ pub record Opens (block : List ℕ) (h : Head) (payload : List ℕ) : Type 0 whe
   pub ranges : IsInRanges h
   pub bytes : AreBytes payload
   pub fills : length payload ≡ h.length
-  pub spelled : block ≡ spelling h payload
+  pub encoded : block ≡ encoding h payload

@@ -4,7 +4,7 @@ use Rattle.std.specs.Int.{w16, w32, w64, is_in_range, from_le_bytes}
 use Rattle.std.specs.List.{list_all}
 use Rattle.std.specs.Str.{bytes_eq}
 use Rattle.sealed_block.specs.declared.heads.Head.{Head}
-use Rattle.sealed_block.specs.Blocks.{spelling}
+use Rattle.sealed_block.specs.Blocks.{encoding}
 
 -- so many bytes of the block from this place on
 abbrev pub field : List ℕ → ℕ → ℕ → List ℕ
@@ -36,6 +36,6 @@ is_in_ranges h = is_in_range 1 4 h.kind && is_in_range 1 255 h.version && nat_lt
 -- the head of a block that is sealed, and none of another block
 unfoldable pub opened : List ℕ → Option Head
 opened block =
-    if length block == 4096 && list_all (λ b. nat_lt b 256) block && is_in_ranges (head_in block) && bytes_eq block (spelling (head_in block) (payload_in block))
+    if length block == 4096 && list_all (λ b. nat_lt b 256) block && is_in_ranges (head_in block) && bytes_eq block (encoding (head_in block) (payload_in block))
     then Some (head_in block)
     else None

@@ -17,6 +17,6 @@ pub fn opened_blocks_are_sealed()
 {}
 
 /// A block has one head and one payload.
-pub fn one_spelling()
+pub fn one_encoding()
     ensures { (block : List ℕ) (h g : AHead) (payload other : List ℕ) → Opens block h payload → Opens block g other → (h ≡ g) × (payload ≡ other) }
 {}

@@ -30,13 +30,10 @@ mod sealing;
 mod tests;
 
 pub use heads::{Head, JOURNAL_ENTRY, NODE_SET, SESSION, SUPERBLOCK};
-pub use laws::{one_spelling, opened_blocks_are_sealed, sealed_blocks_open};
+pub use laws::{one_encoding, opened_blocks_are_sealed, sealed_blocks_open};
 pub use opening::{payload, unseal};
 pub use records::{JoinFault, join_parts};
 pub use sealing::seal;
-
-/// The bytes of a block.
-pub const BLOCK_BYTES: usize = 4096;
 
 /// How many bytes of payload fit a block.
 pub const PAYLOAD_BYTES: usize = 3968;

@@ -1,13 +1,14 @@
 ghost use Rattle.std.specs.Prelude.{◌≡◌, ◌+◌, ◌-◌, ◌≤◌, ◌↔◌, ℕ, List, Some, length, take, drop, replicate, slice_index, IsTrue, IfSome, IfNone};
 ghost use Rattle.std.specs.Int.{w16, w32, w64, from_le_bytes};
 ghost use Rattle.sealed_block.specs.declared.heads.Head.{Head as AHead};
-ghost use Rattle.sealed_block.specs.Blocks.{HasWidths, Opens, head_bytes, spelling};
+ghost use Rattle.sealed_block.specs.Blocks.{HasWidths, Opens, head_bytes, encoding};
 ghost use Rattle.sealed_block.specs.Opening.{field, head_in, opened, payload_in};
 
 use crate::heads::are_same;
 use crate::sealing::put_head;
-use crate::{BLOCK_BYTES, DIGEST_AT, Head, PAYLOAD_AT};
+use crate::{DIGEST_AT, Head, PAYLOAD_AT};
 use vol_digest::digest;
+use vol_types::BLOCK_SIZE;
 
 /// The head of a sealed block. `None` says that the bytes are no sealed block: they have another length or form, or the
 /// block's digest isn't theirs. It takes no memory, and the time of one digest.
@@ -16,14 +17,14 @@ pub fn unseal(block: &[u8]) -> Option<Head>
     ensures open { IfSome result (λ head. Opens block.now head (payload_in block.now)) }
     ensures shut { IfNone result ((head : AHead) (payload : List ℕ) → Opens block.now head payload → ⊥) }
 {
-    if block.len() != BLOCK_BYTES {
+    if block.len() != BLOCK_SIZE {
         return None;
     }
     let head = head_of(block);
     if !head.is_in_ranges() {
         return None;
     }
-    if !is_spelled(block, &head) {
+    if !is_encoding(block, &head) {
         return None;
     }
     Some(head)
@@ -39,17 +40,17 @@ pub fn payload<'a>(block: &'a [u8], head: &Head) -> &'a [u8]
     payload
 }
 
-// Whether the block is what its head and its payload are spelled as.
-fn is_spelled(block: &[u8], head: &Head) -> bool
+// Whether the block is the encoding of its head and its payload.
+fn is_encoding(block: &[u8], head: &Head) -> bool
     requires size { length block.now ≡ 4096 }
     requires named { head.now ≡ head_in block.now }
     requires fits { head.now.length ≤ 3968 }
-    ensures { IsTrue result ↔ (block.now ≡ spelling head.now (payload_in block.now)) }
+    ensures { IsTrue result ↔ (block.now ≡ encoding head.now (payload_in block.now)) }
 {
     let (covered, block_digest) = block.split_at(DIGEST_AT);
-    let (front, rest) = covered.split_at(PAYLOAD_AT);
+    let (prefix, rest) = covered.split_at(PAYLOAD_AT);
     let (_, padding) = rest.split_at(head.length as usize);
-    if !are_same(&spelled_head(head), front) {
+    if !are_same(&encoded_head(head), prefix) {
         return false;
     }
     if !are_zeros(padding) {
@@ -58,7 +59,7 @@ fn is_spelled(block: &[u8], head: &Head) -> bool
     are_same(&digest(covered), block_digest)
 }
 
-fn spelled_head(head: &Head) -> [u8; 96]
+fn encoded_head(head: &Head) -> [u8; 96]
     ensures bytes { result ≡ head_bytes head.now }
     ensures widths { HasWidths head.now }
 {

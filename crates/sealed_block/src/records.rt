@@ -6,10 +6,10 @@ ghost use Rattle.sealed_block.specs.Opening.{opened, payload_in};
 ghost use Rattle.sealed_block.specs.Records.{ArePartsBelow, Continues, IsFirstFault, IsRecord, IsUnlessNoMemory, block_at, blocks_of};
 
 use crate::heads::are_same;
-use crate::{BLOCK_BYTES, Head, PAYLOAD_BYTES, payload, unseal};
+use crate::{Head, PAYLOAD_BYTES, payload, unseal};
 use std::alloc::{AllocError, Global};
 use vol_digest::digest;
-use vol_types::Bytes;
+use vol_types::{BLOCK_SIZE, Bytes};
 
 /// Why blocks are no record.
 #[derive(Clone, Copy, Debug, PartialEq, Eq)]
@@ -35,7 +35,7 @@ impl From<AllocError> for JoinFault {
     }
 }
 
-/// The payload of the record whose parts the blocks are, one behind the other. The first fault counts, where the parts
+/// The payload of the record whose parts the blocks are, one after the other. The first fault counts, where the parts
 /// are judged in their order, and each is first opened and then held against part 0; the digest is judged last. It takes
 /// memory for the payload, and the time of two digests of the blocks.
 pub fn join_parts(alloc: Global, blocks: &[u8]) -> Result<Bytes, JoinFault>
@@ -47,11 +47,11 @@ pub fn join_parts(alloc: Global, blocks: &[u8]) -> Result<Bytes, JoinFault>
     ensures each_record { (payload : List ℕ) → IsRecord (blocks_of blocks.now) payload → IsUnlessNoMemory result (Ok payload) }
     ensures each_fault { (fault : AFault) → IsFirstFault (blocks_of blocks.now) fault → IsUnlessNoMemory result (Err fault) }
 {
-    let (parts, _) = blocks.as_chunks::<BLOCK_BYTES>();
+    let (parts, _) = blocks.as_chunks::<BLOCK_SIZE>();
     join_blocks(alloc, parts)
 }
 
-fn join_blocks(alloc: Global, parts: &[[u8; BLOCK_BYTES]]) -> Result<Bytes, JoinFault>
+fn join_blocks(alloc: Global, parts: &[[u8; BLOCK_SIZE]]) -> Result<Bytes, JoinFault>
     requires { 0 < length parts.now }
     ensures joined { IfOk result (IsRecord parts.now) }
     ensures fault { IfErr result (λ fault. fault ≢ NoMemory → IsFirstFault parts.now fault) }
@@ -70,7 +70,7 @@ fn join_blocks(alloc: Global, parts: &[[u8; BLOCK_BYTES]]) -> Result<Bytes, Join
 }
 
 // The joined payloads of the blocks, each of which is the next part of the record that begins with the first head.
-fn payloads_of(alloc: Global, parts: &[[u8; BLOCK_BYTES]], first: &Head) -> Result<Bytes, JoinFault>
+fn payloads_of(alloc: Global, parts: &[[u8; BLOCK_SIZE]], first: &Head) -> Result<Bytes, JoinFault>
     requires begins { opened (block_at parts.now 0) ≡ Some first.now }
     requires room { first.now.parts ≤ 64 }
     ensures joined { IfOk result (λ joined. joined ≡ flat_map payload_in parts.now) }

@@ -1,6 +1,6 @@
 ghost use Rattle.std.specs.Prelude.{◌≡◌, ◌+◌, ◌-◌, ◌≤◌, ◌++◌, length, take, replicate};
 ghost use Rattle.sha2.specs.Sha256.{sha256};
-ghost use Rattle.sealed_block.specs.Blocks.{AreBytes, HasWidths, IsInRanges, Opens, covered, head_bytes, spelling};
+ghost use Rattle.sealed_block.specs.Blocks.{AreBytes, HasWidths, IsInRanges, Opens, covered, head_bytes, encoding};
 
 use crate::{DIGEST_AT, Head, PAYLOAD_AT};
 use vol_digest::digest;
@@ -11,7 +11,7 @@ pub fn seal(head: &Head, payload: &[u8], into: &mut [u8])
     requires ranges { IsInRanges head.now }
     requires fills { length payload.now ≡ head.now.length }
     requires room { length into.old ≡ 4096 }
-    ensures spelled { into.new ≡ spelling head.now payload.now }
+    ensures encoded { into.new ≡ encoding head.now payload.now }
     ensures opens { Opens into.new head.now payload.now }
 {
     put_covered(head, payload, into);
@@ -59,7 +59,7 @@ pub(crate) fn put_head(head: &Head, into: &mut [u8])
     put(into, 64, &head.whole);
 }
 
-// Writes the bytes behind the first `at` ones.
+// Writes the bytes after the first `at` ones.
 fn put(into: &mut [u8], at: usize, bytes: &[u8])
     requires { at + length bytes.now ≤ length into.old }
     ensures written { take (at + length bytes.now) into.new ≡ take at into.old ++ bytes.now }
@@ -68,7 +68,7 @@ fn put(into: &mut [u8], at: usize, bytes: &[u8])
     into[at..at + bytes.len()].copy_from_slice(bytes);
 }
 
-// Writes zeros behind the first `at` bytes, up to `end`.
+// Writes zeros after the first `at` bytes, up to `end`.
 fn put_zeros(into: &mut [u8], at: usize, end: usize)
     requires order { at ≤ end }
     requires room { end ≤ length into.old }

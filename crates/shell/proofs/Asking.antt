@@ -5,7 +5,8 @@ use Rattle.std.proofs.lemmas.Bool.Decides.{nat_tests}
 use Rattle.std.proofs.lemmas.Bool.{false≢true}
 use Rattle.std.proofs.lemmas.Option.{same_Some, none-some, option_and_then_some}
 use Rattle.vol_types.specs.declared.layout.Layout.{Layout}
-use Rattle.geometry.specs.Layouts.{have_room, is_layout}
+use Rattle.vol_types.specs.Layouts.{is_layout}
+use Rattle.geometry.specs.Layouts.{have_room}
 use Rattle.geometry.specs.LayoutFacts.{HasPlaces, has_places}
 use Rattle.command_words.specs.Requests.{request_of}
 use Rattle.command_words.specs.declared.request.FormatRequest.{FormatRequest}

@@ -60,7 +60,7 @@ nothing_opened = fresh_volume (record { id = []; blocks = []; journal = 0; metad
 legal_none : (volume : Mounted) (history : History) → history ≡ [] → IsLegal volume.forest history
 legal_none volume history nothing = subst (IsLegal volume.forest) (sym nothing) (IsLegal-none volume.forest)
 
-module _ {D K : Type 0} (source_tells sink_tells devices_tell : Type 0) (held : K → List ℕ) (run : Run D K) where
+module _ {D K : Type 0} (source_tells sink_tells devices_tell : Type 0) (held given_at : K → List ℕ) (run : Run D K) where
   -- a run that ends early
   pub ended_early : (end : EarlyEnd)
       → EndsEarly sink_tells (early_line end) (early_status end) run.streams.held run.streams.held_after run.faults.sink run.faults.sink_after run.status run.trace run.acks
@@ -70,7 +70,7 @@ module _ {D K : Type 0} (source_tells sink_tells devices_tell : Type 0) (held : 
       → (devices_tell → (volume : Mounted) → Survives volume run.state run.state_after [] [])
       → run.state.moment ≤ run.state_after.moment
       → run.early_end ≡ Some end → run.shorts ≡ []
-      → Headline source_tells sink_tells devices_tell held run
+      → Headline source_tells sink_tells devices_tell held given_at run
   ended_early end ends cause source unmounted survives later early shorts = record {
     opening = nothing_opened;
     mounted = run.state;
@@ -96,7 +96,7 @@ module _ {D K : Type 0} (source_tells sink_tells devices_tell : Type 0) (held : 
   pub formatted : (layout : Layout) → IsFormat run.arguments run.state.sizes layout
       → Formats sink_tells devices_tell layout run.state run.state_after run.streams.held run.streams.held_after run.faults.sink run.faults.sink_after run.status run.early_end run.trace run.acks
       → run.faults.source_after ≡ run.faults.source → run.shorts ≡ []
-      → Headline source_tells sink_tells devices_tell held run
+      → Headline source_tells sink_tells devices_tell held given_at run
   formatted layout format formats source shorts = record {
     opening = fresh_volume layout;
     mounted = run.state;

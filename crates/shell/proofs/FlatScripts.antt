@@ -3,19 +3,19 @@ use Rattle.std.proofs.Common.{ℕ, ◌+◌, List, [], ◌∷◌, Option, Some, N
 use Rattle.std.proofs.lemmas.List.Elements.{All-cons, All-nil}
 use Rattle.plain_forest.specs.declared.operation.Op.{Op}
 use Rattle.plain_forest.specs.declared.operation.Op.TheVariants.{Mkfile, Ls, Sync}
-use Rattle.script_text.specs.Grammar.{Spells, Says}
+use Rattle.script_text.specs.Grammar.{ReadsAs, Says}
 use Rattle.script_text.specs.Scripts.{IsScriptFrom}
 use Rattle.script_text.specs.declared.reading.Line.{Line}
 use Rattle.record_log.specs.Log.{IsFlat}
 use Rattle.shell.specs.Flat.{IsFlatIfAny, IsFlatLine, AreFlat}
 
-spelled_is_flat : (text : List ℕ) (op : Op) → Spells text op → IsFlat op
-spelled_is_flat text (Mkfile path) spells = (spells.name, spells.place)
-spelled_is_flat text (Ls path) spells = tt
-spelled_is_flat text Sync spells = tt
+read_is_flat : (text : List ℕ) (op : Op) → ReadsAs text op → IsFlat op
+read_is_flat text (Mkfile path) reads = (reads.name, reads.place)
+read_is_flat text (Ls path) reads = tt
+read_is_flat text Sync reads = tt
 
 said_is_flat : (text : List ℕ) (said : Option Op) → Says text said → IsFlatIfAny said
-said_is_flat text (Some op) says = spelled_is_flat text op says
+said_is_flat text (Some op) says = read_is_flat text op says
 said_is_flat text None says = tt
 
 pub script_is_flat : (number : ℕ) (texts : List (List ℕ)) (script : List Line) → IsScriptFrom number texts script → AreFlat script

@@ -1,10 +1,10 @@
 -- What comes after a state of devices, call by call of a session.
-use Rattle.std.proofs.Common.{◌≡◌, inl, inr, ℕ, zero, suc, false, List, [], ◌∷◌, refl, ap, ◌∙◌, sym, subst, arith, Option, Some, None}
+use Rattle.std.proofs.Common.{◌≡◌, inl, inr, ℕ, false, refl, ap, ◌∙◌, sym, subst, arith, Option, Some, None}
 use Rattle.std.specs.Prelude.{◌≢◌}
 use Rattle.std.proofs.lemmas.Bool.{false≢true}
-use Rattle.dev_model.specs.Disk.{changed}
-use Rattle.dev_model.specs.Devices.{DevicesState, FaultCounts, risen, with_write_fault}
+use Rattle.dev_model.specs.Devices.{DevicesState, FaultCounts, with_write_fault}
 use Rattle.dev_model.specs.Frames.{AreNoFewer}
+use Rattle.dev_model.specs.FrameLaws.{risen_no_fewer}
 use Rattle.plain_forest.specs.Forest.{Forest}
 use Rattle.plain_forest.specs.declared.operation.Op.{Op}
 use Rattle.plain_forest.specs.declared.operation.Op.TheVariants.{Mkfile, Ls, Sync}
@@ -13,13 +13,6 @@ use Rattle.session_history.specs.Failures.{is_sync}
 use Rattle.session_history.specs.declared.halt.Halt.{Halt}
 use Rattle.record_log.specs.Log.{Answers, IsLogReply, KeepsDurable, Log, Syncs}
 use Rattle.shell.specs.Mounts.{ComesAfter}
-
-risen_no_fewer : (counts : List ℕ) (dev : ℕ) → AreNoFewer counts (changed dev risen counts)
-risen_no_fewer [] dev d = omega arith
-risen_no_fewer (count ∷ counts) zero zero = omega arith
-risen_no_fewer (count ∷ counts) zero (suc d) = omega arith
-risen_no_fewer (count ∷ counts) (suc dev) zero = omega arith
-risen_no_fewer (count ∷ counts) (suc dev) (suc d) = risen_no_fewer counts dev d
 
 -- no count of either kind is less than it was
 pub record NoneFell (old new : FaultCounts) : Type 0 where

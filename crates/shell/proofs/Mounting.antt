@@ -10,6 +10,7 @@ use Rattle.dev_model.specs.Devices.{AreFaultCounts, DevicesState, FaultCounts, n
 use Rattle.dev_model.specs.FrameLaws.{stay_now}
 use Rattle.dev_model.specs.Crashes.{EachCrash, IsCrashImageBut}
 use Rattle.dev_model.specs.CrashLaws.{left_itself}
+use Rattle.geometry.specs.Faults.{DeviceFailed}
 use Rattle.geometry.specs.Sessions.{IsSessionPlace, session_in}
 use Rattle.geometry.specs.Superblocks.{layout_in}
 use Rattle.plain_forest.specs.History.{History}
@@ -22,7 +23,7 @@ use Rattle.record_log.specs.Beginning.{begin_fault_device, failed_begin_device}
 use Rattle.session_history.specs.Acknowledged.{AreAcks}
 use Rattle.record_log.specs.Survives.{Survives}
 use Rattle.session_history.specs.declared.acks.Ack.{Ack}
-use Rattle.shell.specs.Mounts.{DeviceFailed, IsFailedDevice, HasRefused, IsMountable, MountCause}
+use Rattle.shell.specs.Mounts.{IsFailedDevice, HasRefused, IsMountable, MountCause}
 use Rattle.shell.specs.declared.early_end.Refusal.TheVariants as refusals
 use Rattle.shell.specs.EarlyEnds.{end_of_begin, end_of_mount}
 
@@ -92,7 +93,7 @@ begun_since touched old mid new stay crashes = record {
 }
 
 -- why loading failed
-pub load_ended : (tells read_failed : Type 0) (old new : DevicesState) (fault : MountFault) → (tells → IsMountAnswer read_failed (as_read (now old)) (Err fault)) → IfSome (mount_fault_device fault) (λ dev. (dev < length old.sizes) × DeviceFailed old.faults new.faults dev) → AreOnlyRead tells old new → MountCause tells old new (end_of_mount fault)
+pub load_ended : (tells read_failed : Type 0) (old new : DevicesState) (fault : MountFault) → (tells → IsMountAnswer read_failed (as_read (now old)) (Err fault)) → IfSome (mount_fault_device fault) (λ dev. (dev < length old.sizes) × DeviceFailed dev old.faults new.faults) → AreOnlyRead tells old new → MountCause tells old new (end_of_mount fault)
 load_ended tells read_failed old new faults.NoSuper found cause read = record { reason = found; read = read }
 load_ended tells read_failed old new faults.Version found cause read = record { reason = found; read = read }
 load_ended tells read_failed old new faults.Mixed found cause read = record { reason = found; read = read }

@@ -19,7 +19,8 @@ use Rattle.plain_forest.specs.declared.operation.Op.TheVariants.{Mkfile, Ls, Syn
 use Rattle.plain_forest.specs.declared.operation.Reply.{Reply}
 use Rattle.plain_forest.specs.declared.operation.Reply.TheVariants.{Okay, Synced, List as Listed, Refused, NoSpace, DeviceFault, Halted, NoMemory}
 use Rattle.plain_forest.specs.declared.operation.Entry.{Entry}
-use Rattle.text_io.specs.Streams.{GivesPrefix}
+use Rattle.text_io.specs.Streams.{GainsBy, GainsTextBy, GivesPrefix}
+use Rattle.text_io.specs.StreamLaws.{gains_nothing, gains_text, gains_text_still, gains_then}
 use Rattle.script_text.specs.declared.reading.Line.{Line}
 use Rattle.record_log.specs.Exact.{file_reply, log_short, refusal_or}
 use Rattle.shell.specs.Mounts.{ComesAfter}
@@ -32,9 +33,10 @@ use Rattle.shell.specs.declared.page.Page.{Page}
 use Rattle.shell.specs.Printing.{Prints, has_ended}
 use Rattle.shell.specs.Output.{WereMade}
 use Rattle.shell.proofs.Printing.{all_given, all_or_part}
-use Rattle.shell.specs.Outcome.{Answered, acknowledges, entry_of, reply_line, reply_line_by, reply_lines}
+use Rattle.session_history.specs.declared.acks.Ack.{Ack}
+use Rattle.shell.specs.Outcome.{Answered, ack_by, ack_of, acknowledges, entry_of, reply_line, reply_line_by, reply_lines}
 use Rattle.shell.specs.Causes.{is_no_memory}
-use Rattle.shell.specs.Phases.{AddsEntries, AreMade, RunsLines, tally_after, tally_with}
+use Rattle.shell.specs.Phases.{AddsEntries, AreMade, Gains, RunsLines, tally_after, tally_with}
 
 -- a tally goes on by two lists of replies
 pub tally_then : (tally : Tally) (first second : List Reply) → tally_after (tally_after tally first) second ≡ tally_after tally (first ++ second)
@@ -43,58 +45,78 @@ tally_then tally (reply ∷ first) second = tally_then (tally_with tally reply) 
 
 module _ {D : Type 0} (state : D → DevicesState) (devices_tell : Type 0) where
   -- histories go on one after another
-  pub adds_then : (a b c : Log D) (first second : History) → AddsEntries state devices_tell a b first → AddsEntries state devices_tell b c second → AddsEntries state devices_tell a c (first ++ second)
-  adds_then a b c first second one two = record {
+  pub adds_then : (a b c : Log D) (first second : History) (acks others : List Ack) → AddsEntries state devices_tell a b first acks → AddsEntries state devices_tell b c second others → AddsEntries state devices_tell a c (first ++ second) (acks ++ others)
+  adds_then a b c first second acks others one two = record {
     trace = two.trace ∙ ap (λ list. list ++ second) one.trace ∙ append_assoc a.trace first second;
+    acks = two.acks ∙ ap (λ list. list ++ others) one.acks ∙ append_assoc a.acks acks others;
     base = two.base ∙ one.base;
     layout = two.layout ∙ one.layout;
     after = comes_then devices_tell (state a.devices) (state b.devices) (state c.devices) one.after two.after;
   }
 
   -- a session in which nothing was done
-  pub adds_nothing : (log : Log D) → AddsEntries state devices_tell log log []
-  adds_nothing log = record { trace = sym (append-nil log.trace); base = refl; layout = refl; after = comes_here devices_tell (state log.devices) }
+  pub adds_nothing : (log : Log D) → AddsEntries state devices_tell log log [] []
+  adds_nothing log = record { trace = sym (append-nil log.trace); acks = sym (append-nil log.acks); base = refl; layout = refl; after = comes_here devices_tell (state log.devices) }
 
   -- a session in which nothing was answered
-  pub adds_none : (old new : Log D) → new.trace ≡ old.trace → new.base ≡ old.base → new.layout ≡ old.layout → ComesAfter devices_tell (state old.devices) (state new.devices) → AddsEntries state devices_tell old new []
-  adds_none old new trace base layout after = record { trace = trace ∙ sym (append-nil old.trace); base = base; layout = layout; after = after }
+  pub adds_none : (old new : Log D) → new.trace ≡ old.trace → new.acks ≡ old.acks → new.base ≡ old.base → new.layout ≡ old.layout → ComesAfter devices_tell (state old.devices) (state new.devices) → AddsEntries state devices_tell old new [] []
+  adds_none old new trace acks base layout after = record { trace = trace ∙ sym (append-nil old.trace); acks = acks ∙ sym (append-nil old.acks); base = base; layout = layout; after = after }
 
-module _ {K : Type 0} (sink_tells : Type 0) (held : K → List ℕ) (start : K) where
-  made_append : (page : Page) (last : K) (text : List ℕ) (first second : List Answered) → AreMade sink_tells held start page last text first → AreMade sink_tells held start page last (text ++ reply_lines first) second → AreMade sink_tells held start page last text (first ++ second)
-  made_append page last text [] second one two = subst (λ t. AreMade sink_tells held start page last t second) (append-nil text) two
+module _ {K : Type 0} (sink_tells devices_tell : Type 0) (held given_at : K → List ℕ) (start : K) where
+  made_append : (page : Page) (last : K) (text : List ℕ) (first second : List Answered) → AreMade sink_tells devices_tell held given_at start page last text first → AreMade sink_tells devices_tell held given_at start page last (text ++ reply_lines first) second → AreMade sink_tells devices_tell held given_at start page last text (first ++ second)
+  made_append page last text [] second one two = subst (λ t. AreMade sink_tells devices_tell held given_at start page last t second) (append-nil text) two
   made_append page last text (answered ∷ first) second one two =
-      (one.0, made_append page last (text ++ reply_line answered) first second one.1 (subst (λ t. AreMade sink_tells held start page last t second) (sym (append_assoc text (reply_line answered) (reply_lines first))) two))
+      (one.0, made_append page last (text ++ reply_line answered) first second one.1 (subst (λ t. AreMade sink_tells devices_tell held given_at start page last t second) (sym (append_assoc text (reply_line answered) (reply_lines first))) two))
 
-  made_later : (page new_page : Page) (last new_last : K) (text : List ℕ) (answered : List Answered) → (has_ended page ≡ true → (has_ended new_page ≡ true) × (new_last ≡ last)) → AreMade sink_tells held start page last text answered → AreMade sink_tells held start new_page new_last text answered
-  made_later page new_page last new_last text [] ended made = tt
-  made_later page new_page last new_last text (first ∷ answered) ended made = (
-    (λ ack. let one = made.0 ack in
-        (one.0, λ told. ⊎_elim (λ (all : held one.0 ≡ held start ++ (text ++ reply_line first)). inl all) (λ (end : (has_ended page ≡ true) × (last ≡ one.0) × GivesPrefix (text ++ reply_line first) (held start) (held one.0)). inr ((ended end.0).0, (ended end.0).1 ∙ end.1, end.2)) (one.1 told))),
-    made_later page new_page last new_last (text ++ reply_line first) answered ended made.1,
+  -- what was printed when it was made stays so while more is printed
+  made_later : (page new_page : Page) (last new_last : K) (text : List ℕ) (moment : ℕ) (answered : List Answered) → (has_ended page ≡ true → (has_ended new_page ≡ true) × (new_last ≡ last)) → (sink_tells → devices_tell → GainsBy held given_at last new_last moment)
+      → AreMade sink_tells devices_tell held given_at start page last text answered → AreMade sink_tells devices_tell held given_at start new_page new_last text answered
+  made_later page new_page last new_last text moment [] ended gains made = tt
+  made_later page new_page last new_last text moment (first ∷ answered) ended gains made = (
+    (λ ack told told_too. ⊎_elim
+        (λ (all : GainsTextBy held given_at start last (text ++ reply_line first) first.moment). inl (gains_text_still held given_at start last new_last (text ++ reply_line first) first.moment moment all (gains told told_too)))
+        (λ (end : (has_ended page ≡ true) × GivesPrefix (text ++ reply_line first) (held start) (held last)). inr ((ended end.0).0, subst (λ k. GivesPrefix (text ++ reply_line first) (held start) (held k)) (sym (ended end.0).1) end.1))
+        (made.0 ack told told_too)),
+    made_later page new_page last new_last (text ++ reply_line first) moment answered ended gains made.1,
   )
 
   -- what was printed when it was made is so of the whole run
-  pub were_made : (page : Page) (last final : K) (text : List ℕ) (answered : List Answered) → (has_ended page ≡ true → final ≡ last) → AreMade sink_tells held start page last text answered → WereMade sink_tells held start final text answered
-  were_made page last final text [] ended made = tt
-  were_made page last final text (first ∷ answered) ended made = (
-    (λ ack. let one = made.0 ack in
-        (one.0, λ told. ⊎_elim (λ (all : held one.0 ≡ held start ++ (text ++ reply_line first)). inl all) (λ (end : (has_ended page ≡ true) × (last ≡ one.0) × GivesPrefix (text ++ reply_line first) (held start) (held one.0)). inr (subst (λ k. GivesPrefix (text ++ reply_line first) (held start) (held k)) (sym (ended end.0 ∙ end.1)) end.2)) (one.1 told))),
-    were_made page last final (text ++ reply_line first) answered ended made.1,
+  pub were_made : (page : Page) (last final : K) (text : List ℕ) (moment : ℕ) (answered : List Answered) → (has_ended page ≡ true → final ≡ last) → (sink_tells → devices_tell → GainsBy held given_at last final moment)
+      → AreMade sink_tells devices_tell held given_at start page last text answered → WereMade sink_tells devices_tell held given_at start final text answered
+  were_made page last final text moment [] ended gains made = tt
+  were_made page last final text moment (first ∷ answered) ended gains made = (
+    (λ ack told told_too. ⊎_elim
+        (λ (all : GainsTextBy held given_at start last (text ++ reply_line first) first.moment). inl (gains_text_still held given_at start last final (text ++ reply_line first) first.moment moment all (gains told told_too)))
+        (λ (end : (has_ended page ≡ true) × GivesPrefix (text ++ reply_line first) (held start) (held last)). inr (subst (λ k. GivesPrefix (text ++ reply_line first) (held start) (held k)) (sym (ended end.0)) end.1))
+        (made.0 ack told told_too)),
+    were_made page last final (text ++ reply_line first) moment answered ended gains made.1,
   )
 
-module _ {D K : Type 0} (state : D → DevicesState) (devices_tell sink_tells : Type 0) (held : K → List ℕ) (faults : K → ℕ) where
+-- what was gained by the moment of devices was so by that of the same devices
+pub same_moment : {D K : Type 0} (held given_at : K → List ℕ) (first last : K) (shown devices : D) (state : D → DevicesState) → shown ≡ devices → GainsBy held given_at first last (state shown).moment → GainsBy held given_at first last (state devices).moment
+same_moment held given_at first last shown devices state same gains = subst (λ d. GainsBy held given_at first last (state d).moment) same gains
+
+module _ {D K : Type 0} (state : D → DevicesState) (devices_tell sink_tells : Type 0) (held given_at : K → List ℕ) (faults : K → ℕ) where
+  -- what was gained by one state and then by the next was gained by the next
+  pub gains_on : (first mid last : K) (old new : Log D) → ComesAfter devices_tell (state old.devices) (state new.devices) → Gains state devices_tell sink_tells held given_at first mid old → Gains state devices_tell sink_tells held given_at mid last new → Gains state devices_tell sink_tells held given_at first last new
+  gains_on first mid last old new after one two told told_too =
+      gains_then held given_at first mid last (state old.devices).moment (state new.devices).moment (after.later told_too) (one told told_too) (two told told_too)
+
   -- lines are answered one list after another
-  pub runs_then : (first second : List Line) (a b c : Log D) (page mid last : Page) (sink mid_sink last_sink : K) → RunsLines state devices_tell sink_tells held faults first a b page mid sink mid_sink → RunsLines state devices_tell sink_tells held faults second b c mid last mid_sink last_sink
-      → RunsLines state devices_tell sink_tells held faults (first ++ second) a c page last sink last_sink
+  pub runs_then : (first second : List Line) (a b c : Log D) (page mid last : Page) (sink mid_sink last_sink : K) → RunsLines state devices_tell sink_tells held given_at faults first a b page mid sink mid_sink → RunsLines state devices_tell sink_tells held given_at faults second b c mid last mid_sink last_sink
+      → RunsLines state devices_tell sink_tells held given_at faults (first ++ second) a c page last sink last_sink
   runs_then first second a b c page mid last sink mid_sink last_sink one two = record {
     answered = one.answered ++ two.answered;
     are = map-append (λ (x : Answered). x.line) one.answered two.answered ∙ ap (λ list. list ++ map (λ (x : Answered). x.line) two.answered) one.are ∙ ap (λ list. first ++ list) two.are;
-    history = subst (λ h. AddsEntries state devices_tell a c h) (sym (filter_map-append entry_of one.answered two.answered)) (adds_then state devices_tell a b c (filter_map entry_of one.answered) (filter_map entry_of two.answered) one.history two.history);
-    prints = λ start text prints.
-        let earlier = one.prints start text prints in
-        let later = two.prints start (text ++ reply_lines one.answered) earlier.prints in record {
+    history = subst (λ h. AddsEntries state devices_tell a c h (filter_map ack_of (one.answered ++ two.answered))) (sym (filter_map-append entry_of one.answered two.answered))
+        (subst (AddsEntries state devices_tell a c (filter_map entry_of one.answered ++ filter_map entry_of two.answered)) (sym (filter_map-append ack_of one.answered two.answered))
+        (adds_then state devices_tell a b c (filter_map entry_of one.answered) (filter_map entry_of two.answered) (filter_map ack_of one.answered) (filter_map ack_of two.answered) one.history two.history));
+    gains = gains_on sink mid_sink last_sink b c two.history.after one.gains two.gains;
+    prints = λ start text prints gains.
+        let earlier = one.prints start text prints gains in
+        let later = two.prints start (text ++ reply_lines one.answered) earlier.prints (gains_on start sink mid_sink a b one.history.after gains one.gains) in record {
           prints = subst (λ t. Prints sink_tells held faults start t last last_sink) (append_assoc text (reply_lines one.answered) (reply_lines two.answered) ∙ ap (λ t. text ++ t) (sym (flat_map-append reply_line one.answered two.answered))) later.prints;
-          made = made_append sink_tells held start last last_sink text one.answered two.answered (made_later sink_tells held start mid last mid_sink last_sink text one.answered two.ended earlier.made) later.made;
+          made = made_append sink_tells devices_tell held given_at start last last_sink text one.answered two.answered (made_later sink_tells devices_tell held given_at start mid last mid_sink last_sink text (state c.devices).moment one.answered two.ended two.gains earlier.made) later.made;
         };
     ended = λ end. let mid_end = one.ended end in ((two.ended mid_end.0).0, (two.ended mid_end.0).1 ∙ mid_end.1);
     tally = two.tally
@@ -104,12 +126,13 @@ module _ {D K : Type 0} (state : D → DevicesState) (devices_tell sink_tells : 
   }
 
   -- no line is answered
-  pub runs_none : (log : Log D) (page : Page) (sink : K) → RunsLines state devices_tell sink_tells held faults [] log log page page sink sink
+  pub runs_none : (log : Log D) (page : Page) (sink : K) → RunsLines state devices_tell sink_tells held given_at faults [] log log page page sink sink
   runs_none log page sink = record {
     answered = [];
     are = refl;
     history = adds_nothing state devices_tell log;
-    prints = λ start text prints. record { prints = subst (λ t. Prints sink_tells held faults start t page sink) (sym (append-nil text)) prints; made = tt };
+    gains = λ told told_too. gains_nothing held given_at sink (state log.devices).moment;
+    prints = λ start text prints gains. record { prints = subst (λ t. Prints sink_tells held faults start t page sink) (sym (append-nil text)) prints; made = tt };
     ended = λ end. (end, refl);
     tally = refl;
   }
@@ -119,20 +142,26 @@ module _ {D K : Type 0} (state : D → DevicesState) (devices_tell sink_tells : 
   either false = inr refl
 
   -- a line is answered
-  pub runs_one : (line : Line) (reply : Reply) (old new : Log D) (page new_page : Page) (sink new_sink : K) → AddsEntries state devices_tell old new (filter_map entry_of (record { line = line; reply = reply } ∷ []))
-      → ((start : K) (text : List ℕ) → Prints sink_tells held faults start text page sink → Prints sink_tells held faults start (text ++ reply_line (record { line = line; reply = reply })) new_page new_sink)
+  pub runs_one : (line : Line) (reply : Reply) (old new : Log D) (page new_page : Page) (sink new_sink : K) → AddsEntries state devices_tell old new (cons_option (entry_by line.client line.op reply) []) (cons_option (ack_by (state new.devices).moment reply) [])
+      → ((start : K) (text : List ℕ) → Prints sink_tells held faults start text page sink → Prints sink_tells held faults start (text ++ reply_line_by line.op line.client line.line reply) new_page new_sink)
+      → Gains state devices_tell sink_tells held given_at sink new_sink new
       → (acknowledges reply ≡ true → has_ended new_page ≡ false → new_page.lines ≡ []) → (has_ended page ≡ true → has_ended new_page ≡ true) → (has_ended page ≡ true → new_sink ≡ sink) → new_page.tally ≡ tally_with page.tally reply
-      → RunsLines state devices_tell sink_tells held faults (line ∷ []) old new page new_page sink new_sink
-  runs_one line reply old new page new_page sink new_sink adds prints given ended same tally =
-      let one : Answered = record { line = line; reply = reply } in record {
+      → RunsLines state devices_tell sink_tells held given_at faults (line ∷ []) old new page new_page sink new_sink
+  runs_one line reply old new page new_page sink new_sink adds prints gains given ended same tally =
+      let moment = (state new.devices).moment in
+      let one : Answered = record { line = line; reply = reply; moment = moment } in record {
         answered = one ∷ [];
         are = refl;
         history = adds;
-        prints = λ start text before.
+        gains = gains;
+        prints = λ start text before earlier.
             let after = prints start text before in record {
               prints = subst (λ t. Prints sink_tells held faults start (text ++ t) new_page new_sink) (sym (append-nil (reply_line one))) after;
               made = (
-                (λ ack. (new_sink, λ told. ⊎_elim (λ (end : has_ended new_page ≡ true). inr (end, refl, all_or_part sink_tells held faults start (text ++ reply_line one) new_page new_sink after told)) (λ (goes : has_ended new_page ≡ false). inl (all_given sink_tells held faults start (text ++ reply_line one) new_page new_sink after goes (given ack goes) told)) (either (has_ended new_page)))),
+                (λ ack told told_too. ⊎_elim
+                    (λ (end : has_ended new_page ≡ true). inr (end, all_or_part sink_tells held faults start (text ++ reply_line one) new_page new_sink after told))
+                    (λ (goes : has_ended new_page ≡ false). inl (gains_text held given_at start new_sink (text ++ reply_line one) moment (all_given sink_tells held faults start (text ++ reply_line one) new_page new_sink after goes (given ack goes) told) (gains_on start sink new_sink old new adds.after earlier gains told told_too)))
+                    (either (has_ended new_page))),
                 tt,
               );
             };
@@ -141,11 +170,12 @@ module _ {D K : Type 0} (state : D → DevicesState) (devices_tell sink_tells : 
       }
 
   -- a barrier does nothing
-  pub runs_barrier : (line : Line) (log : Log D) (page : Page) (sink : K) → line.op ≡ None → RunsLines state devices_tell sink_tells held faults (line ∷ []) log log page page sink sink
+  pub runs_barrier : (line : Line) (log : Log D) (page : Page) (sink : K) → line.op ≡ None → RunsLines state devices_tell sink_tells held given_at faults (line ∷ []) log log page page sink sink
   runs_barrier line log page sink none =
       runs_one line Okay log log page page sink sink
-      (subst (λ op. AddsEntries state devices_tell log log (cons_option (entry_by line.client op Okay) [])) (sym none) (adds_nothing state devices_tell log))
+      (subst (λ op. AddsEntries state devices_tell log log (cons_option (entry_by line.client op Okay) []) []) (sym none) (adds_nothing state devices_tell log))
       (λ start text prints. subst (λ op. Prints sink_tells held faults start (text ++ reply_line_by op line.client line.line Okay) page sink) (sym none) (subst (λ t. Prints sink_tells held faults start t page sink) (sym (append-nil text)) prints))
+      (λ told told_too. gains_nothing held given_at sink (state log.devices).moment)
       (λ ack. absurd (cc)) (λ end. end) (λ end. refl)
       (same_tally page.tally)
     where
@@ -205,10 +235,32 @@ module _ {D : Type 0} (state : D → DevicesState) (devices_tell : Type 0) (fore
   found_memory (Ls path) old new reply is = ap is_no_memory is ∙ answer_seen is_no_memory false (λ cause. refl) Listed (λ _. refl) (listed path (after_all forest old.trace))
   found_memory Sync old new reply is = sync_found old.halted old new reply is
 
+  sync_acks : (halted : Option Halt) (old new : Log D) (reply : Reply) → Syncs state forest halted old new reply → new.acks ≡ old.acks ++ cons_option (ack_by (state new.devices).moment reply) []
+  sync_acks (Some halt) old new reply is = ap (λ (log : Log D). log.acks) is.nothing ∙ sym (append-nil old.acks) ∙ ap (λ r. old.acks ++ cons_option (ack_by (state new.devices).moment r) []) (sym is.is)
+  sync_acks None old new reply (inl is) = is.acks ∙ ap (λ r. old.acks ++ cons_option (ack_by (state new.devices).moment r) []) (sym is.is)
+  sync_acks None old new reply (inr is) = is.acks ∙ sym (append-nil old.acks) ∙ ap (λ r. old.acks ++ cons_option (ack_by (state new.devices).moment r) []) (sym is.is)
+
+  no_acks : (moment : ℕ) (reply : Reply) (acks : List Ack) → ack_by moment reply ≡ None → acks ≡ acks ++ cons_option (ack_by moment reply) []
+  no_acks moment reply acks none = sym (append-nil acks) ∙ ap (λ ack. acks ++ cons_option ack []) (sym none)
+
+  -- the acknowledgements that an answer adds: the one that it is
+  answer_acks : (op : Op) (old new : Log D) (reply : Reply) → IsLogReply state forest op old new reply → (op ≢ Sync → new ≡ record old { files = new.files; trace = new.trace }) → new.acks ≡ old.acks ++ cons_option (ack_by (state new.devices).moment reply) []
+  answer_acks (Mkfile path) old new reply is untouched =
+      let moment = (state new.devices).moment in
+      ap (λ (log : Log D). log.acks) (untouched (λ same. absurd (cc)))
+      ∙ no_acks moment reply old.acks (ap (ack_by moment) is ∙ file_seen (ack_by moment) None refl (λ cause. refl) (λ short. refl) (λ dev tick. refl) old.halted (is_full forest old) path (after_all forest old.trace))
+  answer_acks (Ls path) old new reply is untouched =
+      let moment = (state new.devices).moment in
+      ap (λ (log : Log D). log.acks) (untouched (λ same. absurd (cc)))
+      ∙ no_acks moment reply old.acks (ap (ack_by moment) is ∙ answer_seen (ack_by moment) None (λ cause. refl) Listed (λ _. refl) (listed path (after_all forest old.trace)))
+  answer_acks Sync old new reply is untouched = sync_acks old.halted old new reply is
+
   -- an operation was answered
-  pub adds_answer : (op : Op) (old new : Log D) (reply : Reply) → Answers state forest op old new reply → new.base ≡ old.base → new.layout ≡ old.layout → ComesAfter devices_tell (state old.devices) (state new.devices) → AddsEntries state devices_tell old new (cons_option (entry_if_any 0 op reply) [])
-  adds_answer op old new reply answers base layout after = record {
+  pub adds_answer : (op : Op) (old new : Log D) (reply : Reply) → Answers state forest op old new reply → new.base ≡ old.base → new.layout ≡ old.layout → (op ≢ Sync → new ≡ record old { files = new.files; trace = new.trace }) → ComesAfter devices_tell (state old.devices) (state new.devices)
+      → AddsEntries state devices_tell old new (cons_option (entry_if_any 0 op reply) []) (cons_option (ack_by (state new.devices).moment reply) [])
+  adds_answer op old new reply answers base layout untouched after = record {
     trace = answers.trace ∙ ap (λ list. old.trace ++ list) (ap (λ e. cons_option e []) (sym (has_entry 0 op reply (found_memory op old new reply answers.is))));
+    acks = answer_acks op old new reply answers.is untouched;
     base = base;
     layout = layout;
     after = after;
@@ -216,14 +268,14 @@ module _ {D : Type 0} (state : D → DevicesState) (devices_tell : Type 0) (fore
 
   -- a call of the session, answered or out of memory
   pub call_adds : (op : Op) (old new : Log D) (result : Result Reply AllocError) → IfOk result (λ reply. Answers state forest op old new reply) → new.base ≡ old.base → new.layout ≡ old.layout → (op ≢ Sync → new ≡ record old { files = new.files; trace = new.trace })
-      → (state new.devices).sizes ≡ (state old.devices).sizes → (devices_tell → KeepsDurable state old new) → IfOk result (λ reply. AddsEntries state devices_tell old new (cons_option (entry_if_any 0 op reply) []))
-  call_adds op old new (Ok reply) answered base layout untouched sizes kept = adds_answer op old new reply answered base layout (comes_by_answer state devices_tell old new sizes kept forest op reply answered untouched)
+      → (state new.devices).sizes ≡ (state old.devices).sizes → (devices_tell → KeepsDurable state old new) → IfOk result (λ reply. AddsEntries state devices_tell old new (cons_option (entry_if_any 0 op reply) []) (cons_option (ack_by (state new.devices).moment reply) []))
+  call_adds op old new (Ok reply) answered base layout untouched sizes kept = adds_answer op old new reply answered base layout untouched (comes_by_answer state devices_tell old new sizes kept forest op reply answered untouched)
   call_adds op old new (Err e) answered base layout untouched sizes kept = tt
 
   pub call_adds_none : (old new : Log D) (result : Result Reply AllocError) → OnErr result (new ≡ record old { devices = new.devices; durable = new.durable }) → OnErr result ((state new.devices).faults ≡ (state old.devices).faults) → new.base ≡ old.base → new.layout ≡ old.layout
-      → (state new.devices).sizes ≡ (state old.devices).sizes → (devices_tell → KeepsDurable state old new) → OnErr result (AddsEntries state devices_tell old new [])
+      → (state new.devices).sizes ≡ (state old.devices).sizes → (devices_tell → KeepsDurable state old new) → OnErr result (AddsEntries state devices_tell old new [] [])
   call_adds_none old new (Ok reply) err faults base layout sizes kept = tt
-  call_adds_none old new (Err e) err faults base layout sizes kept = adds_none state devices_tell old new (ap (λ (log : Log D). log.trace) err) base layout (comes_by_none state devices_tell old new sizes kept faults)
+  call_adds_none old new (Err e) err faults base layout sizes kept = adds_none state devices_tell old new (ap (λ (log : Log D). log.trace) err) (ap (λ (log : Log D). log.acks) err) base layout (comes_by_none state devices_tell old new sizes kept faults)
 
 -- the entries of the final sync, as those of a line
 pub last_is : (reply : Reply) → cons_option (entry_if_any 0 Sync reply) [] ≡ last_entry reply

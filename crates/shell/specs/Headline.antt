@@ -12,7 +12,7 @@ use Rattle.shell.specs.Survived.{OpensVolume, IsSurvived}
 
 -- The headline: one field for each promise. The run went in one way, and where it ran a script it opened a volume, which was
 -- mounted when its devices showed this.
-pub record Headline {D K : Type 0} (source_tells sink_tells devices_tell : Type 0) (held : K → List ℕ) (run : Run D K) : Type 0 where
+pub record Headline {D K : Type 0} (source_tells sink_tells devices_tell : Type 0) (held given_at : K → List ℕ) (run : Run D K) : Type 0 where
   pub opening : Mounted
   pub mounted : DevicesState
   pub outcome : Outcome
@@ -21,7 +21,7 @@ pub record Headline {D K : Type 0} (source_tells sink_tells devices_tell : Type 
   -- each reply is the plain forest's at its place in one history, but for failures that the operation may have
   pub legal : IsLegal opening.forest run.trace
   -- per client the operations are the script's, in order, and the text printed is theirs, each acknowledgement when it was made
-  pub told : HasOutput source_tells sink_tells held run opening.forest outcome
+  pub told : HasOutput source_tells sink_tells devices_tell held given_at run opening.forest outcome
   -- every image that a crash may leave, at every moment of the run, mounts to a prefix that has all that was acknowledged; or,
   -- of a format, means what it meant before, or doesn't mount, or is the fresh volume
   pub survives : devices_tell → IsSurvived run.state run.state_after run.trace run.acks outcome

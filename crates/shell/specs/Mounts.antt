@@ -1,11 +1,11 @@
 -- Which images are mounted for a session, and why one is refused.
-use Rattle.std.specs.Prelude.{◌≡◌, ◌⊎◌, ℕ, ◌+◌, ◌<◌, ◌≤◌, Some, Ok, Err, IsErr, length, slice_index_or}
-use Rattle.vol_types.specs.Faults.{RoseBy}
+use Rattle.std.specs.Prelude.{◌≡◌, ◌⊎◌, ℕ, ◌+◌, ◌<◌, ◌≤◌, Some, Ok, Err, IsErr, length}
 use Rattle.vol_types.specs.declared.layout.Layout.{Layout}
 use Rattle.dev_model.specs.Disk.{Image, as_read}
-use Rattle.dev_model.specs.Devices.{DevicesState, FaultCounts, now}
+use Rattle.dev_model.specs.Devices.{DevicesState, now}
 use Rattle.dev_model.specs.Crashes.{EachCrash, IsCrashImageBut}
 use Rattle.dev_model.specs.Frames.{AreNoFewer, AreOnlyRead, GoOn}
+use Rattle.geometry.specs.Faults.{DeviceFailed}
 use Rattle.geometry.specs.Sessions.{IsSessionPlace, session_in}
 use Rattle.log_records.specs.Found.{log_in, mounted_as, mounts}
 use Rattle.log_records.specs.declared.fault.MountFault.TheVariants as faults
@@ -44,14 +44,10 @@ pub record HasRefused (devices_tell : Type 0) (old new : DevicesState) (refusal 
   pub reason : devices_tell → IsRefused (as_read (now old)) refusal
   pub read : AreOnlyRead devices_tell old new
 
--- A call of this device failed in between: its count rose, or stands still at its end.
-abbrev pub DeviceFailed : FaultCounts → FaultCounts → ℕ → Type 0
-DeviceFailed old new dev = RoseBy 1 (slice_index_or old.calls dev 0) (slice_index_or new.calls dev 0)
-
 -- It is one of the devices, and a call of it failed in between.
 pub record IsFailedDevice (old new : DevicesState) (dev : ℕ) : Type 0 where
   pub device : dev < length old.sizes
-  pub rose : DeviceFailed old.faults new.faults dev
+  pub rose : DeviceFailed dev old.faults new.faults
 
 -- Why the volume wasn't mounted: it was refused, or this device failed. Out of memory may come at any time.
 abbrev pub MountCause : Type 0 → DevicesState → DevicesState → EarlyEnd → Type 0

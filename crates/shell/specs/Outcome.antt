@@ -1,6 +1,6 @@
 -- How a run goes, from beginning to end.
 use Rattle.std.specs.Prelude.{ℕ, length, slice_index, List, [], ◌∷◌, ◌++◌, map, max, codes, Bool, true, false, Option, Some, None, option_map}
-use Rattle.std.specs.List.{filter_map, flat_map}
+use Rattle.std.specs.List.{cons_option, filter_map, flat_map}
 use Rattle.std.specs.Fmt.{decimal}
 use Rattle.plain_forest.specs.Forest.{Forest}
 use Rattle.plain_forest.specs.History.{History, commit_count}
@@ -8,6 +8,7 @@ use Rattle.plain_forest.specs.declared.operation.Op.{Op}
 use Rattle.plain_forest.specs.declared.operation.Reply.{Reply}
 use Rattle.plain_forest.specs.declared.operation.Reply.TheVariants.{Synced}
 use Rattle.plain_forest.specs.declared.operation.Entry.{Entry}
+use Rattle.session_history.specs.declared.acks.Ack.{Ack}
 use Rattle.session_history.specs.Fits.{LineReply, entry_by, last_entry}
 use Rattle.script_text.specs.Replies.{reply_line_of, end_line_of}
 use Rattle.script_text.specs.declared.reading.Line.{Line}
@@ -22,10 +23,11 @@ use Rattle.shell.specs.declared.early_end.Refusal.TheVariants.{NoSuper, Version,
 use Rattle.shell.specs.declared.early_end.EarlyEnd.{EarlyEnd}
 use Rattle.shell.specs.declared.early_end.EarlyEnd.TheVariants.{Usage, BadLine, TooLong, Source, Refused, Device, OutOfMemory}
 
--- a line of the script with the reply to it
+-- a line of the script with the reply to it, and the moment of the devices when it was answered
 pub record Answered : Type 0 where
   pub line : Line
   pub reply : Reply
+  pub moment : ℕ
 
 -- A run ends early, before any line runs, or each line of the script is answered in order, and then a last sync; or the devices
 -- are formatted with this layout, unless it fails by a fault.
@@ -99,6 +101,19 @@ entry_of answered = entry_by answered.line.client answered.line.op answered.repl
 -- the entries of the lines, and the one of the last sync
 abbrev pub entries_of : List Answered → Reply → History
 entries_of answered last = filter_map entry_of answered ++ last_entry last
+
+-- the acknowledgement that a reply is at this moment, if it is one
+abbrev pub ack_by : ℕ → Reply → Option Ack
+ack_by moment (Synced count) = Some (record { moment = moment; commits = count })
+ack_by moment reply = None
+
+-- the acknowledgement that an answer is, if it is one
+abbrev pub ack_of : Answered → Option Ack
+ack_of answered = ack_by answered.moment answered.reply
+
+-- the acknowledgements of the lines, and the one of the last sync, which was answered at this moment
+abbrev pub acks_of : List Answered → Reply → ℕ → List Ack
+acks_of answered last moment = filter_map ack_of answered ++ cons_option (ack_by moment last) []
 
 -- the line that answers a line; a barrier has none
 abbrev pub reply_line_by : Option Op → ℕ → ℕ → Reply → List ℕ

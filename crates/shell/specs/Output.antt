@@ -1,14 +1,15 @@
 -- Which script ran, what its lines were answered, and what was printed.
 use Rattle.std.specs.Prelude.{◌≡◌, ◌≢◌, ◌⊎◌, ℕ, ◌^◌, ◌≤◌, true, List, [], ◌∷◌, ◌++◌, length, map}
-use Rattle.text_io.specs.Streams.{GivesPrefix}
+use Rattle.text_io.specs.Streams.{GainsTextBy, GivesPrefix}
 use Rattle.plain_forest.specs.Forest.{Forest}
 use Rattle.plain_forest.specs.History.{History}
 use Rattle.plain_forest.specs.declared.operation.Reply.{Reply}
+use Rattle.session_history.specs.declared.acks.Ack.{Ack}
 use Rattle.script_text.specs.Lines.{lines_of}
 use Rattle.script_text.specs.Scripts.{IsScript}
 use Rattle.script_text.specs.declared.reading.Line.{Line}
 use Rattle.session_history.specs.Fits.{Fits}
-use Rattle.shell.specs.Outcome.{Outcome, EndedEarly, Ran, Formatted, Answered, acknowledges, early_line, format_line, entries_of, line_reply, reply_line, text_of}
+use Rattle.shell.specs.Outcome.{Outcome, EndedEarly, Ran, Formatted, Answered, acks_of, acknowledges, early_line, format_line, entries_of, line_reply, reply_line, text_of}
 use Rattle.shell.specs.Runs.{Run, Streams}
 
 -- the most bytes of a script
@@ -32,33 +33,36 @@ pub record HasLine (sink_tells : Type 0) (streams : Streams) (status : ℕ) (tra
   pub prefix : sink_tells → GivesPrefix line streams.held streams.held_after
   pub whole : sink_tells → status ≢ 5 → streams.held_after ≡ streams.held ++ line
 
--- Where it is an acknowledgement, there was a sink that held just the lines up to it, since the run began; or no more than
--- these lines was ever printed.
-abbrev pub WasMade : {K : Type 0} → Type 0 → (K → List ℕ) → K → K → List ℕ → Reply → Type 0
-WasMade {K} sink_tells held first last text reply =
-    acknowledges reply ≡ true → (sink : K) × (sink_tells → (held sink ≡ held first ++ text) ⊎ GivesPrefix text (held first) (held last))
+-- Where it is an acknowledgement, the lines up to it were given to the sink by the moment of the devices at which it was made:
+-- before any later call of a device. Or no more than these lines was ever printed.
+abbrev pub WasMade : {K : Type 0} → Type 0 → Type 0 → (K → List ℕ) → (K → List ℕ) → K → K → List ℕ → Answered → Type 0
+WasMade {K} sink_tells devices_tell held given_at first last text answered =
+    acknowledges answered.reply ≡ true → sink_tells → devices_tell
+    → GainsTextBy held given_at first last text answered.moment ⊎ GivesPrefix text (held first) (held last)
 
 -- Each acknowledgement was printed when it was made, after the lines that have this text.
-abbrev pub WereMade : {K : Type 0} → Type 0 → (K → List ℕ) → K → K → List ℕ → List Answered → Type 0
-WereMade sink_tells held first last text [] = Unit {0}
-WereMade sink_tells held first last text (one ∷ answered) =
-    WasMade sink_tells held first last (text ++ reply_line one) one.reply × WereMade sink_tells held first last (text ++ reply_line one) answered
+abbrev pub WereMade : {K : Type 0} → Type 0 → Type 0 → (K → List ℕ) → (K → List ℕ) → K → K → List ℕ → List Answered → Type 0
+WereMade sink_tells devices_tell held given_at first last text [] = Unit {0}
+WereMade sink_tells devices_tell held given_at first last text (one ∷ answered) =
+    WasMade sink_tells devices_tell held given_at first last (text ++ reply_line one) one
+    × WereMade sink_tells devices_tell held given_at first last (text ++ reply_line one) answered
 
 -- Each line of the source's script was answered, in order, and then a sync. The history has the entries of these answers,
--- their replies fit it, phase by phase, and the sink has gained their text, or a prefix of it with status 5 or 7. Each
--- acknowledgement was printed when it was made.
-pub record HasRun {K : Type 0} (source_tells sink_tells : Type 0) (held : K → List ℕ) (sink sink_after : K) (streams : Streams) (status : ℕ) (opening : Forest) (trace : History) (script : List Line) (answered : List Answered) (last : Reply) : Type 0 where
+-- their replies fit it, phase by phase, and the sink has gained their text, or a prefix of it with status 5 or 7. The
+-- acknowledgements are those of the answers, each with the moment of its answer, and each was printed when it was made.
+pub record HasRun {K : Type 0} (source_tells sink_tells devices_tell : Type 0) (held given_at : K → List ℕ) (sink sink_after : K) (streams : Streams) (status : ℕ) (opening : Forest) (trace : History) (acks : List Ack) (moment_after : ℕ) (script : List Line) (answered : List Answered) (last : Reply) : Type 0 where
   pub reads : GaveScript source_tells streams.left script
   pub lines : map (λ a. a.line) answered ≡ script
   pub entries : trace ≡ entries_of answered last
   pub fits : Fits opening (map line_reply answered) last trace
-  pub made : WereMade sink_tells held sink sink_after [] answered
+  pub acknowledged : acks ≡ acks_of answered last moment_after
+  pub made : WereMade sink_tells devices_tell held given_at sink sink_after [] answered
   pub prefix : sink_tells → GivesPrefix (text_of opening answered last) streams.held streams.held_after
   pub whole : sink_tells → status ≢ 5 → status ≢ 7 → streams.held_after ≡ streams.held ++ text_of opening answered last
 
 -- what a run answered and printed, by how it went
-abbrev pub HasOutput : {D K : Type 0} → Type 0 → Type 0 → (K → List ℕ) → Run D K → Forest → Outcome → Type 0
-HasOutput source_tells sink_tells held run opening (EndedEarly end) = HasLine sink_tells run.streams run.status run.trace (early_line end)
-HasOutput source_tells sink_tells held run opening (Ran script answered last) =
-    HasRun source_tells sink_tells held run.sink run.sink_after run.streams run.status opening run.trace script answered last
-HasOutput source_tells sink_tells held run opening (Formatted layout fault) = HasLine sink_tells run.streams run.status run.trace (format_line layout fault)
+abbrev pub HasOutput : {D K : Type 0} → Type 0 → Type 0 → Type 0 → (K → List ℕ) → (K → List ℕ) → Run D K → Forest → Outcome → Type 0
+HasOutput source_tells sink_tells devices_tell held given_at run opening (EndedEarly end) = HasLine sink_tells run.streams run.status run.trace (early_line end)
+HasOutput source_tells sink_tells devices_tell held given_at run opening (Ran script answered last) =
+    HasRun source_tells sink_tells devices_tell held given_at run.sink run.sink_after run.streams run.status opening run.trace run.acks run.state_after.moment script answered last
+HasOutput source_tells sink_tells devices_tell held given_at run opening (Formatted layout fault) = HasLine sink_tells run.streams run.status run.trace (format_line layout fault)

@@ -1,12 +1,12 @@
 -- How lines are answered, one after another, and what their replies amount to.
 use Rattle.std.specs.Prelude.{◌≡◌, ◌≢◌, ◌⊎◌, ◌<◌, ◌≤◌, ℕ, length, IfSome, option_and_then, option_map, ◌||◌, true, max, List, [], ◌∷◌, ◌++◌, map, Option, None, Ok}
-use Rattle.std.specs.List.{filter_map}
+use Rattle.std.specs.List.{cons_option, filter_map}
 use Rattle.vol_types.specs.Faults.{RoseBy}
 use Rattle.dev_model.specs.Devices.{DevicesState}
 use Rattle.dev_model.specs.Crashes.{EachCrashNow}
 use Rattle.dev_model.specs.Frames.{AreAfterCalls}
 use Rattle.plain_forest.specs.Forest.{Forest}
-use Rattle.text_io.specs.Streams.{GivesPrefix}
+use Rattle.text_io.specs.Streams.{GainsBy, GainsTextBy, GivesPrefix}
 use Rattle.script_text.specs.Replies.{end_line_of}
 use Rattle.plain_forest.specs.History.{History, commit_count}
 use Rattle.plain_forest.specs.declared.operation.Reply.{Reply}
@@ -23,7 +23,7 @@ use Rattle.session_history.specs.Fits.{last_entry}
 use Rattle.geometry.specs.Faults.{fault_device}
 use Rattle.shell.specs.declared.early_end.EarlyEnd.{EarlyEnd}
 use Rattle.shell.specs.EarlyEnds.{end_of_disk}
-use Rattle.shell.specs.Outcome.{Answered, acknowledges, entries_of, entry_of, format_line, format_status, replies_of, reply_line, reply_lines, synced_by, text_of}
+use Rattle.shell.specs.Outcome.{Answered, ack_by, ack_of, acks_of, acknowledges, entries_of, entry_of, format_line, format_status, replies_of, reply_line, reply_lines, synced_by, text_of}
 use Rattle.shell.specs.Printing.{Prints, has_ended}
 use Rattle.shell.specs.Output.{WereMade}
 use Rattle.shell.specs.Mounts.{ComesAfter}
@@ -46,44 +46,52 @@ tally_after tally (reply ∷ replies) = tally_after (tally_with tally reply) rep
 abbrev pub tally_status : Tally → ℕ
 tally_status tally = asked_status tally.lacks_memory tally.has_failed
 
--- A session's history goes on by these entries.
-pub record AddsEntries {D : Type 0} (state : D → DevicesState) (devices_tell : Type 0) (old new : Log D) (more : History) : Type 0 where
+-- A session's history goes on by these entries, and these acknowledgements were made.
+pub record AddsEntries {D : Type 0} (state : D → DevicesState) (devices_tell : Type 0) (old new : Log D) (more : History) (acknowledged : List Ack) : Type 0 where
   pub trace : new.trace ≡ old.trace ++ more
+  pub acks : new.acks ≡ old.acks ++ acknowledged
   pub base : new.base ≡ old.base
   pub layout : new.layout ≡ old.layout
   pub after : ComesAfter devices_tell (state old.devices) (state new.devices)
 
--- Where it is an acknowledgement, there was a sink that held just the lines up to it, since the sink was so; or printing had
--- ended by then, and the sink is still that one.
-abbrev pub IsMade : {K : Type 0} → Type 0 → (K → List ℕ) → K → Page → K → List ℕ → Reply → Type 0
-IsMade {K} sink_tells held start page last text reply =
-    acknowledges reply ≡ true
-    → (sink : K) × (sink_tells → (held sink ≡ held start ++ text) ⊎ ((has_ended page ≡ true) × (last ≡ sink) × GivesPrefix text (held start) (held sink)))
+-- Where it is an acknowledgement, the sink had gained the lines up to it by the moment at which it was made; or printing has
+-- ended, and the sink has gained a prefix of them.
+abbrev pub IsMade : {K : Type 0} → Type 0 → Type 0 → (K → List ℕ) → (K → List ℕ) → K → Page → K → List ℕ → Answered → Type 0
+IsMade {K} sink_tells devices_tell held given_at start page last text answered =
+    acknowledges answered.reply ≡ true → sink_tells → devices_tell
+    → GainsTextBy held given_at start last text answered.moment ⊎ ((has_ended page ≡ true) × GivesPrefix text (held start) (held last))
 
 -- so is each of these answers, the lines before which have this text
-abbrev pub AreMade : {K : Type 0} → Type 0 → (K → List ℕ) → K → Page → K → List ℕ → List Answered → Type 0
-AreMade sink_tells held start page last text [] = Unit {0}
-AreMade sink_tells held start page last text (first ∷ answered) =
-    IsMade sink_tells held start page last (text ++ reply_line first) first.reply × AreMade sink_tells held start page last (text ++ reply_line first) answered
+abbrev pub AreMade : {K : Type 0} → Type 0 → Type 0 → (K → List ℕ) → (K → List ℕ) → K → Page → K → List ℕ → List Answered → Type 0
+AreMade sink_tells devices_tell held given_at start page last text [] = Unit {0}
+AreMade sink_tells devices_tell held given_at start page last text (first ∷ answered) =
+    IsMade sink_tells devices_tell held given_at start page last (text ++ reply_line first) first
+    × AreMade sink_tells devices_tell held given_at start page last (text ++ reply_line first) answered
+
+-- What a sink gained between two states of a session it gained by the moment of the second.
+abbrev pub Gains : {D K : Type 0} → (D → DevicesState) → Type 0 → Type 0 → (K → List ℕ) → (K → List ℕ) → K → K → Log D → Type 0
+Gains state devices_tell sink_tells held given_at first last log = sink_tells → devices_tell → GainsBy held given_at first last (state log.devices).moment
 
 -- The lines of these answers were printed after a text, each acknowledgement when it was made.
-pub record PrintsLines {K : Type 0} (sink_tells : Type 0) (held : K → List ℕ) (faults : K → ℕ) (start : K) (text : List ℕ) (answered : List Answered) (page : Page) (sink : K) : Type 0 where
+pub record PrintsLines {K : Type 0} (sink_tells devices_tell : Type 0) (held given_at : K → List ℕ) (faults : K → ℕ) (start : K) (text : List ℕ) (answered : List Answered) (page : Page) (sink : K) : Type 0 where
   pub prints : Prints sink_tells held faults start (text ++ reply_lines answered) page sink
-  pub made : AreMade sink_tells held start page sink text answered
+  pub made : AreMade sink_tells devices_tell held given_at start page sink text answered
 
 -- Each of the lines was answered, in order, and printed: the history has the entries, and the page the tally of the answers.
-pub record RunsLines {D K : Type 0} (state : D → DevicesState) (devices_tell sink_tells : Type 0) (held : K → List ℕ) (faults : K → ℕ) (lines : List Line) (old new : Log D) (page new_page : Page) (sink new_sink : K) : Type 0 where
+pub record RunsLines {D K : Type 0} (state : D → DevicesState) (devices_tell sink_tells : Type 0) (held given_at : K → List ℕ) (faults : K → ℕ) (lines : List Line) (old new : Log D) (page new_page : Page) (sink new_sink : K) : Type 0 where
   pub answered : List Answered
   pub are : map (λ a. a.line) answered ≡ lines
-  pub history : AddsEntries state devices_tell old new (filter_map entry_of answered)
-  pub prints : (start : K) (text : List ℕ) → Prints sink_tells held faults start text page sink → PrintsLines sink_tells held faults start text answered new_page new_sink
+  pub history : AddsEntries state devices_tell old new (filter_map entry_of answered) (filter_map ack_of answered)
+  pub gains : Gains state devices_tell sink_tells held given_at sink new_sink new
+  pub prints : (start : K) (text : List ℕ) → Prints sink_tells held faults start text page sink → Gains state devices_tell sink_tells held given_at start sink old
+      → PrintsLines sink_tells devices_tell held given_at faults start text answered new_page new_sink
   pub ended : has_ended page ≡ true → (has_ended new_page ≡ true) × (new_sink ≡ sink)
   pub tally : new_page.tally ≡ tally_after page.tally (map (λ a. a.reply) answered)
 
 -- A last sync was answered: its entry comes after the history, and nothing is printed for it.
 pub record RunsSync {D : Type 0} (state : D → DevicesState) (devices_tell : Type 0) (old new : Log D) (page new_page : Page) : Type 0 where
   pub reply : Reply
-  pub history : AddsEntries state devices_tell old new (last_entry reply)
+  pub history : AddsEntries state devices_tell old new (last_entry reply) (cons_option (ack_by (state new.devices).moment reply) [])
   pub noted : new_page ≡ record page { tally = tally_with page.tally reply }
 
 -- what a run prints whose lines have this text, after a history and with the tally of its replies
@@ -100,20 +108,22 @@ pub record EndsPrinting {K : Type 0} (sink_tells : Type 0) (held : K → List �
   pub otherwise : status ≢ 5 → (status ≡ tally_status tally) ⊎ ((status ≡ 7) × (sink_tells → IsCut text (held start) (held sink)))
 
 -- A run has ended after its lines: a last sync was answered, and the last line was printed.
-pub record RunsEnd {D K : Type 0} (forest : Forest) (state : D → DevicesState) (devices_tell sink_tells : Type 0) (held : K → List ℕ) (faults : K → ℕ) (old new : Log D) (page : Page) (sink new_sink : K) (status : ℕ) : Type 0 where
+pub record RunsEnd {D K : Type 0} (forest : Forest) (state : D → DevicesState) (devices_tell sink_tells : Type 0) (held given_at : K → List ℕ) (faults : K → ℕ) (old new : Log D) (page : Page) (sink new_sink : K) (status : ℕ) : Type 0 where
   pub reply : Reply
-  pub history : AddsEntries state devices_tell old new (last_entry reply)
+  pub history : AddsEntries state devices_tell old new (last_entry reply) (cons_option (ack_by (state new.devices).moment reply) [])
+  pub gains : Gains state devices_tell sink_tells held given_at sink new_sink new
   pub ends : (start : K) (text : List ℕ) → Prints sink_tells held faults start text page sink
       → EndsPrinting sink_tells held faults start (text_with_end forest new.trace (tally_with page.tally reply) text) (tally_with page.tally reply) new_sink status
   pub ended : has_ended page ≡ true → new_sink ≡ sink
 
 -- A script was run: each of its lines was answered, in order, and then a last sync.
-pub record RunsScript {K : Type 0} (forest : Forest) (sink_tells : Type 0) (held : K → List ℕ) (faults : K → ℕ) (script : List Line) (sink sink_after : K) (status : ℕ) (trace : History) : Type 0 where
+pub record RunsScript {K : Type 0} (forest : Forest) (sink_tells devices_tell : Type 0) (held given_at : K → List ℕ) (faults : K → ℕ) (script : List Line) (sink sink_after : K) (status : ℕ) (trace : History) (acks : List Ack) (moment_after : ℕ) : Type 0 where
   pub answered : List Answered
   pub last : Reply
   pub lines : map (λ a. a.line) answered ≡ script
   pub entries : trace ≡ entries_of answered last
-  pub made : WereMade sink_tells held sink sink_after [] answered
+  pub acknowledged : acks ≡ acks_of answered last moment_after
+  pub made : WereMade sink_tells devices_tell held given_at sink sink_after [] answered
   pub prefix : sink_tells → GivesPrefix (text_of forest answered last) (held sink) (held sink_after)
   pub whole : sink_tells → status ≢ 5 → status ≢ 7 → held sink_after ≡ held sink ++ text_of forest answered last
   pub failed : status ≡ 5 → RoseBy 1 (faults sink) (faults sink_after)

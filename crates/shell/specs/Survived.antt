@@ -3,12 +3,13 @@ use Rattle.std.specs.Prelude.{◌≡◌, ℕ, List, None, Ok}
 use Rattle.dev_model.specs.Disk.{as_read}
 use Rattle.dev_model.specs.Devices.{DevicesState, now}
 use Rattle.dev_model.specs.Crashes.{EachCrashNow}
+use Rattle.geometry.specs.Faults.{SomeFailed}
 use Rattle.plain_forest.specs.History.{History}
 use Rattle.session_history.specs.declared.acks.Ack.{Ack}
 use Rattle.log_records.specs.Found.{AreMirrored, Mounted, mounts}
 use Rattle.log_format.specs.Formatting.{FormatSurvives, fresh_volume}
 use Rattle.record_log.specs.Survives.{Survives}
-use Rattle.shell.specs.Mounts.{DeviceFailed, IsMountedAt}
+use Rattle.shell.specs.Mounts.{IsMountedAt}
 use Rattle.shell.specs.Outcome.{Outcome, EndedEarly, Ran, Formatted}
 
 -- The run mounted this volume, at this state of its devices. It is the one that the image means, unless a device had failed
@@ -16,7 +17,7 @@ use Rattle.shell.specs.Outcome.{Outcome, EndedEarly, Ran, Formatted}
 pub record Opened (devices_tell : Type 0) (opening : Mounted) (old mounted new : DevicesState) : Type 0 where
   pub session : ℕ
   pub between : IsMountedAt devices_tell opening.layout session old mounted new
-  pub means : devices_tell → ((dev : ℕ) × DeviceFailed old.faults mounted.faults dev → AreMirrored opening.layout (as_read (now old))) → mounts (as_read (now old)) ≡ Ok opening
+  pub means : devices_tell → (SomeFailed old.faults mounted.faults → AreMirrored opening.layout (as_read (now old))) → mounts (as_read (now old)) ≡ Ok opening
 
 -- A run of a script opened a volume; no other run did.
 abbrev pub OpensVolume : Type 0 → DevicesState → DevicesState → DevicesState → Mounted → Outcome → Type 0

@@ -1,7 +1,7 @@
 -- What a run is to do: what the arguments ask for, on so many devices.
 use Rattle.std.specs.Prelude.{◌≡◌, ℕ, List, Option, Some, None, replicate, length, if◌then◌else◌, option_and_then}
 use Rattle.vol_types.specs.declared.layout.Layout.{Layout}
-use Rattle.geometry.specs.Layouts.{is_layout}
+use Rattle.vol_types.specs.Layouts.{is_layout}
 use Rattle.command_words.specs.Requests.{request_of}
 use Rattle.command_words.specs.declared.request.FormatRequest.{FormatRequest}
 use Rattle.command_words.specs.declared.request.Request.{Request}

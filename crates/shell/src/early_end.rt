@@ -4,6 +4,7 @@ ghost use Rattle.text_io.specs.Streams.{GivesPrefix};
 ghost use Rattle.shell.specs.Outcome.{bad_end, early_line, early_status, refusal_number};
 
 use command_words::WordsFault;
+use dev_model::Devices;
 use geometry::DiskFault;
 use itoa::Buffer;
 use log_records::MountFault;
@@ -60,21 +61,37 @@ pub fn status_of(end: EarlyEnd) -> u8
 }
 
 /// Prints the line that says so. It takes no memory.
-pub fn print_early_end<K: Sink>(end: EarlyEnd, sink: &mut K) -> Result<(), Failed>
+pub fn print_early_end<K: Sink, D: Devices>(
+    end: EarlyEnd,
+    sink: &mut K,
+    devices: &D,
+) -> Result<(), Failed>
     ensures ok { K.tells → OnOk result (K.held sink.new ≡ K.held sink.old ++ early_line end) }
     ensures failed { K.tells → OnErr result (GivesPrefix (early_line end) (K.held sink.old) (K.held sink.new)) }
     ensures cause { CountsFaults result (K.faults sink.old) (K.faults sink.new) }
 {
     match end {
-        EarlyEnd::Usage => give_all(sink, b"error 1 usage\n"),
-        EarlyEnd::BadLine(line, cause) => give_number(sink, b"error 2 line ", line, bad_end(cause)),
-        EarlyEnd::TooLong => give_all(sink, b"error 2 too-long\n"),
-        EarlyEnd::Source => give_all(sink, b"error 4 source\n"),
+        EarlyEnd::Usage => give_all(sink, b"error 1 usage\n", devices),
+        EarlyEnd::BadLine(line, cause) => give_number(
+            sink,
+            devices,
+            b"error 2 line ",
+            line,
+            bad_end(cause),
+        ),
+        EarlyEnd::TooLong => give_all(sink, b"error 2 too-long\n", devices),
+        EarlyEnd::Source => give_all(sink, b"error 4 source\n", devices),
         EarlyEnd::Refused(refusal) => {
-            give_number(sink, b"mount refused ", number_of(refusal), b"\n")
+            give_number(sink, devices, b"mount refused ", number_of(refusal), b"\n")
         }
-        EarlyEnd::Device(dev) => give_number(sink, b"error 6 device ", u32::from(dev), b"\n"),
-        EarlyEnd::OutOfMemory => give_all(sink, b"error 7 memory\n"),
+        EarlyEnd::Device(dev) => give_number(
+            sink,
+            devices,
+            b"error 6 device ",
+            u32::from(dev),
+            b"\n",
+        ),
+        EarlyEnd::OutOfMemory => give_all(sink, b"error 7 memory\n", devices),
     }
 }
 
@@ -101,8 +118,9 @@ fn bad_end(cause: LineFault) -> &'static [u8]
 }
 
 // Gives a number between two texts.
-fn give_number<K: Sink>(
+fn give_number<K: Sink, D: Devices>(
     sink: &mut K,
+    devices: &D,
     before: &[u8],
     number: u32,
     after: &[u8],
@@ -111,10 +129,10 @@ fn give_number<K: Sink>(
     ensures failed { K.tells → OnErr result (GivesPrefix (before.now ++ decimal number ++ after.now) (K.held sink.old) (K.held sink.new)) }
     ensures cause { CountsFaults result (K.faults sink.old) (K.faults sink.new) }
 {
-    give_all(sink, before)?;
+    give_all(sink, before, devices)?;
     let mut buffer = Buffer::new();
-    give_all(sink, buffer.format(number).as_bytes())?;
-    give_all(sink, after)
+    give_all(sink, buffer.format(number).as_bytes(), devices)?;
+    give_all(sink, after, devices)
 }
 
 impl From<TakeFault> for EarlyEnd {

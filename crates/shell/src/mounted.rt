@@ -3,12 +3,13 @@ ghost use Rattle.dev_model.specs.Disk.{as_read};
 ghost use Rattle.dev_model.specs.Devices.{now};
 ghost use Rattle.dev_model.specs.Frames.{GoOn};
 ghost use Rattle.dev_model.specs.Crashes.{EachCrash, EachCrashNow, IsCrashImageBut};
+ghost use Rattle.geometry.specs.Faults.{SomeFailed};
 ghost use Rattle.geometry.specs.Layouts.{is_layout_of};
 ghost use Rattle.geometry.specs.Sessions.{IsSessionPlace};
 ghost use Rattle.log_records.specs.Found.{AreMirrored, Mounted, mounts, volume_of};
 ghost use Rattle.record_log.specs.Durable.{NamesSession};
 ghost use Rattle.record_log.specs.Survives.{Survives};
-ghost use Rattle.shell.specs.Mounts.{DeviceFailed, IsMountable, MountCause, OnlyReadUnmounted, last_session};
+ghost use Rattle.shell.specs.Mounts.{IsMountable, MountCause, OnlyReadUnmounted, last_session};
 ghost use Rattle.shell.specs.EarlyEnds.{end_of_begin};
 
 use crate::early_end::{EarlyEnd, Refusal};
@@ -21,7 +22,7 @@ use std::alloc::Global;
 /// Where the image doesn't mount, nothing is written.
 pub fn mount<D: Devices>(alloc: Global, devices: &mut D) -> Result<Loaded, EarlyEnd>
     ensures found { D.tells → let image = as_read (now (D.state devices.old)) in
-        IfOk result (λ loaded. ((dev : ℕ) × DeviceFailed (D.state devices.old).faults (D.state devices.new).faults dev → AreMirrored loaded.layout image) → mounts image ≡ Ok (volume_of loaded)) }
+        IfOk result (λ loaded. (SomeFailed (D.state devices.old).faults (D.state devices.new).faults → AreMirrored loaded.layout image) → mounts image ≡ Ok (volume_of loaded)) }
     ensures mountable { D.tells → IfOk result (λ loaded. IsMountable (as_read (now (D.state devices.old))) loaded.layout loaded.session) }
     ensures unspent { IfOk result (λ loaded. loaded.session < last_session) }
     ensures fits { IfOk result (λ loaded. is_layout_of (D.state devices.new).sizes loaded.layout ≡ true) }

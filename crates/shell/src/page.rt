@@ -1,10 +1,12 @@
 ghost use Rattle.std.specs.Prelude.{◌≡◌, ◌<◌, ◌++◌, [], true, false, ℕ, List, length};
+ghost use Rattle.text_io.specs.Streams.{GainsBy};
 ghost use Rattle.script_text.specs.Replies.{reply_line_of, end_line_of};
 ghost use Rattle.shell.specs.Outcome.{acknowledges};
 ghost use Rattle.shell.specs.Printing.{Prints, has_ended, page_status};
 ghost use Rattle.shell.specs.Phases.{tally_with};
 
 use crate::tally::Tally;
+use dev_model::Devices;
 use plain_forest::Reply;
 use script_text::{end_line, reply_line};
 use std::alloc::Global;
@@ -73,10 +75,11 @@ impl Page {
 }
 
 /// Gives the lines that have gathered to the sink, unless printing has ended.
-pub fn give_lines<K: Sink>(page: &mut Page, sink: &mut K)
+pub fn give_lines<K: Sink, D: Devices>(page: &mut Page, sink: &mut K, devices: &D)
     ensures prints { (start : K) (text : List ℕ) → Prints K.tells K.held K.faults start text page.old sink.old → Prints K.tells K.held K.faults start text page.new sink.new }
     ensures given { page.new.lines ≡ [] }
     ensures cut { page.new.is_cut ≡ page.old.is_cut }
+    ensures gains { K.tells → GainsBy K.held K.given_at sink.old sink.new (D.state devices.now).moment }
     ensures tally { page.new.tally ≡ page.old.tally }
     ensures ended { has_ended page.old ≡ true → has_ended page.new ≡ true }
     ensures same { has_ended page.old ≡ true → sink.new ≡ sink.old }
@@ -85,26 +88,42 @@ pub fn give_lines<K: Sink>(page: &mut Page, sink: &mut K)
         page.lines.truncate(0);
         return;
     }
-    page.has_failed = give_all(sink, page.lines.as_slice()).is_err();
+    page.has_failed = give_all(sink, page.lines.as_slice(), devices).is_err();
     page.lines.truncate(0);
 }
 
 /// Notes a reply, and prints its line. The lines that have gathered are given to the sink where they are many, and where
 /// the reply acknowledges commits: before the next operation begins.
-pub fn print_reply<K: Sink>(page: &mut Page, sink: &mut K, client: u8, line: u32, reply: &Reply)
+pub fn print_reply<K: Sink, D: Devices>(
+    page: &mut Page,
+    sink: &mut K,
+    devices: &D,
+    client: u8,
+    line: u32,
+    reply: &Reply,
+)
     ensures prints { (start : K) (text : List ℕ) → Prints K.tells K.held K.faults start text page.old sink.old → Prints K.tells K.held K.faults start (text ++ reply_line_of client line reply.now) page.new sink.new }
+    ensures gains { K.tells → GainsBy K.held K.given_at sink.old sink.new (D.state devices.now).moment }
     ensures tally { page.new.tally ≡ tally_with page.old.tally reply.now }
     ensures made { acknowledges reply.now ≡ true → has_ended page.new ≡ false → page.new.lines ≡ [] }
     ensures ended { has_ended page.old ≡ true → has_ended page.new ≡ true }
     ensures same { has_ended page.old ≡ true → sink.new ≡ sink.old }
 {
     page.note(reply);
-    print_line(page, sink, client, line, reply);
+    print_line(page, sink, devices, client, line, reply);
 }
 
 // Prints the line of a reply.
-fn print_line<K: Sink>(page: &mut Page, sink: &mut K, client: u8, line: u32, reply: &Reply)
+fn print_line<K: Sink, D: Devices>(
+    page: &mut Page,
+    sink: &mut K,
+    devices: &D,
+    client: u8,
+    line: u32,
+    reply: &Reply,
+)
     ensures prints { (start : K) (text : List ℕ) → Prints K.tells K.held K.faults start text page.old sink.old → Prints K.tells K.held K.faults start (text ++ reply_line_of client line reply.now) page.new sink.new }
+    ensures gains { K.tells → GainsBy K.held K.given_at sink.old sink.new (D.state devices.now).moment }
     ensures tally { page.new.tally ≡ page.old.tally }
     ensures made { acknowledges reply.now ≡ true → has_ended page.new ≡ false → page.new.lines ≡ [] }
     ensures ended { has_ended page.old ≡ true → has_ended page.new ≡ true }
@@ -115,11 +134,11 @@ fn print_line<K: Sink>(page: &mut Page, sink: &mut K, client: u8, line: u32, rep
     }
     let alloc = page.alloc;
     if reply_line(&mut page.lines, alloc, client, line, reply).is_err() {
-        cut(page, sink);
+        cut(page, sink, devices);
         return;
     }
     if are_due(page.lines.len(), reply) {
-        give_lines(page, sink);
+        give_lines(page, sink, devices);
     }
 }
 
@@ -131,20 +150,22 @@ fn are_due(gathered: usize, reply: &Reply) -> bool
 }
 
 // Ends printing at a line that is out of memory: the lines before it are given.
-fn cut<K: Sink>(page: &mut Page, sink: &mut K)
+fn cut<K: Sink, D: Devices>(page: &mut Page, sink: &mut K, devices: &D)
     requires { has_ended page.old ≡ false }
     ensures prints { (start : K) (text line : List ℕ) → 0 < length line → Prints K.tells K.held K.faults start text page.old sink.old → Prints K.tells K.held K.faults start (text ++ line) page.new sink.new }
+    ensures gains { K.tells → GainsBy K.held K.given_at sink.old sink.new (D.state devices.now).moment }
     ensures tally { page.new.tally ≡ page.old.tally }
     ensures ended { has_ended page.new ≡ true }
 {
-    give_lines(page, sink);
+    give_lines(page, sink, devices);
     page.is_cut = true;
 }
 
 /// Prints the last line: how many commits the run made, and the greatest number of them that was acknowledged.
-pub fn print_end<K: Sink>(page: &mut Page, commits: u64, sink: &mut K)
+pub fn print_end<K: Sink, D: Devices>(page: &mut Page, sink: &mut K, devices: &D, commits: u64)
     ensures prints { (start : K) (text : List ℕ) → Prints K.tells K.held K.faults start text page.old sink.old → Prints K.tells K.held K.faults start (text ++ end_line_of commits page.old.tally.synced) page.new sink.new }
     ensures given { has_ended page.new ≡ false → page.new.lines ≡ [] }
+    ensures gains { K.tells → GainsBy K.held K.given_at sink.old sink.new (D.state devices.now).moment }
     ensures tally { page.new.tally ≡ page.old.tally }
     ensures same { has_ended page.old ≡ true → sink.new ≡ sink.old }
 {
@@ -154,10 +175,10 @@ pub fn print_end<K: Sink>(page: &mut Page, commits: u64, sink: &mut K)
     let alloc = page.alloc;
     let synced = page.tally.synced;
     if end_line(&mut page.lines, alloc, commits, synced).is_err() {
-        cut(page, sink);
+        cut(page, sink, devices);
         return;
     }
-    give_lines(page, sink);
+    give_lines(page, sink, devices);
 }
 
 // Whether the reply acknowledges commits.

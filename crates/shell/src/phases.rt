@@ -3,6 +3,7 @@ ghost use Rattle.std.specs.List.{cons_option};
 ghost use Rattle.session_history.specs.Fits.{entry_if_any};
 ghost use Rattle.record_log.specs.Log.{IsFlat};
 ghost use Rattle.shell.specs.Flat.{AreFlat, IsFlatLine};
+ghost use Rattle.shell.specs.Outcome.{ack_by};
 ghost use Rattle.shell.specs.Phases.{AddsEntries, RunsEnd, RunsLines, RunsSync};
 
 use crate::page::{Page, give_lines, print_end, print_reply};
@@ -24,7 +25,7 @@ pub fn run_lines<K: Sink, D: Devices, O: Opening, G: Gate>(
     sink: &mut K,
 )
     requires { AreFlat script.now }
-    ensures { RunsLines D.state D.tells K.tells K.held K.faults script.now log.old log.new page.old page.new sink.old sink.new }
+    ensures { RunsLines D.state D.tells K.tells K.held K.given_at K.faults script.now log.old log.new page.old page.new sink.old sink.new }
 {
     for line in script {
         run_line(log, line, gate, page, sink);
@@ -40,7 +41,7 @@ fn run_line<K: Sink, D: Devices, O: Opening, G: Gate>(
     sink: &mut K,
 )
     requires { IsFlatLine line.now }
-    ensures { RunsLines D.state D.tells K.tells K.held K.faults (line.now ∷ []) log.old log.new page.old page.new sink.old sink.new }
+    ensures { RunsLines D.state D.tells K.tells K.held K.given_at K.faults (line.now ∷ []) log.old log.new page.old page.new sink.old sink.new }
 {
     if let Some(op) = &line.op {
         gate.at(line.client, BEFORE_COMMIT);
@@ -58,11 +59,18 @@ fn answer<K: Sink, D: Devices, O: Opening>(
     requires flat { IsFlat op.now }
     requires op { line.now.op ≡ Some op.now }
     requires client { line.now.client ≡ 0 }
-    ensures { RunsLines D.state D.tells K.tells K.held K.faults (line.now ∷ []) log.old log.new page.old page.new sink.old sink.new }
+    ensures { RunsLines D.state D.tells K.tells K.held K.given_at K.faults (line.now ∷ []) log.old log.new page.old page.new sink.old sink.new }
 {
     match ask(page.alloc, log, op) {
-        Ok(reply) => print_reply(page, sink, line.client, line.line, &reply),
-        Err(_) => print_reply(page, sink, line.client, line.line, &Reply::NoMemory),
+        Ok(reply) => print_reply(page, sink, log.devices(), line.client, line.line, &reply),
+        Err(_) => print_reply(
+            page,
+            sink,
+            log.devices(),
+            line.client,
+            line.line,
+            &Reply::NoMemory,
+        ),
     }
 }
 
@@ -73,8 +81,8 @@ fn ask<D: Devices, O: Opening>(
     op: &Op,
 ) -> Result<Reply, AllocError>
     requires { IsFlat op.now }
-    ensures answered { IfOk result (λ reply. AddsEntries D.state D.tells log.old log.new (cons_option (entry_if_any 0 op.now reply) [])) }
-    ensures err { OnErr result (AddsEntries D.state D.tells log.old log.new []) }
+    ensures answered { IfOk result (λ reply. AddsEntries D.state D.tells log.old log.new (cons_option (entry_if_any 0 op.now reply) []) (cons_option (ack_by (D.state log.new.devices).moment reply) [])) }
+    ensures err { OnErr result (AddsEntries D.state D.tells log.old log.new [] []) }
 {
     let op = op.copy(alloc)?;
     log.call(op)
@@ -97,10 +105,10 @@ pub fn end_run<K: Sink, D: Devices, O: Opening>(
     page: &mut Page,
     sink: &mut K,
 ) -> u8
-    ensures { RunsEnd O.forest D.state D.tells K.tells K.held K.faults log.old log.new page.old sink.old sink.new result }
+    ensures { RunsEnd O.forest D.state D.tells K.tells K.held K.given_at K.faults log.old log.new page.old sink.old sink.new result }
 {
-    give_lines(page, sink);
+    give_lines(page, sink, log.devices());
     final_sync(log, page);
-    print_end(page, log.commits(), sink);
+    print_end(page, sink, log.devices(), log.commits());
     page.status()
 }

@@ -3,6 +3,7 @@ ghost use Rattle.dev_model.specs.Disk.{as_read};
 ghost use Rattle.dev_model.specs.Devices.{now};
 ghost use Rattle.dev_model.specs.Frames.{GoOn};
 ghost use Rattle.dev_model.specs.Crashes.{EachCrash, EachCrashNow, IsCrashImageBut};
+ghost use Rattle.geometry.specs.Faults.{SomeFailed};
 ghost use Rattle.geometry.specs.Layouts.{is_layout_of};
 ghost use Rattle.geometry.specs.Sessions.{IsSessionPlace};
 ghost use Rattle.log_records.specs.Found.{AreMirrored, Mounted, mounts, volume_of};
@@ -10,7 +11,7 @@ ghost use Rattle.record_log.specs.Durable.{NamesSession};
 ghost use Rattle.record_log.specs.Survives.{Survives};
 ghost use Rattle.shell.specs.Flat.{AreFlat};
 ghost use Rattle.shell.specs.Tasks.{IsRun};
-ghost use Rattle.shell.specs.Mounts.{DeviceFailed, IsMountable, OnlyReadUnmounted, last_session};
+ghost use Rattle.shell.specs.Mounts.{IsMountable, OnlyReadUnmounted, last_session};
 ghost use Rattle.shell.specs.Output.{GaveScript, IsTaken, script_limit};
 ghost use Rattle.shell.specs.Causes.{EarlyCause, SourceFailed, TextCause};
 
@@ -41,7 +42,7 @@ pub fn prepare<S: Source, D: Devices>(
     devices: &mut D,
 ) -> Result<Plan, EarlyEnd>
     ensures found { D.tells → let image = as_read (now (D.state devices.old)) in
-        IfOk result (λ plan. ((dev : ℕ) × DeviceFailed (D.state devices.old).faults (D.state devices.new).faults dev → AreMirrored plan.loaded.layout image) → mounts image ≡ Ok (volume_of plan.loaded)) }
+        IfOk result (λ plan. (SomeFailed (D.state devices.old).faults (D.state devices.new).faults → AreMirrored plan.loaded.layout image) → mounts image ≡ Ok (volume_of plan.loaded)) }
     ensures mountable { D.tells → IfOk result (λ plan. IsMountable (as_read (now (D.state devices.old))) plan.loaded.layout plan.loaded.session) }
     ensures unspent { IfOk result (λ plan. plan.loaded.session < last_session) }
     ensures fits { IfOk result (λ plan. is_layout_of (D.state devices.new).sizes plan.loaded.layout ≡ true) }

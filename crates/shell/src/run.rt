@@ -4,7 +4,8 @@ ghost use Rattle.dev_model.specs.Disk.{as_read};
 ghost use Rattle.dev_model.specs.Devices.{now};
 ghost use Rattle.dev_model.specs.Frames.{GoOn};
 ghost use Rattle.dev_model.specs.Crashes.{EachCrash, EachCrashNow, IsCrashImageBut};
-ghost use Rattle.geometry.specs.Layouts.{is_layout, is_layout_of};
+ghost use Rattle.vol_types.specs.Layouts.{is_layout};
+ghost use Rattle.geometry.specs.Layouts.{is_layout_of};
 ghost use Rattle.geometry.specs.Sessions.{IsSessionPlace, session_in};
 ghost use Rattle.plain_forest.specs.History.{EachEntry, IsLegal};
 ghost use Rattle.session_history.specs.Acknowledged.{AreAcks};
@@ -55,7 +56,7 @@ pub fn run_words<R, S: Source, K: Sink, D: Devices + Send, G: Gate + Sync>(
     devices: D,
     gate: &G,
 ) -> Ended<D>
-    ensures { Headline S.tells K.tells D.tells K.held (record { arguments = map rc_str_bytes words.now; streams = record { left = S.left source.old; held = K.held sink.old; held_after = K.held sink.new }; faults = record { source = S.faults source.old; source_after = S.faults source.new; sink = K.faults sink.old; sink_after = K.faults sink.new }; sink = sink.old; sink_after = sink.new; devices = devices; devices_after = result.devices; state = D.state devices; state_after = D.state result.devices; status = result.status; early_end = result.early_end; trace = result.trace; acks = result.acks; shorts = result.shorts }) }
+    ensures { Headline S.tells K.tells D.tells K.held K.given_at (record { arguments = map rc_str_bytes words.now; streams = record { left = S.left source.old; held = K.held sink.old; held_after = K.held sink.new }; faults = record { source = S.faults source.old; source_after = S.faults source.new; sink = K.faults sink.old; sink_after = K.faults sink.new }; sink = sink.old; sink_after = sink.new; devices = devices; devices_after = result.devices; state = D.state devices; state_after = D.state result.devices; status = result.status; early_end = result.early_end; trace = result.trace; acks = result.acks; shorts = result.shorts }) }
 {
     reading_is_survived();
     match read_task(alloc, words, devices.count()) {
@@ -82,7 +83,7 @@ fn end_early<K: Sink, D: Devices>(
     ensures ends { EndsEarly K.tells (early_line end) (early_status end) (K.held sink.old) (K.held sink.new) (K.faults sink.old) (K.faults sink.new) result.status result.trace result.acks }
 {
     let status = status_of(end);
-    let is_printed = print_early_end(end, sink).is_ok();
+    let is_printed = print_early_end(end, sink, &devices).is_ok();
     Ended {
         status: if is_printed { status } else { 5 },
         early_end: Some(end),
@@ -105,7 +106,7 @@ fn end_formatted<K: Sink, D: Devices>(
     ensures shorts { result.shorts ≡ [] }
     ensures ends { EndsEarly K.tells line.now 0 (K.held sink.old) (K.held sink.new) (K.faults sink.old) (K.faults sink.new) result.status result.trace result.acks }
 {
-    let is_printed = give_all(sink, line.as_slice()).is_ok();
+    let is_printed = give_all(sink, line.as_slice(), &devices).is_ok();
     Ended {
         status: if is_printed { 0 } else { 5 },
         early_end: None,
@@ -146,7 +147,7 @@ fn run_script<S: Source, K: Sink, D: Devices, G: Gate, B: Opening>(
     gate: &G,
 ) -> Ended<D>
     requires { B.start ≡ D.state devices }
-    ensures { (arguments : List (List ℕ)) → IsRun arguments (D.state devices).sizes → Headline S.tells K.tells D.tells K.held (record { arguments = arguments; streams = record { left = S.left source.old; held = K.held sink.old; held_after = K.held sink.new }; faults = record { source = S.faults source.old; source_after = S.faults source.new; sink = K.faults sink.old; sink_after = K.faults sink.new }; sink = sink.old; sink_after = sink.new; devices = devices; devices_after = result.devices; state = D.state devices; state_after = D.state result.devices; status = result.status; early_end = result.early_end; trace = result.trace; acks = result.acks; shorts = result.shorts }) }
+    ensures { (arguments : List (List ℕ)) → IsRun arguments (D.state devices).sizes → Headline S.tells K.tells D.tells K.held K.given_at (record { arguments = arguments; streams = record { left = S.left source.old; held = K.held sink.old; held_after = K.held sink.new }; faults = record { source = S.faults source.old; source_after = S.faults source.new; sink = K.faults sink.old; sink_after = K.faults sink.new }; sink = sink.old; sink_after = sink.new; devices = devices; devices_after = result.devices; state = D.state devices; state_after = D.state result.devices; status = result.status; early_end = result.early_end; trace = result.trace; acks = result.acks; shorts = result.shorts }) }
 {
     let mut devices = devices;
     match prepare(alloc, source, &mut devices) {
@@ -174,7 +175,7 @@ fn run_plan<K: Sink, D: Devices, G: Gate, O: Opening>(
     requires goes_on { GoOn O.start (D.state devices) }
     requires flat { AreFlat plan.script }
     ensures legal { IsLegal O.forest result.trace }
-    ensures ran { RunsScript O.forest K.tells K.held K.faults plan.script sink.old sink.new result.status result.trace }
+    ensures ran { RunsScript O.forest K.tells D.tells K.held K.given_at K.faults plan.script sink.old sink.new result.status result.trace result.acks (D.state result.devices).moment }
     ensures halts { (halt : Option Halt) × Halts halt O.start (D.state result.devices) result.trace × EachEntry (IsExact O.forest plan.loaded.records plan.loaded.layout.journal (halt_or_none halt)) result.trace }
     ensures no_commit { NoCommitAfterHalt O.forest result.trace }
     ensures faults { HaveCauses O.start.faults (D.state result.devices).faults result.trace }

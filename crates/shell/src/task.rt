@@ -1,10 +1,9 @@
 ghost use Rattle.std.specs.Prelude.{◌≡◌, ◌<◌, ◌^◌, ℕ, Some, None, IfErr, IfOk, map, replicate, true, false};
 ghost use Rattle.std.specs.Rc.{rc_str_bytes};
-ghost use Rattle.geometry.specs.Layouts.{is_layout};
+ghost use Rattle.vol_types.specs.Layouts.{is_layout};
 ghost use Rattle.shell.specs.Tasks.{layout_asked, task_of};
 
 use command_words::{FormatRequest, Request, WordsFault, read_words};
-use geometry::is_layout;
 use std::alloc::{AllocError, Global};
 use std::rc::RcStr;
 use vol_types::{Blocks, Layout};
@@ -46,7 +45,7 @@ fn read_layout(alloc: Global, asked: &FormatRequest, devices: u8) -> Result<Layo
         metadata_replicas: asked.meta_replicas as u8,
         data_replicas: asked.data_replicas as u8,
     };
-    if is_layout(&layout) {
+    if layout.is_valid() {
         Ok(layout)
     } else {
         Err(WordsFault::Usage)

@@ -1,6 +1,8 @@
 mod Walking
 mod Cursors
 mod Linking
-mod Changing
-mod Putting
-mod Staying
+mod Alike
+mod Naming
+mod Listing
+mod Staleness
+mod Settling

@@ -2,6 +2,7 @@ pub mod Snaps
 pub mod Splits
 pub mod Updates
 pub mod Links
+pub mod Names
 pub mod Changes
 pub mod Walks
 pub mod Rising

@@ -1,8 +1,9 @@
 -- The links that a tree keeps for each id: to its ancestors 1, 2, 4 and so on above it.
-use Rattle.std.specs.Prelude.{◌≡◌, ℕ, ◌+◌, ◌^◌, ◌<◌, ◌≤◌, ◌==◌, Option, Some, None, IsSome, List, ⊤, length, slice_index, if◌then◌else◌}
+use Rattle.std.specs.Prelude.{◌≡◌, ℕ, ◌+◌, ◌^◌, ◌<◌, ◌≤◌, ◌==◌, Option, Some, None, IsSome, is_some, List, ⊤, length, slice_index, if◌then◌else◌}
 use Rattle.std.specs.Ordering.{nat_cmp}
 use Rattle.vol_types.specs.Maps.{value_at}
 use Rattle.snap_tree.specs.Snaps.{Snaps, IsSnapTree, chain_of, live_leaves}
+use Rattle.snap_tree.specs.Names.{Pairs, IsIndex}
 use Rattle.snap_tree.specs.declared.links.Links.{Links}
 
 -- ids in rising order, each with its links
@@ -38,8 +39,14 @@ IsPast (Some greatest) id = greatest < id
 abbrev pub AllHaveLinks : Snaps → AllLinks → Type 0
 AllHaveLinks snaps links = (id : ℕ) → IsSome (value_at nat_cmp id snaps) → HasLinks snaps links id
 
+-- The ids that have room for their links are those that are there.
+abbrev pub HaveSameIds : Snaps → AllLinks → Type 0
+HaveSameIds snaps links = (id : ℕ) → is_some (value_at nat_cmp id links) ≡ is_some (value_at nat_cmp id snaps)
+
 -- What is kept beside the records of trees agrees with them.
-pub record IsKept (snaps : Snaps) (links : AllLinks) (count : ℕ) : Type 0 where
+pub record IsKept (snaps : Snaps) (links : AllLinks) (pairs : Pairs) (count : ℕ) : Type 0 where
   pub tree : IsSnapTree snaps
   pub linked : AllHaveLinks snaps links
+  pub ids : HaveSameIds snaps links
+  pub index : IsIndex snaps pairs
   pub live : count ≡ live_leaves snaps

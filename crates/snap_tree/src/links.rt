@@ -1,12 +1,14 @@
-ghost use Rattle.std.specs.Prelude.{◌≡◌, ◌<◌, ◌≤◌, ◌+◌, ◌^◌, ◌==◌, ℕ, IsSome, IfSome, OnOk, length};
+ghost use Rattle.std.specs.Prelude.{◌≡◌, ◌<◌, ◌≤◌, ◌+◌, ◌^◌, ◌==◌, ℕ, false, IsSome, is_some, OnOk, length};
 ghost use Rattle.std.specs.Ordering.{nat_cmp};
 ghost use Rattle.vol_types.specs.Maps.{value_at};
 ghost use Rattle.snap_tree.specs.Snaps.{IsSnapTree, chain_of};
-ghost use Rattle.snap_tree.specs.Links.{AreLinks, HasLinks, AllHaveLinks, IsPast, link_in, link_at};
+ghost use Rattle.snap_tree.specs.Names.{has_id};
+ghost use Rattle.snap_tree.specs.Links.{AreLinks, HasLinks, AllHaveLinks, HaveSameIds, link_in, link_at};
 
+use crate::greatest::{last, last_below, last_id, last_id_below};
 use crate::tree::parent_or_zero;
 use std::alloc::AllocError;
-use std::collections::BTreeMap;
+use std::collections::{BTreeMap, BTreeSet};
 use vol_types::Snap;
 
 /// How many links an id has. A chain has at most 2^32 ids, so they pass its end.
@@ -56,26 +58,54 @@ fn links_of(snaps: &BTreeMap<u32, Snap>, links: &BTreeMap<u32, Links>, id: u32) 
     Links { above }
 }
 
-/// Makes the links of this id and of all smaller ones, where all greater ids have theirs, and all ids have room for them.
-/// Each costs a few logarithms of the number of all ids. It takes no memory.
-pub(crate) fn relink(
+/// Makes the links of all ids, which have room for them. Each costs a few logarithms of their number. It takes no memory.
+pub(crate) fn link_all(snaps: &BTreeMap<u32, Snap>, links: &mut BTreeMap<u32, Links>)
+    requires tree { IsSnapTree snaps.now.entries }
+    requires ids { HaveSameIds snaps.now.entries links.old.entries }
+    ensures linked { AllHaveLinks snaps.now.entries links.new.entries }
+    ensures ids { HaveSameIds snaps.now.entries links.new.entries }
+{
+    let mut next = last(snaps);
+    while let Some(id) = next {
+        link_one(snaps, links, id);
+        next = last_below(snaps, id);
+    }
+}
+
+/// Makes the links of some ids anew, where all others have theirs, and all have room. Each costs a few logarithms of the
+/// number of all ids. It takes no memory.
+pub(crate) fn link_stale(
     snaps: &BTreeMap<u32, Snap>,
     links: &mut BTreeMap<u32, Links>,
-    greatest: Option<u32>,
+    stale: &BTreeSet<u32>,
 )
     requires tree { IsSnapTree snaps.now.entries }
-    requires there { IfSome greatest (λ id. IsSome (value_at nat_cmp id snaps.now.entries)) }
-    requires above { (id : ℕ) → IsPast greatest id → IsSome (value_at nat_cmp id snaps.now.entries) → HasLinks snaps.now.entries links.old.entries id }
-    requires roomy { (id : ℕ) → IsSome (value_at nat_cmp id snaps.now.entries) → IsSome (value_at nat_cmp id links.old.entries) }
-    ensures { AllHaveLinks snaps.now.entries links.new.entries }
+    requires fresh { (id : ℕ) → has_id stale.now.keys id ≡ false → IsSome (value_at nat_cmp id snaps.now.entries) → HasLinks snaps.now.entries links.old.entries id }
+    requires ids { HaveSameIds snaps.now.entries links.old.entries }
+    ensures linked { AllHaveLinks snaps.now.entries links.new.entries }
+    ensures ids { HaveSameIds snaps.now.entries links.new.entries }
 {
-    let mut next = greatest;
+    let mut next = last_id(stale);
     while let Some(id) = next {
+        link_one(snaps, links, id);
+        next = last_id_below(stale, id);
+    }
+}
+
+// Makes the links of an id that may be missing, where all greater ones have theirs.
+fn link_one(snaps: &BTreeMap<u32, Snap>, links: &mut BTreeMap<u32, Links>, id: u32)
+    requires tree { IsSnapTree snaps.now.entries }
+    requires above { (other : ℕ) → id < other → IsSome (value_at nat_cmp other snaps.now.entries) → HasLinks snaps.now.entries links.old.entries other }
+    requires roomy { IsSome (value_at nat_cmp id snaps.now.entries) → IsSome (value_at nat_cmp id links.old.entries) }
+    ensures here { IsSome (value_at nat_cmp id snaps.now.entries) → HasLinks snaps.now.entries links.new.entries id }
+    ensures others { (other : ℕ) → ¬ (other ≡ id) → value_at nat_cmp other links.new.entries ≡ value_at nat_cmp other links.old.entries }
+    ensures ids { (other : ℕ) → is_some (value_at nat_cmp other links.new.entries) ≡ is_some (value_at nat_cmp other links.old.entries) }
+{
+    if snaps.contains_key(&id) {
         let own = links_of(snaps, links, id);
         if links.insert(id, own).is_err() {
             unreachable!()
         }
-        next = last_below(snaps, id);
     }
 }
 
@@ -83,44 +113,10 @@ pub(crate) fn relink(
 pub(crate) fn make_room(links: &mut BTreeMap<u32, Links>, id: u32) -> Result<(), AllocError>
     ensures ok { OnOk result (IsSome (value_at nat_cmp id links.new.entries)) }
     ensures kept { (other : ℕ) → IsSome (value_at nat_cmp other links.old.entries) → value_at nat_cmp other links.new.entries ≡ value_at nat_cmp other links.old.entries }
+    ensures others { (other : ℕ) → ¬ (other ≡ id) → value_at nat_cmp other links.new.entries ≡ value_at nat_cmp other links.old.entries }
 {
     if !links.contains_key(&id) {
         links.insert(id, Links { above: [0; 32] })?;
     }
     Ok(())
-}
-
-/// The greatest id.
-pub(crate) fn last(snaps: &BTreeMap<u32, Snap>) -> Option<u32>
-    ensures there { IfSome result (λ last. IsSome (value_at nat_cmp last snaps.now.entries)) }
-    ensures greatest { (id : ℕ) → IsPast result id → ¬ IsSome (value_at nat_cmp id snaps.now.entries) }
-{
-    match snaps.last_key_value() {
-        None => None,
-        Some((id, _)) => Some(*id),
-    }
-}
-
-/// The greatest id that isn't above this number.
-pub(crate) fn last_up_to(snaps: &BTreeMap<u32, Snap>, bound: u32) -> Option<u32>
-    ensures within { IfSome result (λ last. last ≤ bound) }
-    ensures there { IfSome result (λ last. IsSome (value_at nat_cmp last snaps.now.entries)) }
-    ensures greatest { (id : ℕ) → id ≤ bound → IsPast result id → ¬ IsSome (value_at nat_cmp id snaps.now.entries) }
-{
-    match snaps.range(..=bound).next_back() {
-        None => None,
-        Some((id, _)) => Some(*id),
-    }
-}
-
-// The greatest id below this number.
-fn last_below(snaps: &BTreeMap<u32, Snap>, bound: u32) -> Option<u32>
-    ensures within { IfSome result (λ last. last < bound) }
-    ensures there { IfSome result (λ last. IsSome (value_at nat_cmp last snaps.now.entries)) }
-    ensures greatest { (id : ℕ) → id < bound → IsPast result id → ¬ IsSome (value_at nat_cmp id snaps.now.entries) }
-{
-    if bound == 0 {
-        return None;
-    }
-    last_up_to(snaps, bound - 1)
 }

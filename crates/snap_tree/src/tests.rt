@@ -5,11 +5,12 @@ ghost use Rattle.snap_tree.specs.Snaps.{IsSnapKey};
 ghost use Rattle.snap_tree.specs.Updates.{IsFitting};
 
 use super::*;
+use crate::change::changes_of;
+use crate::split::{leaf_under, snap_update};
+use crate::stale::stale_of;
 use std::alloc::{AllocError, Global};
 use std::test::Fail;
-use vol_types::{
-    Btree, Duplicate, Key, Keys, Listing, Pos, Snap, SnapState, Update, Updates, Value,
-};
+use vol_types::{Duplicate, Key, Keys, Listing, Snap, SnapState, Update, Updates};
 
 /// An id with its parent, its children and its state.
 type Row = (u32, u32, u32, u32, SnapState);
@@ -38,19 +39,11 @@ fn snap_keys(alloc: Global, rows: &[Row]) -> Result<Keys, AllocError>
     ensures { IfOk result (All IsSnapKey) }
 {
     let mut keys = Keys::new(alloc);
-    for &(id, parent, first_child, second_child, state) in rows {
+    for row in rows {
+        let update = update_of(*row);
         keys.push(Key {
-            pos: Pos {
-                inode: 0,
-                offset: id as u64,
-                snapshot: 0,
-            },
-            value: Some(Value::Snap(Snap {
-                parent,
-                first_child,
-                second_child,
-                state,
-            })),
+            pos: update.pos,
+            value: update.value,
         })?;
     }
     Ok(keys)
@@ -99,18 +92,10 @@ fn ancestors(rt: HostRuntime) -> Result<(), Fail> {
 }
 
 fn update_of(row: Row) -> Update
-    ensures { IsFitting result }
+    ensures fits { IsFitting result }
+    ensures key { IsSnapKey (record { pos = result.pos; value = result.value }) }
 {
-    Update {
-        btree: Btree::Snapshots,
-        level: 0,
-        pos: Pos {
-            inode: 0,
-            offset: row.0 as u64,
-            snapshot: 0,
-        },
-        value: Some(Value::Snap(snap_of(row))),
-    }
+    snap_update(row.0, snap_of(row))
 }
 
 #[test]
@@ -187,22 +172,8 @@ fn put_updates(alloc: Global, rows: &[Row]) -> Result<Updates, AllocError>
     ensures { IfOk result (All IsFitting) }
 {
     let mut updates = Updates::new(alloc);
-    for &(id, parent, first_child, second_child, state) in rows {
-        updates.push(Update {
-            btree: Btree::Snapshots,
-            level: 0,
-            pos: Pos {
-                inode: 0,
-                offset: id as u64,
-                snapshot: 0,
-            },
-            value: Some(Value::Snap(Snap {
-                parent,
-                first_child,
-                second_child,
-                state,
-            })),
-        })?;
+    for row in rows {
+        updates.push(update_of(*row))?;
     }
     Ok(updates)
 }
@@ -210,16 +181,9 @@ fn put_updates(alloc: Global, rows: &[Row]) -> Result<Updates, AllocError>
 fn removal(id: u32) -> Update
     ensures { IsFitting result }
 {
-    Update {
-        btree: Btree::Snapshots,
-        level: 0,
-        pos: Pos {
-            inode: 0,
-            offset: id as u64,
-            snapshot: 0,
-        },
-        value: None,
-    }
+    let mut update = snap_update(id, leaf_under(0));
+    update.value = None;
+    update
 }
 
 #[test]
@@ -392,5 +356,96 @@ fn many_ids(rt: HostRuntime) -> Result<(), Fail> {
         assert_eq!(rt; split_lowest(&mut tree)?, links);
         assert_eq!(rt; tree.live_leaves(), 4097);
     }
+    Ok(())
+}
+
+// How many links updates make anew.
+fn links_made(tree: &SnapTree, updates: &Updates) -> Result<usize, AllocError>
+    requires { All IsFitting updates.now }
+{
+    let changes = changes_of(tree.alloc, &tree.snaps, updates)?;
+    let stale = stale_of(tree.alloc, &tree.snaps, &tree.names, &changes)?;
+    Ok(stale.len())
+}
+
+// An id that goes, two ids that go under its parent, and this parent, each as how far from the greatest id it is; how many
+// links are made anew for it; and how long the chain of the lowest of many ids is then.
+type TakenOut = (u32, u32, u32, u32, usize, usize);
+
+/// In the chain the ids 4,095 to 2,049 far are below the one that is 2,048 far: 2,046 of them, once that which is 4,094 far
+/// has gone.
+const LONG: [TakenOut; 2] = [
+    (4094, 4095, 4095, 4093, 1, 4095),
+    (2048, 2049, 2049, 2047, 2046, 4094),
+];
+
+/// In the wide tree two ids are under each, but one under that which is 2,047 far, as the lowest of 13 levels. Below an id
+/// of the fifth level are 2 + 4 + 8 + 16 + 32 + 64 + 128 = 254 ids, and the lowest one below the first of that level too.
+const WIDE: [TakenOut; 3] = [
+    (30, 61, 62, 14, 254, 13),
+    (15, 31, 32, 7, 255, 12),
+    (2047, 4095, 4095, 1023, 1, 11),
+];
+
+// The updates that take an id out.
+fn taken_out(alloc: Global, case: TakenOut) -> Result<Updates, AllocError>
+    ensures { IfOk result (All IsFitting) }
+{
+    let (gone, first, second, parent, _, _) = case;
+    let under = leaf_under(u32::MAX - parent);
+    let mut updates = Updates::new(alloc);
+    updates.push(snap_update(u32::MAX - first, under))?;
+    updates.push(snap_update(u32::MAX - second, under))?;
+    updates.push(removal(u32::MAX - gone))?;
+    Ok(updates)
+}
+
+// Whether taking an id out makes as many links anew, and leaves as long a chain, as the case says.
+fn is_as_told(tree: &mut SnapTree, case: TakenOut) -> Result<bool, SnapFault> {
+    let updates = taken_out(tree.alloc, case)?;
+    let made = links_made(tree, &updates)?;
+    tree.apply(&updates)?;
+    let lowest = u32::MAX - (MANY - 1);
+    let length = tree.chain(lowest)?.as_slice().len();
+    Ok(made == case.4 && length == case.5)
+}
+
+// The first id whose removal from a large tree isn't as told.
+fn first_untold(
+    alloc: Global,
+    is_long: bool,
+    cases: &[TakenOut],
+) -> Result<Option<u32>, SnapFault> {
+    let rows = many_rows(alloc, is_long)?;
+    let mut tree = SnapTree::of(alloc, &snap_keys(alloc, rows.as_slice())?)?;
+    for case in cases {
+        if !is_as_told(&mut tree, *case)? {
+            return Ok(Some(case.0));
+        }
+    }
+    Ok(None)
+}
+
+#[test]
+fn removals(rt: HostRuntime) -> Result<(), Fail> {
+    let alloc = rt.alloc();
+    assert_eq!(rt; first_untold(alloc, true, &LONG)?, None);
+    assert_eq!(rt; first_untold(alloc, false, &WIDE)?, None);
+    Ok(())
+}
+
+// How many links a snapshot of 96 makes.
+fn split_links(tree: &SnapTree) -> Result<usize, SnapFault> {
+    let split = tree.split_leaf(96, 90)?;
+    Ok(links_made(tree, &split.updates)?)
+}
+
+#[test]
+fn few_links(rt: HostRuntime) -> Result<(), Fail> {
+    let alloc = rt.alloc();
+    let tree = SnapTree::of(alloc, &snap_keys(alloc, &TREES)?)?;
+    assert_eq!(rt; split_links(&tree)?, 2);
+    let root = updates_of(alloc, &[(88, 0, 0, 0, SnapState::LiveLeaf)], 0)?;
+    assert_eq!(rt; links_made(&tree, &root)?, 1);
     Ok(())
 }

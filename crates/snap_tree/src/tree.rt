@@ -9,7 +9,8 @@ ghost use Rattle.snap_tree.specs.TreeLaws.{HasParent};
 ghost use Rattle.snap_tree.specs.Updates.{IsFitting};
 ghost use Rattle.snap_tree.specs.Walks.{FollowsFew, ancestors};
 
-use crate::links::{LEVELS, Links, last, link, make_room, relink};
+use crate::links::{LEVELS, Links, link, link_all, make_room};
+use crate::names::{Names, names_of};
 use crate::split::{interior_over, leaf_under, snap_update};
 use crate::{SnapFault, Split, Steps};
 use std::alloc::{AllocError, Global};
@@ -23,6 +24,7 @@ use vol_types::{Duplicate, Ids, Keys, Snap, SnapState, Updates, Value};
 pub struct SnapTree {
     pub(crate) snaps: BTreeMap<u32, Snap>,
     pub(crate) links: BTreeMap<u32, Links>,
+    pub(crate) names: Names,
     pub(crate) live: usize,
     pub(crate) alloc: Global,
 }
@@ -35,7 +37,7 @@ impl Model for SnapTree {
 
     ghost view = { λ tree. tree.snaps.entries };
 
-    ghost invariant = { λ tree. IsKept tree.snaps.entries tree.links.entries tree.live };
+    ghost invariant = { λ tree. IsKept tree.snaps.entries tree.links.entries tree.names.keys tree.live };
 }
 
 impl SnapTree {
@@ -46,6 +48,7 @@ impl SnapTree {
         SnapTree {
             snaps: BTreeMap::new(alloc),
             links: BTreeMap::new(alloc),
+            names: Names::new(alloc),
             live: 0,
             alloc,
         }
@@ -71,12 +74,13 @@ impl SnapTree {
         if !are_trees(&snaps) {
             return Err(SnapFault::NoNode);
         }
-        let greatest = last(&snaps);
-        relink(&snaps, &mut links, greatest);
+        let names = names_of(alloc, &snaps)?;
+        link_all(&snaps, &mut links);
         let live = count_live(&snaps);
         Ok(SnapTree {
             snaps,
             links,
+            names,
             live,
             alloc,
         })
@@ -237,6 +241,7 @@ impl Duplicate for SnapTree {
         Ok(SnapTree {
             snaps: self.snaps.clone()?,
             links: self.links.clone()?,
+            names: self.names.clone()?,
             live: self.live,
             alloc,
         })
@@ -276,14 +281,14 @@ pub(crate) fn is_live(state: SnapState) -> bool
 }
 
 // Whether the ids make trees.
-pub(crate) fn are_trees(snaps: &BTreeMap<u32, Snap>) -> bool
+fn are_trees(snaps: &BTreeMap<u32, Snap>) -> bool
     ensures { result ≡ are_trees snaps.now.entries }
 {
     snaps.iter().all(|(id, snap)| is_joined(snaps, *id, snap))
 }
 
 // Whether the parent and the children of an id are there, and the parent is above it.
-pub(crate) fn is_joined(snaps: &BTreeMap<u32, Snap>, id: u32, snap: &Snap) -> bool
+fn is_joined(snaps: &BTreeMap<u32, Snap>, id: u32, snap: &Snap) -> bool
     ensures { result ≡ is_joined snaps.now.entries id snap.now }
 {
     is_there(snaps, snap.parent)

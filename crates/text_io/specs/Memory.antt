@@ -33,8 +33,10 @@ pub record SourceState : Type 0 where
   pub left : List ℕ
   pub calls : CallCounts
 
--- A sink: the bytes that it holds, for how many more it has the memory, and its calls.
+-- A sink: the bytes that it holds, the moment of the devices at which each was given, for how many more it has the memory, and
+-- its calls.
 pub record SinkState : Type 0 where
   pub held : List ℕ
+  pub given_at : List ℕ
   pub room : ℕ
   pub calls : CallCounts

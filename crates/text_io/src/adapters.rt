@@ -3,6 +3,7 @@ ghost use Rattle.vol_types.specs.Faults.{CountsFaults};
 ghost use Rattle.std.specs.Io.KnownBytes.{ReadConsumes, WriteAppends};
 
 use crate::{Sink, Source};
+use dev_model::Devices;
 use std::io::{Read, Write};
 use vol_types::Failed;
 
@@ -93,9 +94,11 @@ impl<W: Write> Sink for StdSink<W> {
 
     ghost held = { λ _. [] };
 
+    ghost given_at = { λ _. [] };
+
     ghost faults = { λ sink. sink.faults };
 
-    fn give(&mut self, from: &[u8]) -> Result<usize, Failed>
+    fn give<D: Devices>(&mut self, from: &[u8], _devices: &D) -> Result<usize, Failed>
         ensures count { IfOk result (λ n. n ≤ length from.now) }
         ensures progress { IfOk result (λ n. 0 < length from.now → 1 ≤ n) }
         ensures cause { CountsFaults result self.old.faults self.new.faults }

@@ -1,9 +1,11 @@
 ghost use Rattle.std.specs.Prelude.{◌≡◌, ◌+◌, ◌<◌, ◌≤◌, ◌++◌, ◌↔◌, [], min, length, take, IsOk, IsErr, IfOk, OnOk, OnErr, MatchResult};
 ghost use Rattle.vol_types.specs.Faults.{CountsFaults};
 ghost use Rattle.text_io.specs.Memory.{IsToFail, CountsCall, no_calls};
+ghost use Rattle.text_io.specs.Streams.{AreGivenAt};
 
 use crate::calls::Calls;
 use crate::{Sink, Source};
+use dev_model::Devices;
 use std::alloc::{AllocError, Global};
 use std::marker::Model;
 use vol_types::Failed;
@@ -104,18 +106,20 @@ impl Source for MemSource {
 #[derive(Drop)]
 pub struct MemSink {
     bytes: Vec<u8>,
+    /// For each byte the moment of the devices at which it was given.
+    given_at: Vec<u64>,
     calls: Calls,
 }
 
 impl Model for MemSink {
-    ghost use Rattle.std.specs.Prelude.{◌-◌, ◌<◌, vec_len, vec_capacity};
+    ghost use Rattle.std.specs.Prelude.{◌≡◌, ◌-◌, ◌<◌, min, vec_len, vec_capacity};
     ghost use Rattle.text_io.specs.Memory.{SinkState};
 
     ghost Value = { SinkState };
 
-    ghost view = { λ sink. record { held = sink.bytes.items; room = vec_capacity sink.bytes - vec_len sink.bytes; calls = sink.calls } };
+    ghost view = { λ sink. record { held = sink.bytes.items; given_at = sink.given_at.items; room = min (vec_capacity sink.bytes - vec_len sink.bytes) (vec_capacity sink.given_at - vec_len sink.given_at); calls = sink.calls } };
 
-    ghost invariant = { λ sink. 0 < sink.calls.most };
+    ghost invariant = { λ sink. (0 < sink.calls.most) × (vec_len sink.given_at ≡ vec_len sink.bytes) };
 }
 
 impl MemSink {
@@ -126,6 +130,7 @@ impl MemSink {
     {
         Ok(MemSink {
             bytes: Vec::new(alloc),
+            given_at: Vec::new(alloc),
             calls: Calls::new(alloc, failing)?,
         })
     }
@@ -144,10 +149,12 @@ impl MemSink {
     /// Makes room for so many bytes more.
     pub fn reserve(&mut self, bytes: usize) -> Result<(), AllocError>
         ensures room { OnOk result (bytes ≤ self.new.room) }
+        ensures enough { bytes ≤ self.old.room → IsOk result }
         ensures less { self.old.room ≤ self.new.room }
         ensures others { self.new ≡ record self.old { room = self.new.room } }
     {
-        self.bytes.reserve(bytes)
+        self.bytes.reserve(bytes)?;
+        self.given_at.reserve(bytes)
     }
 
     /// The bytes that it holds.
@@ -155,6 +162,13 @@ impl MemSink {
         ensures { result.now ≡ self.now.held }
     {
         &self.bytes
+    }
+
+    /// For each of these bytes the moment of the devices at which it was given.
+    pub fn given_at(&self) -> &[u64]
+        ensures { result.now ≡ self.now.given_at }
+    {
+        &self.given_at
     }
 
     /// How many calls there were. The count stands still at its end.
@@ -170,6 +184,20 @@ impl MemSink {
     {
         self.calls.failed()
     }
+
+    // Makes room for so many bytes more, or fails as a call does.
+    fn make_room(&mut self, bytes: usize) -> Result<(), Failed>
+        ensures ok { OnOk result (bytes ≤ self.new.room) }
+        ensures enough { bytes ≤ self.old.room → IsOk result }
+        ensures less { self.old.room ≤ self.new.room }
+        ensures cause { CountsFaults result self.old.calls.failed self.new.calls.failed }
+        ensures others { self.new ≡ record self.old { room = self.new.room; calls = record self.old.calls { failed = self.new.calls.failed } } }
+    {
+        match self.reserve(bytes) {
+            Ok(()) => Ok(()),
+            Err(_) => Err(self.calls.fail()),
+        }
+    }
 }
 
 impl Sink for MemSink {
@@ -177,13 +205,16 @@ impl Sink for MemSink {
 
     ghost held = { λ sink. sink.held };
 
+    ghost given_at = { λ sink. sink.given_at };
+
     ghost faults = { λ sink. sink.calls.failed };
 
-    fn give(&mut self, from: &[u8]) -> Result<usize, Failed>
+    fn give<D: Devices>(&mut self, from: &[u8], devices: &D) -> Result<usize, Failed>
         ensures count { IfOk result (λ n. n ≤ length from.now) }
         ensures progress { IfOk result (λ n. 0 < length from.now → 1 ≤ n) }
         ensures bytes { IfOk result (λ n. self.new.held ≡ self.old.held ++ take n from.now) }
         ensures failed { OnErr result (self.new.held ≡ self.old.held) }
+        ensures moment { AreGivenAt (D.state devices.now).moment self.old.held self.new.held self.old.given_at self.new.given_at }
         ensures cause { CountsFaults result self.old.calls.failed self.new.calls.failed }
 
         ensures planned { IsToFail self.old.calls → IsErr result }
@@ -194,9 +225,14 @@ impl Sink for MemSink {
     {
         self.calls.begin()?;
         let n = self.calls.most().min(from.len());
-        match self.bytes.extend_from_slice(&from[..n]) {
-            Ok(()) => Ok(n),
-            Err(_) => Err(self.calls.fail()),
+        self.make_room(n)?;
+        if self.bytes.extend_from_slice(&from[..n]).is_err() {
+            unreachable!()
         }
+        let held = self.bytes.len();
+        if self.given_at.resize(held, devices.moment()).is_err() {
+            unreachable!()
+        }
+        Ok(n)
     }
 }

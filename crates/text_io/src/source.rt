@@ -16,7 +16,7 @@ pub trait Source {
     /// How many calls have failed. The count stands still at its end.
     ghost faults: { Self → ℕ };
 
-    /// Moves bytes from what is left into the front of the piece, and says how many. 0 for a piece that isn't empty
+    /// Moves bytes from what is left to the start of the piece, and says how many. 0 for a piece that isn't empty
     /// means the end. A source may give fewer bytes than there are, and goes on after a failure.
     fn take(&mut self, into: &mut [u8]) -> Result<usize, Failed>
         ensures count { IfOk result (λ n. n ≤ length into.old) }
@@ -94,7 +94,7 @@ fn make_piece(alloc: Global) -> Result<Vec<u8>, AllocError>
     vec![in alloc; 0; 65_536]
 }
 
-// Takes what one call gives, and puts it behind the bytes.
+// Takes what one call gives, and puts it after the bytes.
 fn take_piece<S: Source>(
     source: &mut S,
     most: usize,
@@ -115,8 +115,8 @@ fn take_piece<S: Source>(
     ensures later { S.faults source.old ≤ S.faults source.new }
 {
     let asked = most.min(piece.len());
-    let front = &mut piece[..asked];
-    let n = source.take(front)?;
-    bytes.extend_from_slice(&front[..n])?;
+    let prefix = &mut piece[..asked];
+    let n = source.take(prefix)?;
+    bytes.extend_from_slice(&prefix[..n])?;
     Ok(n)
 }

@@ -1,4 +1,5 @@
 use super::*;
+use dev_model::{Devices, MemDevices};
 use std::io::{Cursor, Write};
 use std::test::Fail;
 use vol_types::Failed;
@@ -47,15 +48,33 @@ fn a_failed_read_is_told(rt: HostRuntime) -> Result<(), Fail> {
 #[test]
 fn a_failed_write_leaves_what_was_given_before(rt: HostRuntime) -> Result<(), Fail> {
     let alloc = rt.alloc();
+    let devices = MemDevices::blank(alloc, &[16])?;
     for (call, held) in [(0, 0), (1, 3), (2, 6), (3, 9), (4, 10)] {
         let mut sink = MemSink::new(alloc, &[call])?.in_pieces(3);
         sink.reserve(10)?;
-        let given = give_all(&mut sink, TEXT);
+        let given = give_all(&mut sink, TEXT, &devices);
         assert_eq!(rt; given.is_ok(), call == 4);
         assert_eq!(rt; Some(sink.held()), TEXT.get(..held));
+        assert_eq!(rt; sink.given_at().len(), held);
         assert_eq!(rt; sink.faults(), if call == 4 { 0 } else { 1 });
         assert_eq!(rt; sink.calls(), if call == 4 { 4 } else { call + 1 });
     }
+    Ok(())
+}
+
+#[test]
+fn what_is_given_after_a_call_of_a_device_has_a_later_moment(rt: HostRuntime) -> Result<(), Fail> {
+    let alloc = rt.alloc();
+    let mut devices = MemDevices::blank(alloc, &[16])?;
+    let mut sink = MemSink::new(alloc, &[])?;
+    give_all(&mut sink, b"ab", &devices).expect(&rt, "no call fails");
+    let before = devices.moment();
+    devices.flush(0).expect(&rt, "no call fails");
+    give_all(&mut sink, b"c", &devices).expect(&rt, "no call fails");
+    assert_eq!(rt; sink.held(), b"abc".as_slice());
+    let moments = [before, before, devices.moment()];
+    assert_eq!(rt; sink.given_at(), moments.as_slice());
+    assert!(rt; before < devices.moment());
     Ok(())
 }
 
@@ -92,10 +111,11 @@ impl Write for Full {
 #[test]
 fn a_writer_is_a_sink_until_it_takes_nothing(rt: HostRuntime) -> Result<(), Fail> {
     let alloc = rt.alloc();
+    let devices = MemDevices::blank(alloc, &[16])?;
     for (room, outcome) in [(10, Ok(())), (8, Err(Failed))] {
         let bytes = Vec::new(alloc);
         let mut sink = StdSink::new(Full { bytes, room });
-        assert_eq!(rt; give_all(&mut sink, TEXT), outcome);
+        assert_eq!(rt; give_all(&mut sink, TEXT, &devices), outcome);
         assert_eq!(rt; Some(sink.into_inner().bytes.as_slice()), TEXT.get(..room));
     }
     Ok(())

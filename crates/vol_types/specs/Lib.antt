@@ -1,4 +1,5 @@
 pub mod Btrees
+pub mod CopyLaws
 pub mod Faults
 pub mod KeyMapLaws
 pub mod KeyMaps

@@ -10,6 +10,7 @@ mod laws;
 mod layout;
 mod limits;
 mod lists;
+mod maps;
 mod pointers;
 mod positions;
 mod queries;
@@ -27,6 +28,7 @@ pub use laws::{
 pub use layout::{Layout, Lost};
 pub use limits::{BLOCK_SIZE, BUCKET_BLOCKS, NODE_LIMIT};
 pub use lists::{Duplicate, Listing};
+pub use maps::copy_map;
 pub use pointers::{NodeEnd, NodePtr, Place, Pointer};
 pub use positions::{Btree, Pos};
 pub use queries::{Look, Query};

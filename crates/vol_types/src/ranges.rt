@@ -26,21 +26,25 @@ impl Value {
     }
 }
 
-fn most_links(kind: FileKind) -> u32
-    ensures { result ≡ most_links kind }
-{
-    match kind {
-        FileKind::File => 255,
-        FileKind::Directory => 1,
+impl FileKind {
+    /// The most names that an inode of this kind has.
+    pub fn most_links(self) -> u32
+        ensures { result ≡ most_links self }
+    {
+        match self {
+            FileKind::File => 255,
+            FileKind::Directory => 1,
+        }
     }
-}
 
-fn most_bytes(kind: FileKind) -> u64
-    ensures { result ≡ most_bytes kind }
-{
-    match kind {
-        FileKind::File => 16_777_216,
-        FileKind::Directory => 0,
+    /// The greatest size of an inode of this kind, in bytes.
+    pub fn most_bytes(self) -> u64
+        ensures { result ≡ most_bytes self }
+    {
+        match self {
+            FileKind::File => 16_777_216,
+            FileKind::Directory => 0,
+        }
     }
 }
 
@@ -48,8 +52,8 @@ fn is_inode(inode: &Inode) -> bool
     ensures { IsTrue result ↔ IsInode inode.now }
 {
     1 <= inode.links
-        && inode.links <= most_links(inode.kind)
-        && inode.size <= most_bytes(inode.kind)
+        && inode.links <= inode.kind.most_links()
+        && inode.size <= inode.kind.most_bytes()
 }
 
 fn is_name(name: &[u8]) -> bool

@@ -19,24 +19,24 @@ pub struct Ran {
     pub sink: MemSink,
 }
 
-/// Runs a script with the word `run`.
+/// Runs a script with the argument `run`.
 pub fn run(alloc: Global, script: &[u8], devices: MemDevices) -> Result<Ran, AllocError> {
     let mut source = MemSource::new(alloc, script, &[])?;
     let sink = MemSink::new(alloc, &[])?;
     run_over(alloc, &["run"], &mut source, sink, devices)
 }
 
-/// Runs what the source gives, with these words.
+/// Runs what the source gives, with these arguments.
 pub fn run_over(
     alloc: Global,
-    words: &[&str],
+    arguments: &[&str],
     source: &mut MemSource,
     sink: MemSink,
     devices: MemDevices,
 ) -> Result<Ran, AllocError> {
     let mut all = Vec::new(alloc);
-    for word in words {
-        all.push(RcStr::from_str(alloc, word)?)?;
+    for argument in arguments {
+        all.push(RcStr::from_str(alloc, argument)?)?;
     }
     let mut sink = sink;
     let before = devices.calls();

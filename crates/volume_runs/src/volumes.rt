@@ -6,19 +6,19 @@ use std::alloc::{AllocError, Global};
 use text_io::{MemSink, MemSource};
 use vol_types::Bytes;
 
-/// The id of the volumes of these tests, as the words give it.
+/// The id of the volumes of these tests, as the arguments give it.
 pub const ID_TEXT: &str = "00000000-0000-4000-8000-000000000001";
 
 /// The same id in its 16 bytes.
 pub const ID: [u8; 16] = [0, 0, 0, 0, 0, 0, 0x40, 0, 0x80, 0, 0, 0, 0, 0, 0, 1];
 
-/// The words that format one device, and the line that they print.
+/// The arguments that format one device, and the line that they print.
 pub const ONE: &[&str] = &["format", "--id", ID_TEXT, "--blocks", "1024"];
 
 pub const ONE_LINE: &[u8] =
     b"formatted 00000000-0000-4000-8000-000000000001 devices 1 blocks 1024 journal 256\n";
 
-/// The words that format two devices with two replicas of everything, and the line that they print.
+/// The arguments that format two devices with two replicas of everything, and the line that they print.
 pub const TWO: &[&str] = &[
     "format",
     "--id",
@@ -34,14 +34,18 @@ pub const TWO: &[&str] = &[
 pub const TWO_LINE: &[u8] =
     b"formatted 00000000-0000-4000-8000-000000000001 devices 2 blocks 1024 journal 256\n";
 
-/// Does what the words ask for, over a source whose first call fails. So a run that asks the source ends with the status 4.
-pub fn do_words(alloc: Global, words: &[&str], devices: MemDevices) -> Result<Ran, AllocError> {
+/// Does what the arguments ask for, over a source whose first call fails. So a run that asks the source ends with the status 4.
+pub fn do_arguments(
+    alloc: Global,
+    arguments: &[&str],
+    devices: MemDevices,
+) -> Result<Ran, AllocError> {
     let mut source = MemSource::new(alloc, b"", &[0])?;
     let sink = MemSink::new(alloc, &[])?;
-    run_over(alloc, words, &mut source, sink, devices)
+    run_over(alloc, arguments, &mut source, sink, devices)
 }
 
-// The devices that were formatted. Where the words didn't end with this line, a blank device, so that no run mounts it.
+// The devices that were formatted. Where the arguments didn't end with this line, a blank device, so that no run mounts it.
 fn formatted(alloc: Global, ran: Ran, line: &[u8]) -> Result<MemDevices, AllocError> {
     if ran.status != 0 || ran.sink.held() != line {
         return MemDevices::blank(alloc, &[1024]);
@@ -51,13 +55,13 @@ fn formatted(alloc: Global, ran: Ran, line: &[u8]) -> Result<MemDevices, AllocEr
 
 /// A volume on one device of 1,024 blocks, with a journal area of 256.
 pub fn one_device(alloc: Global) -> Result<MemDevices, AllocError> {
-    let ran = do_words(alloc, ONE, MemDevices::blank(alloc, &[1024])?)?;
+    let ran = do_arguments(alloc, ONE, MemDevices::blank(alloc, &[1024])?)?;
     formatted(alloc, ran, ONE_LINE)
 }
 
 /// A volume on two such devices, with two replicas of everything.
 pub fn two_devices(alloc: Global) -> Result<MemDevices, AllocError> {
-    let ran = do_words(alloc, TWO, MemDevices::blank(alloc, &[1024, 1024])?)?;
+    let ran = do_arguments(alloc, TWO, MemDevices::blank(alloc, &[1024, 1024])?)?;
     formatted(alloc, ran, TWO_LINE)
 }
 
@@ -65,7 +69,7 @@ pub fn two_devices(alloc: Global) -> Result<MemDevices, AllocError> {
 pub fn fail(devices: &mut MemDevices, call: u64, stays: bool) -> Result<(), AllocError> {
     let call = devices.calls().saturating_add(call);
     if stays {
-        devices.stop_after(call);
+        devices.fail_from(call);
         Ok(())
     } else {
         devices.fail_at(&[call])

@@ -41,7 +41,7 @@ fn a_sink_that_fails_stops_no_run(rt: HostRuntime) -> Result<(), Fail> {
 }
 
 // Calls 0 to 4 read both superblocks, both sessions and the first record, 5 and 6 write the new session and flush it, 7
-// flushes before the record, 8 writes it, and 9 flushes behind it.
+// flushes before the record, 8 writes it, and 9 flushes after it.
 #[test]
 fn a_device_that_fails_is_told(rt: HostRuntime) -> Result<(), Fail> {
     let alloc = rt.alloc();

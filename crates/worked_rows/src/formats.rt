@@ -2,10 +2,10 @@ use dev_model::{MemDevices, Pick};
 use std::alloc::{AllocError, Global};
 use std::test::Fail;
 use volume_runs::{
-    ID_TEXT, ONE, ONE_LINE, Ran, TWO, TWO_LINE, do_words, has_acks, run, session_on,
+    ID_TEXT, ONE, ONE_LINE, Ran, TWO, TWO_LINE, do_arguments, has_acks, run, session_on,
 };
 
-// Whether the words formatted the devices, and printed this line. The source wasn't asked, and there is no history.
+// Whether the arguments formatted the devices, and printed this line. The source wasn't asked, and there is no history.
 fn has_formatted(ran: &Ran, line: &[u8]) -> bool {
     ran.status == 0 && ran.sink.held() == line && ran.trace.len() == 0 && has_acks(ran, &[])
 }
@@ -24,7 +24,7 @@ fn runs_nothing(alloc: Global, devices: MemDevices) -> Result<bool, AllocError> 
 #[test]
 fn two_devices_are_formatted_and_run(rt: HostRuntime) -> Result<(), Fail> {
     let alloc = rt.alloc();
-    let formatted = do_words(alloc, TWO, MemDevices::blank(alloc, &[1024, 1024])?)?;
+    let formatted = do_arguments(alloc, TWO, MemDevices::blank(alloc, &[1024, 1024])?)?;
     assert!(rt; has_formatted(&formatted, TWO_LINE));
     let ran = run(alloc, b"", formatted.devices)?;
     assert_eq!(rt; ran.sink.held(), b"end commits 0 synced 0\n".as_slice());
@@ -48,7 +48,7 @@ fn two_devices_are_formatted_and_run(rt: HostRuntime) -> Result<(), Fail> {
 #[test]
 fn the_longest_journal_is_formatted(rt: HostRuntime) -> Result<(), Fail> {
     let alloc = rt.alloc();
-    let words = [
+    let arguments = [
         "format",
         "--id",
         ID_TEXT,
@@ -57,7 +57,7 @@ fn the_longest_journal_is_formatted(rt: HostRuntime) -> Result<(), Fail> {
         "--journal",
         "496",
     ];
-    let formatted = do_words(alloc, &words, MemDevices::blank(alloc, &[1024])?)?;
+    let formatted = do_arguments(alloc, &arguments, MemDevices::blank(alloc, &[1024])?)?;
     let line =
         b"formatted 00000000-0000-4000-8000-000000000001 devices 1 blocks 1024 journal 496\n".as_slice();
     assert!(rt; has_formatted(&formatted, line));
@@ -69,13 +69,13 @@ fn the_longest_journal_is_formatted(rt: HostRuntime) -> Result<(), Fail> {
 #[test]
 fn a_volume_is_formatted_again(rt: HostRuntime) -> Result<(), Fail> {
     let alloc = rt.alloc();
-    let first = do_words(alloc, ONE, MemDevices::blank(alloc, &[1024])?)?;
+    let first = do_arguments(alloc, ONE, MemDevices::blank(alloc, &[1024])?)?;
     let second = run(alloc, b"mkfile main:/a\n", first.devices)?;
     assert_eq!(rt;
         second.sink.held(),
         b"@0 1 ok\nend commits 1 synced 1\n".as_slice()
     );
-    let again = do_words(alloc, ONE, second.devices.restart(Pick::NoneWritten)?)?;
+    let again = do_arguments(alloc, ONE, second.devices.restart(Pick::NoneWritten)?)?;
     assert!(rt; has_formatted(&again, ONE_LINE));
     let mut devices = again.devices.restart(Pick::NoneWritten)?;
     assert_eq!(rt; session_on(alloc, &mut devices, 0, 4)?, None);

@@ -3,7 +3,7 @@ use std::alloc::{AllocError, Global};
 use std::test::Fail;
 use volume_runs::{Ran, fail, has_acks, letters, one_device, run, two_devices};
 
-// The second sync fails. Behind it come a name that was there before, one that was made since, a new one, a sync and a
+// The second sync fails. After it come a name that was there before, one that was made since, a new one, a sync and a
 // listing.
 const SCRIPT: &[u8] =
     b"mkfile main:/a\nsync\nmkfile main:/b\nsync\nmkfile main:/a\nmkfile main:/b\nmkfile main:/c\nsync\nls main:/\n";
@@ -43,7 +43,7 @@ fn halts(
     has_halted(alloc, &ran, dev, call.saturating_add(1))
 }
 
-// Behind a sync that failed, at a flush or at its write, the forest still refuses what it would refuse, and lists. All else
+// After a sync that failed, at a flush or at its write, the forest still refuses what it would refuse, and lists. All else
 // has halted, and no device is called any more. Mounting makes 7 calls, and each record 3.
 #[test]
 fn a_halted_session_refuses_and_lists(rt: HostRuntime) -> Result<(), Fail> {

@@ -20,7 +20,7 @@ pub returns-then-has_stray-clause-usage : goal.returns-then-has_stray-clause-usa
 returns-then-has_stray-clause-usage c = λ _.
     stray_format (map (rc_str_bytes {Z = Global}) c.args.words.now) (sym (any_of_mapped is_stray (rc_str_bytes {Z = Global}) c.args.words.now) ∙ (sym c.has_stray.ensures ∙ c.if-has_stray.true))
 
--- what clap's values make is what the words ask for
+-- what clap's values make is what the arguments ask for
 read_is : (c : goal.Joined-matches) → c.read_matches.result ≡ format_of (map (rc_str_bytes {Z = Global}) c.args.words.now)
 read_is c =
     let words = map (rc_str_bytes {Z = Global}) c.args.words.now in

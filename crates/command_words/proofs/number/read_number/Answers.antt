@@ -1,6 +1,6 @@
 use Rattle.std.proofs.Common.{◌∙◌, ◌≡◌, sym, ap, true, false, None}
 use Rattle.command_words.specs.Numbers.{is_numeral, number}
-use Rattle.command_words.proofs.NumberText.{no_number, parsed_number, spelled_by}
+use Rattle.command_words.proofs.NumberText.{no_number, parsed_number, numeral_by}
 use Rattle.command_words.proofs.number.read_number.Goals as goal
 
 pub returns-then-is_numeral : goal.returns-then-is_numeral
@@ -9,7 +9,7 @@ returns-then-is_numeral c =
     let value : c.ok.result ≡ number c.args.text.now = c.ok.ensures.value ∙ parsed_number c.args.text.now c.parse.result is c.parse.ensures.value.0 in
     record {
       value = value;
-      spelled = λ n fits. spelled_by c.ok.result c.args.text.now value n fits;
+      numeral = λ n fits. numeral_by c.ok.result c.args.text.now value n fits;
     }
 
 pub returns-else-is_numeral : goal.returns-else-is_numeral
@@ -18,5 +18,5 @@ returns-else-is_numeral c =
     let value : None ≡ number c.args.text.now = no_number c.args.text.now is in
     record {
       value = value;
-      spelled = λ n fits. spelled_by None c.args.text.now value n fits;
+      numeral = λ n fits. numeral_by None c.args.text.now value n fits;
     }

@@ -2,7 +2,7 @@ use Rattle.std.proofs.Common.{◌<◌, ℕ, List, length, sym, subst, arith}
 use Rattle.dev_model.specs.Devices.{IsPlace}
 use Rattle.geometry.specs.LayoutFacts.{area_is_place, has_places}
 use Rattle.geometry.specs.Faults.{fault_device}
-use Rattle.geometry.proofs.HandedFaults.{handed_named, named_below}
+use Rattle.geometry.specs.FaultLaws.{handed_named, named_below}
 use Rattle.geometry.proofs.sessions.read_session.Goals as goal
 
 pub read_device-requires : goal.read_device-requires

@@ -6,7 +6,7 @@ use Rattle.geometry.specs.Mirrors.{IsMirror, IsMirrorBlock}
 use Rattle.dev_model.specs.HeldBlocks.{HoldOnly}
 use Rattle.geometry.specs.Sessions.{session_block}
 use Rattle.geometry.specs.SessionLaws.{place_is_low}
-use Rattle.geometry.proofs.HandedFaults.{named_in}
+use Rattle.geometry.specs.FaultLaws.{named_in}
 use Rattle.geometry.proofs.sessions.write_session.Goals as goal
 
 pub settle_mirrors-requires-clause-mirrors : goal.settle_mirrors-requires-clause-mirrors

@@ -1,5 +1,5 @@
 use Rattle.std.proofs.Common.{◌≡◌, ◌+◌, ◌*◌, take, Some, ap, ◌∙◌, arith}
-use Rattle.sealed_block.specs.Blocks.{spelling}
+use Rattle.sealed_block.specs.Blocks.{encoding}
 use Rattle.geometry.specs.LayoutFacts.{few_devices}
 use Rattle.geometry.specs.Superblocks.{super_block, super_head, super_payload}
 use Rattle.geometry.proofs.WrittenCopies.{head_over, holds_itself}
@@ -14,7 +14,7 @@ returns-clause-bytes c =
     let layout = c.args.layout.now in
     let payload : c.split_at.result.0.now ≡ super_payload layout c.args.dev = c.split_at.ensures.front ∙ ap (λ n. take (8 + 4 * n) c.super_payload-bytes.result) c.len.ensures ∙ c.super_payload-bytes.ensures.bytes in
     let head : c.super_head.result ≡ super_head layout c.args.dev c.args.block c.args.sequence = c.super_head.ensures.head ∙ ap (head_over layout.id c.args.dev c.args.block c.args.sequence) payload in
-    c.seal.ensures.spelled ∙ ap (λ h. spelling h c.split_at.result.0.now) head ∙ ap (spelling (super_head layout c.args.dev c.args.block c.args.sequence)) payload
+    c.seal.ensures.encoded ∙ ap (λ h. encoding h c.split_at.result.0.now) head ∙ ap (encoding (super_head layout c.args.dev c.args.block c.args.sequence)) payload
 
 pub returns-clause-copy : goal.returns-clause-copy
 returns-clause-copy c counts =

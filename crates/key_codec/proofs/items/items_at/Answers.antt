@@ -2,7 +2,7 @@ use Rattle.std.proofs.Common.{◌≡◌, None, Ok, option_copied, subst}
 use Rattle.std.proofs.lemmas.Result.{err_from_is_err_and}
 use Rattle.key_codec.specs.Formats.{items, read_items}
 use Rattle.key_codec.specs.Reading.{Fails}
-use Rattle.key_codec.proofs.ItemLoop.{last_of, last_of-slice, goes_on, ends, is_done}
+use Rattle.key_codec.specs.ItemLoop.{last_of, last_of-slice, goes_on, ends, is_done}
 use Rattle.key_codec.proofs.items.items_at.Goals as goal
 
 pub returns-in_err-member : goal.returns-in_err-member

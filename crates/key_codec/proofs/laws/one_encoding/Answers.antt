@@ -1,4 +1,4 @@
-use Rattle.key_codec.proofs.KeyLaws.{keys_meet}
+use Rattle.key_codec.specs.KeyLaws.{keys_meet}
 use Rattle.key_codec.proofs.laws.one_encoding.Goals as goal
 
 pub returns : goal.returns

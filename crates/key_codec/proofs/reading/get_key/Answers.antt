@@ -6,7 +6,7 @@ use Rattle.key_codec.specs.declared.fault.KeyFault.{KeyFault}
 use Rattle.key_codec.specs.declared.reading.KeyRead.{KeyRead}
 use Rattle.key_codec.specs.Keys.{IsKey, encoding, key_in}
 use Rattle.key_codec.specs.Reading.{Gives}
-use Rattle.key_codec.proofs.KeyLaws.{key_found, key_again}
+use Rattle.key_codec.specs.KeyLaws.{key_found, key_again}
 use Rattle.key_codec.proofs.reading.get_key.Goals as goal
 
 found : (bytes : List ℕ) (result : Result KeyRead KeyFault) → AreBytes bytes → Gives (λ read. read) result (key_in bytes) → IfOk result (λ read. IsKey read.pos read.value × (read.used ≤ length bytes) × (take read.used bytes ≡ encoding read.pos read.value))

@@ -1,7 +1,7 @@
 use Rattle.std.proofs.Common.{◌<◌}
 use Rattle.std.proofs.lemmas.List.Elements.{All-from_get_or}
 use Rattle.vol_types.specs.Widths.{AreBytes}
-use Rattle.key_codec.proofs.KeyLaws.{rest_is_shorter}
+use Rattle.key_codec.specs.KeyLaws.{rest_is_shorter}
 use Rattle.key_codec.proofs.reading.read_key.Goals as goal
 
 pub overflow_sub-result : goal.overflow_sub-result

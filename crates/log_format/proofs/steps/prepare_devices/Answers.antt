@@ -5,7 +5,7 @@ use Rattle.log_format.specs.Formatting.{prepared}
 use Rattle.log_format.specs.Steps.{Wrote, on_first}
 use Rattle.dev_model.specs.FrameLaws.{go_on_here, go_on_then}
 use Rattle.geometry.specs.Faults.{fault_device}
-use Rattle.log_format.proofs.HandedFaults.{handed_named, named_below}
+use Rattle.geometry.specs.FaultLaws.{handed_named, named_below}
 use Rattle.log_format.proofs.Written.{disk_count, fewer_devices, no_device, ok_wrote, one_device_more, one_of_first, step_by_flushes, step_failed, wrote_also, wrote_none}
 use Rattle.log_format.proofs.steps.prepare_devices.Goals as goal
 

@@ -5,7 +5,7 @@ use Rattle.dev_model.specs.Devices.{now}
 use Rattle.dev_model.specs.FrameLaws.{stay_now}
 use Rattle.geometry.specs.LayoutFacts.{has_places}
 use Rattle.log_records.specs.Records.{record_on}
-use Rattle.log_records.specs.Found.{DeviceFailed}
+use Rattle.geometry.specs.Faults.{DeviceFailed}
 use Rattle.log_records.proofs.Scanning.{failed_first, found_on, named_failed}
 use Rattle.log_records.proofs.mounting.find_record.Goals as goal
 

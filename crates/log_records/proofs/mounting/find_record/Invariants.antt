@@ -4,7 +4,7 @@ use Rattle.dev_model.specs.Disk.{as_read}
 use Rattle.dev_model.specs.Devices.{now}
 use Rattle.dev_model.specs.Frames.{AreOnlyRead}
 use Rattle.log_records.specs.Records.{first_record}
-use Rattle.log_records.specs.Found.{DeviceFailed}
+use Rattle.geometry.specs.Faults.{DeviceFailed}
 use Rattle.log_records.proofs.mounting.find_record.Given as goal
 
 abbrev pub invariant-loop-dev : goal.invariant-loop-dev

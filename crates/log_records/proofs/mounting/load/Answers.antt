@@ -1,12 +1,12 @@
 use Rattle.std.proofs.Common.{◌≡◌, ◌<◌, ℕ, List, length, None, Some, ◌∙◌, arith, sym, subst}
 use Rattle.geometry.specs.LayoutFacts.{has_places}
-use Rattle.geometry.specs.Faults.{fault_device, super_fault_device}
+use Rattle.geometry.specs.Faults.{DeviceFailed, SomeFailed, fault_device, super_fault_device}
 use Rattle.std.specs.Prelude.{IfSome}
 use Rattle.dev_model.specs.Disk.{as_read}
 use Rattle.dev_model.specs.Devices.{now}
 use Rattle.dev_model.specs.FrameLaws.{only_read_then, stay_now, stay_then}
 use Rattle.geometry.specs.Sessions.{session_in}
-use Rattle.log_records.specs.Found.{AreMirrored, DeviceFailed, SomeFailed, log_in}
+use Rattle.log_records.specs.Found.{AreMirrored, log_in}
 use Rattle.log_records.proofs.HandedFailures.{both_named, handed_disk, handed_super, weaker}
 use Rattle.log_records.proofs.MountAnswers.{no_layout, no_session, with_log}
 use Rattle.log_records.proofs.Scanning.{failed_by_read, failed_later}

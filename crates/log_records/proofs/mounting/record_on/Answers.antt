@@ -1,8 +1,7 @@
 use Rattle.std.proofs.Common.{◌≡◌, ◌+◌, ◌<◌, ◌^◌, arith}
 use Rattle.std.specs.Prelude.{IfSome}
-use Rattle.geometry.specs.Faults.{fault_device}
+use Rattle.geometry.specs.Faults.{DeviceFailed, fault_device}
 use Rattle.geometry.specs.LayoutFacts.{has_places, journal_place}
-use Rattle.log_records.specs.Found.{DeviceFailed}
 use Rattle.log_records.proofs.HandedFailures.{both_named, handed_on, weaker}
 use Rattle.log_records.proofs.Scanning.{failed_by_read}
 use Rattle.log_records.proofs.mounting.record_on.Goals as goal

@@ -1,9 +1,9 @@
 use Rattle.std.proofs.Common.{◌≡◌, ◌∙◌, ◌<◌, ◌≤◌, ℕ, List, length, Ok, ap, arith, subst, sym}
-use Rattle.geometry.specs.Faults.{fault_device}
+use Rattle.geometry.specs.Faults.{DeviceFailed, SomeFailed, fault_device}
 use Rattle.dev_model.specs.Disk.{as_read}
 use Rattle.dev_model.specs.Devices.{now}
 use Rattle.dev_model.specs.FrameLaws.{only_read_then, stay_now}
-use Rattle.log_records.specs.Found.{AreMirrored, DeviceFailed, SomeFailed}
+use Rattle.log_records.specs.Found.{AreMirrored}
 use Rattle.log_records.proofs.HandedFailures.{handed_on, weaker}
 use Rattle.log_records.proofs.Scanning.{failed_first, failed_later, read_before, scan_all, scan_ends, scan_more}
 use Rattle.log_records.proofs.mounting.scan.Goals as goal

@@ -3,7 +3,8 @@ use Rattle.dev_model.specs.Disk.{as_read}
 use Rattle.dev_model.specs.Devices.{now}
 use Rattle.dev_model.specs.Frames.{AreOnlyRead}
 use Rattle.log_records.specs.Records.{record_at}
-use Rattle.log_records.specs.Found.{AreMirrored, SomeFailed, log_in, scanned_from}
+use Rattle.geometry.specs.Faults.{SomeFailed}
+use Rattle.log_records.specs.Found.{AreMirrored, log_in, scanned_from}
 use Rattle.log_records.proofs.mounting.scan.Given as goal
 
 abbrev pub invariant-loop-place : goal.invariant-loop-place

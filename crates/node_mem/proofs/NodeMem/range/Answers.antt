@@ -1,5 +1,5 @@
 use Rattle.std.proofs.Common.{◌∙◌, rules}
-use Rattle.node_mem.proofs.Parts.{within-range, crossed-range}
+use Rattle.node_mem.specs.RangeLaws.{within-range, crossed-range}
 use Rattle.node_mem.proofs.NodeMem.range.Goals as goal
 
 pub returns-then-gt : goal.returns-then-gt

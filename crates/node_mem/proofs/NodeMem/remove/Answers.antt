@@ -2,7 +2,8 @@ use Rattle.std.proofs.Common.{subst, sym}
 use Rattle.std.specs.Prelude.{All}
 use Rattle.std.specs.Map.{keys_of}
 use Rattle.vol_types.specs.Widths.{PosFits}
-use Rattle.node_mem.proofs.Counting.{before-in_range, taken-le, node-without, counted-without, keys-without}
+use Rattle.node_mem.specs.CountLaws.{keys-without}
+use Rattle.node_mem.proofs.Counting.{before-in_range, taken-le, node-without, counted-without}
 use Rattle.node_mem.proofs.NodeMem.remove.Goals as goal
 
 pub length-requires : goal.length-requires

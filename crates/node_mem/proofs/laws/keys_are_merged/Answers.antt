@@ -1,4 +1,4 @@
-use Rattle.node_mem.proofs.Growing.{with_keys-append}
+use Rattle.node_mem.specs.MergeLaws.{with_keys-append}
 use Rattle.node_mem.proofs.SetKeys.{keys_make, node-with_keys}
 use Rattle.node_mem.proofs.laws.keys_are_merged.Goals as goal
 

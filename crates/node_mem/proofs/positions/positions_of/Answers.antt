@@ -2,7 +2,7 @@ use Rattle.std.specs.Map.Iter.{deref}
 use Rattle.std.proofs.lemmas.Map.Iter.{rest_more}
 use Rattle.vol_types.specs.PositionLaws.{pos_total}
 use Rattle.vol_types.specs.declared.positions.Pos.{Pos}
-use Rattle.node_mem.proofs.Copies.{copy_key_more}
+use Rattle.vol_types.specs.CopyLaws.{copy_key_more}
 use Rattle.node_mem.proofs.positions.positions_of.Goals as goal
 
 pub loop-pos-preserved : goal.loop-pos-preserved

@@ -5,7 +5,8 @@ use Rattle.vol_types.specs.Maps.{value_at, with_value}
 use Rattle.vol_types.specs.Positions.{pos_cmp}
 use Rattle.node_mem.specs.Counts.{length_of}
 use Rattle.node_mem.proofs.Counting.{bytes-fit}
-use Rattle.node_mem.proofs.Growing.{IsSizing, before-le, keys_more, sizing_more}
+use Rattle.node_mem.specs.MergeLaws.{keys_more}
+use Rattle.node_mem.proofs.Growing.{IsSizing, before-le, sizing_more}
 use Rattle.node_mem.proofs.sizing.bytes_after.Goals as goal
 
 pub overflow_add-after : goal.overflow_add-after
@@ -16,7 +17,7 @@ overflow_add-after g c =
       arith,
       added,
       few,
-      bytes-fit c.args.entries.now.entries c.args.bytes c.borrowed_length-added.result c.requires.counted (omega (arith, c.len-count.ensures.small, c.len-count.ensures.len)) added,
+      bytes-fit c.args.entries.now.entries c.args.bytes c.borrowed_length-added.result c.requires.counted c.requires.values (omega (arith, c.len-count.ensures.small, c.len-count.ensures.len)) added,
       c.loop-change.invariant.bound,
       length-map (take c.loop-change.change-index c.args.changes.now) g.C.Change.key,
       length-take-le c.loop-change.change-index c.args.changes.now (omega (arith, c.loop-change-test.true)),

@@ -1,6 +1,6 @@
 use Rattle.std.proofs.Common.{sym, ap, ◌∙◌}
 use Rattle.vol_types.specs.Positions.{next_pos}
-use Rattle.node_mem.proofs.Split.{has_follower}
+use Rattle.node_mem.specs.NextLaws.{has_follower}
 use Rattle.node_mem.proofs.splitting.follower.Goals as goal
 
 pub unreachable-requires : goal.unreachable-requires

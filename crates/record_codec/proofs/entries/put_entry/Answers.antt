@@ -1,6 +1,6 @@
 use Rattle.std.proofs.Common.{arith}
 use Rattle.std.proofs.lemmas.Grind.{common_steps}
-use Rattle.key_codec.proofs.Appending.{appending}
+use Rattle.key_codec.specs.Appending.{appending}
 use Rattle.record_codec.proofs.EntryLaws.{entry_encoded}
 use Rattle.record_codec.proofs.entries.put_entry.Goals as goal
 

@@ -1,7 +1,7 @@
 use Rattle.std.proofs.Common.{◌≡◌, None, Ok, option_copied, subst}
 use Rattle.std.proofs.lemmas.Result.{err_from_is_err_and}
 use Rattle.key_codec.specs.Formats.{items, read_items}
-use Rattle.key_codec.proofs.ItemLoop.{last_of, last_of-slice, goes_on, is_done}
+use Rattle.key_codec.specs.ItemLoop.{last_of, last_of-slice, goes_on, is_done}
 use Rattle.record_codec.specs.Reading.{Fails}
 use Rattle.record_codec.proofs.Carried.{ends}
 use Rattle.record_codec.proofs.members.members_at.Goals as goal

@@ -1,6 +1,6 @@
 use Rattle.std.proofs.Common.{◌-◌, None}
 use Rattle.key_codec.specs.Formats.{read_items}
-use Rattle.key_codec.proofs.ItemLoop.{IsReadTo}
+use Rattle.key_codec.specs.ItemLoop.{IsReadTo}
 use Rattle.record_codec.proofs.members.members_at.Given as goal
 
 abbrev pub invariant-loop : goal.invariant-loop

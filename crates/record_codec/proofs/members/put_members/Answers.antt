@@ -1,7 +1,7 @@
 use Rattle.std.proofs.Common.{arith, subst}
 use Rattle.std.proofs.lemmas.Grind.{common_steps}
 use Rattle.std.proofs.lemmas.List.Elements.{All-more}
-use Rattle.key_codec.proofs.Appending.{appending}
+use Rattle.key_codec.specs.Appending.{appending}
 use Rattle.record_codec.proofs.members.put_members.Goals as goal
 
 pub loop-member-preserved : goal.loop-member-preserved

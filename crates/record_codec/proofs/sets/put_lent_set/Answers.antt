@@ -2,7 +2,7 @@ use Rattle.std.proofs.Common.{arith}
 use Rattle.std.proofs.lemmas.Grind.{common_steps}
 use Rattle.std.proofs.lemmas.List.Elements.{All-map}
 use Rattle.vol_types.specs.Ranges.{IsKeyValue}
-use Rattle.key_codec.proofs.Appending.{appending}
+use Rattle.key_codec.specs.Appending.{appending}
 use Rattle.record_codec.specs.Sets.{KeyFits, lent_key}
 use Rattle.record_codec.proofs.LentLaws.{all_lent, lent_encoded}
 use Rattle.record_codec.proofs.sets.put_lent_set.Goals as goal

@@ -1,6 +1,6 @@
 use Rattle.std.proofs.Common.{arith}
 use Rattle.std.proofs.lemmas.Grind.{common_steps}
-use Rattle.key_codec.proofs.Appending.{appending}
+use Rattle.key_codec.specs.Appending.{appending}
 use Rattle.record_codec.proofs.SetLaws.{set_encoded}
 use Rattle.record_codec.proofs.sets.put_set.Goals as goal
 

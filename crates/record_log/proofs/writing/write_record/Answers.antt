@@ -2,7 +2,7 @@ use Rattle.std.proofs.Common.{◌≡◌, ◌+◌, ◌<◌, ◌≤◌, ◌^◌, �
 use Rattle.std.specs.Prelude.{option_and_then}
 use Rattle.std.proofs.lemmas.List.{take_all, take-append-le}
 use Rattle.dev_model.specs.FrameLaws.{go_on_then}
-use Rattle.geometry.proofs.HandedFaults.{named_in}
+use Rattle.geometry.specs.FaultLaws.{named_in}
 use Rattle.geometry.specs.LayoutFacts.{has_places, journal_place}
 use Rattle.log_records.specs.Records.{owner_of, record_in}
 use Rattle.geometry.specs.Mirrors.{HoldMirrors}
@@ -43,11 +43,11 @@ returns-clause-held g c tells =
     let history = g.D.Devices.state c.settle_mirrors.new.devices in
     let sealed = c.seal_record.new.into in
     let whole : block ≡ sealed = c.deref.ensures.value ∙ take-append-le _ sealed _ (omega arith) ∙ take_all _ sealed (omega arith) in
-    let spelled : record_in layout.id place block ≡ Some file = subst (λ (b : List ℕ). record_in layout.id place b ≡ Some file) (sym whole) c.in_ok-seal_record.ensures.found in
+    let encoded : record_in layout.id place block ≡ Some file = subst (λ (b : List ℕ). record_in layout.id place b ≡ Some file) (sym whole) c.in_ok-seal_record.ensures.found in
     let owned : owner_of block ≡ Some c.args.session = subst (λ (b : List ℕ). owner_of b ≡ Some c.args.session) (sym whole) c.in_ok-seal_record.ensures.owner in
     on_ok c.settle_mirrors.result (EachCrashNow (HoldMirrors layout.metadata_replicas (16 + place) block) history) (EachCrashNow (HoldRecord layout c.args.session place (Some file)) history)
     (λ held image may. record {
-      found = λ dev within. ap (option_and_then (record_in layout.id place)) (held image may dev within) ∙ spelled;
+      found = λ dev within. ap (option_and_then (record_in layout.id place)) (held image may dev within) ∙ encoded;
       owner = λ dev within. ap (option_and_then owner_of) (held image may dev within) ∙ owned;
     })
     (c.settle_mirrors.ensures.held tells)

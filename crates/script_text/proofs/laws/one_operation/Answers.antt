@@ -1,4 +1,4 @@
-use Rattle.script_text.proofs.Spelling.{one_op}
+use Rattle.script_text.proofs.OneOperation.{one_op}
 use Rattle.script_text.proofs.laws.one_operation.Goals as goal
 
 pub returns : goal.returns

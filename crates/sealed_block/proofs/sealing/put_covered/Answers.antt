@@ -9,4 +9,4 @@ returns-clause-written c =
     let n = length c.args.payload.now in
     let filled = written (head_bytes c.args.head.now) c.args.payload.now _ _ _ 96 (96 + n) c.put_head.ensures.written refl c.put.ensures.written refl in
     let left : 4064 - (96 + n) ≡ 3968 - n = omega arith in
-    c.put_zeros.ensures ∙ ap (λ front. front ++ replicate (4064 - (96 + n)) 0) filled ∙ ap (λ k. head_bytes c.args.head.now ++ c.args.payload.now ++ replicate k 0) left
+    c.put_zeros.ensures ∙ ap (λ prefix. prefix ++ replicate (4064 - (96 + n)) 0) filled ∙ ap (λ k. head_bytes c.args.head.now ++ c.args.payload.now ++ replicate k 0) left

@@ -4,11 +4,12 @@ use Rattle.dev_model.specs.Disk.{as_read}
 use Rattle.dev_model.specs.Devices.{FaultCounts, now}
 use Rattle.dev_model.specs.Frames.{after_writes}
 use Rattle.dev_model.specs.FrameLaws.{go_on_reading, go_on_then}
+use Rattle.geometry.specs.Faults.{DeviceFailed, SomeFailed}
 use Rattle.geometry.specs.Sessions.{IsSessionPlace}
 use Rattle.log_records.specs.Found.{IsMountAnswer, failed_mount_device}
 use Rattle.record_log.specs.Beginning.{failed_begin_device}
 use Rattle.record_log.specs.declared.beginning.BeginFault.{BeginFault}
-use Rattle.shell.specs.Mounts.{DeviceFailed, IsMountable, MountCause}
+use Rattle.shell.specs.Mounts.{IsMountable, MountCause}
 use Rattle.shell.specs.EarlyEnds.{end_of_mount}
 use Rattle.shell.proofs.Preparing.{handed_on}
 use Rattle.shell.proofs.Mounting.{load_ended, begin_ended, begin_same, beginning_survives, begun_since, is_mountable, mounts_not, read_only, unfailed_then}
@@ -21,9 +22,9 @@ returns-in_err-loaded-clause-cause g c =
     let new = D.state c.load.new.devices in
     let fault = c.in_err-loaded.field-0.0 in
     handed_on c.from_residual.result (MountCause D.tells old new) (end_of_mount fault) c.from_residual.ensures.1
-    (load_ended D.tells ((dev : ℕ) × DeviceFailed old.faults new.faults dev) old new fault
-    (λ told. subst (λ result. IsMountAnswer ((dev : ℕ) × DeviceFailed old.faults new.faults dev) (as_read (now old)) result) c.in_err-loaded.was (c.load.ensures.found told))
-    (subst (λ result. IfSome (failed_mount_device result) (λ dev. (dev < length old.sizes) × DeviceFailed old.faults new.faults dev)) c.in_err-loaded.was c.load.ensures.cause)
+    (load_ended D.tells (SomeFailed old.faults new.faults) old new fault
+    (λ told. subst (λ result. IsMountAnswer (SomeFailed old.faults new.faults) (as_read (now old)) result) c.in_err-loaded.was (c.load.ensures.found told))
+    (subst (λ result. IfSome (failed_mount_device result) (λ dev. (dev < length old.sizes) × DeviceFailed dev old.faults new.faults)) c.in_err-loaded.was c.load.ensures.cause)
     c.load.ensures.read)
 
 pub returns-in_err-loaded-clause-goes_on : goal.returns-in_err-loaded-clause-goes_on
@@ -34,7 +35,7 @@ returns-in_err-loaded-clause-goes_on g c =
 pub returns-in-Ok-clause-found : goal.returns-in-Ok-clause-found
 returns-in-Ok-clause-found g c tells mirrors =
     let D = g.D.Devices in
-    c.in_ok-loaded.ensures.found tells (λ failed. mirrors (subst (λ (f : FaultCounts). (dev : ℕ) × DeviceFailed (D.state c.args.devices.now).faults f dev) (sym (begin_same c.begin_session.result (D.state c.load.new.devices) (D.state c.begin_session.new.devices) c.in-Ok.is c.begin_session.ensures.cause)) failed))
+    c.in_ok-loaded.ensures.found tells (λ failed. mirrors (subst (λ (f : FaultCounts). SomeFailed (D.state c.args.devices.now).faults f) (sym (begin_same c.begin_session.result (D.state c.load.new.devices) (D.state c.begin_session.new.devices) c.in-Ok.is c.begin_session.ensures.cause)) failed))
 
 pub returns-in-Ok-clause-mountable : goal.returns-in-Ok-clause-mountable
 returns-in-Ok-clause-mountable g c tells =

@@ -1,5 +1,6 @@
 use Rattle.std.proofs.Common.{◌++◌, refl, ◌∙◌, sym}
 use Rattle.std.proofs.lemmas.Bool.{false≢true}
+use Rattle.text_io.specs.StreamLaws.{gains_nothing}
 use Rattle.script_text.specs.Replies.{reply_line_of}
 use Rattle.shell.specs.declared.page.Page.{Page}
 use Rattle.shell.proofs.Running.{on_err_of, on_ok_of}
@@ -64,3 +65,11 @@ returns-else-are_due-clause-ended g c ended = ended
 
 pub returns-else-are_due-clause-made : goal.returns-else-are_due-clause-made
 returns-else-are_due-clause-made g c ack goes = absurd (false≢true (sym c.if-are_due.false ∙ c.are_due.ensures ack))
+
+pub returns-then-has_ended-clause-gains : goal.returns-then-has_ended-clause-gains
+returns-then-has_ended-clause-gains g c told =
+    gains_nothing g.K.Sink.held g.K.Sink.given_at c.args.sink.now (g.D.Devices.state c.args.devices.now).moment
+
+pub returns-else-are_due-clause-gains : goal.returns-else-are_due-clause-gains
+returns-else-are_due-clause-gains g c told =
+    gains_nothing g.K.Sink.held g.K.Sink.given_at c.args.sink.now (g.D.Devices.state c.args.devices.now).moment

@@ -2,6 +2,7 @@ use Rattle.std.proofs.Common.{[], subst}
 use Rattle.std.specs.Prelude.{IfOk}
 use Rattle.std.specs.List.{cons_option}
 use Rattle.session_history.specs.Fits.{entry_if_any}
+use Rattle.shell.specs.Outcome.{ack_by}
 use Rattle.shell.specs.Phases.{AddsEntries}
 use Rattle.shell.proofs.Preparing.{handed_on_err}
 use Rattle.shell.proofs.Running.{adds_nothing, call_adds, call_adds_none}
@@ -15,7 +16,7 @@ returns-clause-answered g c =
     let D = g.D.Devices in
     let old = c.args.log.now in
     let new = c.call.new.self in
-    subst (λ op. IfOk c.call.result (λ reply. AddsEntries D.state D.tells old new (cons_option (entry_if_any 0 op reply) []))) c.in_ok-op.ensures
+    subst (λ op. IfOk c.call.result (λ reply. AddsEntries D.state D.tells old new (cons_option (entry_if_any 0 op reply) []) (cons_option (ack_by (D.state new.devices).moment reply) []))) c.in_ok-op.ensures
     (call_adds D.state D.tells g.O.Opening.forest c.in_ok-op.op old new c.call.result c.call.ensures.answered c.call.ensures.base c.call.ensures.layout c.call.ensures.untouched c.call.ensures.sizes c.call.ensures.kept)
 
 pub returns-clause-err : goal.returns-clause-err

@@ -6,7 +6,9 @@ use Rattle.shell.specs.declared.page.Page.{Page}
 use Rattle.shell.specs.Phases.{EndsPrinting, tally_with, text_with_end}
 use Rattle.shell.specs.Printing.{Prints, has_ended, page_status}
 use Rattle.shell.proofs.Ending.{ends_printing}
+use Rattle.text_io.specs.StreamLaws.{gains_then}
 use Rattle.shell.proofs.Printing.{prints_noted}
+use Rattle.shell.proofs.Running.{same_moment}
 use Rattle.shell.proofs.phases.end_run.Goals as goal
 
 pub returns : goal.returns
@@ -34,6 +36,12 @@ returns g c =
           subst (λ (n : ℕ). EndsPrinting K.tells K.held K.faults start (text_with_end forest trace (tally_with page.tally sync.reply) text) (tally_with page.tally sync.reply) last_sink n) (sym c.status.ensures)
           (subst (λ (t : Tally). EndsPrinting K.tells K.held K.faults start (text_with_end forest trace (tally_with page.tally sync.reply) text) t last_sink (page_status last)) (c.print_end.ensures.tally ∙ tally)
           (ends_printing K.tells K.held K.faults start (text_with_end forest trace (tally_with page.tally sync.reply) text) last last_sink after c.print_end.ensures.given));
+      gains = λ told told_too.
+          let D = g.D.Devices in
+          let first = c.args.sink.now in
+          gains_then K.held K.given_at first mid_sink last_sink (D.state c.args.log.now.devices).moment (D.state c.final_sync.new.log.devices).moment (sync.history.after.later told_too)
+          (same_moment K.held K.given_at first mid_sink c.devices.result.now c.args.log.now.devices D.state c.devices.ensures (c.give_lines.ensures.gains told))
+          (same_moment K.held K.given_at mid_sink last_sink c.devices-2.result.now c.final_sync.new.log.devices D.state c.devices-2.ensures (c.print_end.ensures.gains told));
       ended = λ end.
           let mid_end : has_ended synced ≡ true = ap has_ended sync.noted ∙ c.give_lines.ensures.ended end in
           c.print_end.ensures.same mid_end ∙ c.give_lines.ensures.same end;

@@ -1,5 +1,7 @@
-use Rattle.std.proofs.Common.{subst}
+use Rattle.std.proofs.Common.{[], subst}
+use Rattle.std.specs.List.{cons_option}
 use Rattle.plain_forest.specs.declared.operation.Reply.TheVariants.{NoMemory}
+use Rattle.shell.specs.Outcome.{ack_by}
 use Rattle.shell.specs.Phases.{AddsEntries}
 use Rattle.shell.proofs.Running.{last_is}
 use Rattle.shell.proofs.phases.final_sync.Goals as goal
@@ -9,7 +11,7 @@ returns-in-Ok g c =
     let D = g.D.Devices in
     record {
       reply = c.in-Ok.reply;
-      history = subst (λ more. AddsEntries D.state D.tells c.args.log.now c.ask.new.log more) (last_is c.in-Ok.reply) c.in-Ok.ensures.answered;
+      history = subst (λ more. AddsEntries D.state D.tells c.args.log.now c.ask.new.log more (cons_option (ack_by (D.state c.ask.new.log.devices).moment c.in-Ok.reply) [])) (last_is c.in-Ok.reply) c.in-Ok.ensures.answered;
       noted = c.note.ensures;
     }
 

@@ -69,6 +69,7 @@ returns-in-Ok g c arguments run =
         lines = ran.lines;
         entries = ran.entries;
         fits = run_fits opening.forest plan.loaded.records plan.loaded.layout.journal (halt_or_none halts.0) ran.answered ran.last trace ran.entries halts.2;
+        acknowledged = ran.acknowledged;
         made = ran.made;
         prefix = ran.prefix;
         whole = ran.whole;
@@ -120,7 +121,7 @@ returns-in-Err g c arguments run =
       acks = ended.acks;
       shorts = ended.shorts;
     } in
-    ended_early S.tells K.tells D.tells K.held all end early.ends
+    ended_early S.tells K.tells D.tells K.held K.given_at all end early.ends
     (subst (λ d. EarlyCause S.tells D.tells arguments left old (D.state d) first d end) (sym early.devices) (c.in-Err.ensures.cause arguments run))
     c.in-Err.ensures.source
     (subst (λ d. OnlyReadUnmounted D.tells old (D.state d)) (sym early.devices) c.prepare.ensures.unmounted)

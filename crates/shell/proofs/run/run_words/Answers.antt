@@ -67,7 +67,7 @@ returns-in-Ok g c =
       acks = ended.acks;
       shorts = ended.shorts;
     } in
-    formatted S.tells K.tells D.tells K.held all layout format c.format_devices.ensures.formats refl c.format_devices.ensures.shorts
+    formatted S.tells K.tells D.tells K.held K.given_at all layout format c.format_devices.ensures.formats refl c.format_devices.ensures.shorts
 
 pub returns-in-Ok-Format : goal.returns-in-Ok-Format
 returns-in-Ok-Format g c =
@@ -96,7 +96,7 @@ returns-in-Ok-Format g c =
       acks = ended.acks;
       shorts = ended.shorts;
     } in
-    ended_early S.tells K.tells D.tells K.held all OutOfMemory early.ends
+    ended_early S.tells K.tells D.tells K.held K.given_at all OutOfMemory early.ends
     (inl (record { cause = inl tt; untouched = early.devices })) refl
     (subst (λ d. OnlyReadUnmounted D.tells old (D.state d)) (sym early.devices) (λ told error. only_read_here D.tells old))
     (λ told volume. subst (λ d. Survives volume old (D.state d) [] []) (sym early.devices) (c.reading_is_survived.ensures volume old old (stay_here old)))
@@ -130,7 +130,7 @@ returns g c =
       acks = ended.acks;
       shorts = ended.shorts;
     } in
-    ended_early S.tells K.tells D.tells K.held all c.from.result early.ends
+    ended_early S.tells K.tells D.tells K.held K.given_at all c.from.result early.ends
     (inl (record {
       cause = inl (subst (ArgumentsCause words old.sizes) (sym c.from.ensures) (arguments_cause words old.sizes c.in-Err.fault (λ usage. subst (λ n. task_of n words ≡ None) c.count.ensures.count (c.in-Err.ensures.usage usage))));
       untouched = early.devices;

@@ -2,5 +2,5 @@ use Rattle.std.proofs.Common.{All}
 use Rattle.snap_tree.specs.Snaps.{IsSnapKey}
 use Rattle.snap_tree.proofs.tests.snap_keys.Given as goal
 
-abbrev pub invariant-loop-id : goal.invariant-loop-id
-invariant-loop-id l = All IsSnapKey l.keys
+abbrev pub invariant-loop-row : goal.invariant-loop-row
+invariant-loop-row l = All IsSnapKey l.keys

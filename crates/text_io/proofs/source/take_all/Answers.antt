@@ -1,6 +1,6 @@
 use Rattle.std.proofs.Common.{◌≡◌, ◌∙◌, ◌+◌, arith}
 use Rattle.text_io.specs.declared.source.TakeFault.TheVariants.{ReadFault}
-use Rattle.text_io.proofs.Lists.{splits_on, rest_after, longer, at_the_end, takes_front, takes_more}
+use Rattle.text_io.proofs.Lists.{splits_on, rest_after, longer, at_the_end, takes_prefix, takes_more}
 use Rattle.text_io.proofs.Results.{same_error}
 use Rattle.text_io.proofs.source.take_all.Goals as goal
 
@@ -30,7 +30,7 @@ returns-then-branch-eq0-clause-end g c = λ told.
 
 pub returns-then-branch-eq0-clause-taken : goal.returns-then-branch-eq0-clause-taken
 returns-then-branch-eq0-clause-taken g c = λ told.
-    takes_front _ (splits_on (c.loop-bytes.invariant.split told) (c.in_ok-take_piece.ensures.moved told)) (omega (arith, c.in_ok-take_piece.ensures.size, c.in_ok-take_piece.ensures.count))
+    takes_prefix _ (splits_on (c.loop-bytes.invariant.split told) (c.in_ok-take_piece.ensures.moved told)) (omega (arith, c.in_ok-take_piece.ensures.size, c.in_ok-take_piece.ensures.count))
 
 pub returns-clause-too_long : goal.returns-clause-too_long
 returns-clause-too_long g c = λ told _. longer _ (c.loop-bytes.invariant.split told) (omega arith)
@@ -39,4 +39,4 @@ pub returns-clause-one_more : goal.returns-clause-one_more
 returns-clause-one_more g c = λ told _. rest_after (c.args.limit + 1) (c.loop-bytes.invariant.split told) (omega arith)
 
 pub returns-clause-taken : goal.returns-clause-taken
-returns-clause-taken g c = λ told. takes_front _ (c.loop-bytes.invariant.split told) c.loop-bytes.invariant.size
+returns-clause-taken g c = λ told. takes_prefix _ (c.loop-bytes.invariant.split told) c.loop-bytes.invariant.size

@@ -1,0 +1,4 @@
+mod Updating
+mod Fresh
+mod Making
+mod Planning

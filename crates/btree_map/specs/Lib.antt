@@ -1,0 +1,5 @@
+pub mod Applied
+pub mod FreshLaws
+pub mod NodeLaws
+pub mod StandLaws
+pub mod Trees

@@ -1,0 +1,12 @@
+pub mod EachPlace
+pub mod Runs
+pub mod Changed
+pub mod First
+pub mod Reserving
+pub mod Counts
+pub mod Picking
+pub mod Nodes
+pub mod Blanks
+pub mod Grouping
+pub mod Recounting
+pub mod Idling

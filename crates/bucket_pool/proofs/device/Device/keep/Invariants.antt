@@ -1,0 +1,7 @@
+use Rattle.std.proofs.Common.{◌≡◌, ◌*◌, length}
+use Rattle.bucket_pool.specs.Buckets.{kept_at}
+use Rattle.bucket_pool.specs.Places.{partly}
+use Rattle.bucket_pool.proofs.device.Device.keep.Given as goal
+
+abbrev pub invariant-loop-group : goal.invariant-loop-group
+invariant-loop-group l = record { so_far : l.self ≡ partly (kept_at l.actor l.runs l.dev) (256 * l.group) l.fn.self; size : length l.self ≡ length l.fn.self }

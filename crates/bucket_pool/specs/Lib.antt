@@ -1,0 +1,10 @@
+pub mod Buckets
+pub mod CountLaws
+pub mod Given
+pub mod Groups
+pub mod Opening
+pub mod Places
+pub mod ReserveLaws
+pub mod RiseLaws
+pub mod Space
+pub mod StayLaws

@@ -1,0 +1,82 @@
+use crate::stages::{Before, Left, NOTHING, Stage, ends_after, other_call};
+use dev_model::Pick;
+use std::test::Fail;
+
+// A call to device 0 at which the earlier volume is left.
+const EARLIER: Stage = Stage {
+    calls: 1,
+    dev: 0,
+    all: Left::Earlier,
+    flushed: Left::Earlier,
+    torn: Left::Earlier,
+};
+
+// Both superblock copies of each device are read. Those that don't count are zeroed and flushed, and then the others, without
+// which the volume doesn't mount. No device is extended, but both are flushed. Then 270 blocks of each are written, and both
+// are flushed.
+const STAGES: [Stage; 16] = [
+    Stage {
+        calls: 2,
+        ..EARLIER
+    },
+    Stage {
+        calls: 2,
+        dev: 1,
+        ..EARLIER
+    },
+    EARLIER,
+    Stage { dev: 1, ..EARLIER },
+    EARLIER,
+    Stage { dev: 1, ..EARLIER },
+    EARLIER,
+    Stage {
+        dev: 1,
+        flushed: Left::Earlier,
+        ..NOTHING
+    },
+    Stage {
+        flushed: Left::Earlier,
+        ..NOTHING
+    },
+    Stage { dev: 1, ..NOTHING },
+    NOTHING,
+    Stage { dev: 1, ..NOTHING },
+    Stage {
+        calls: 270,
+        ..NOTHING
+    },
+    Stage {
+        calls: 270,
+        dev: 1,
+        ..NOTHING
+    },
+    NOTHING,
+    Stage { dev: 1, ..NOTHING },
+];
+
+#[test]
+fn each_call_fails_and_all_is_left(rt: HostRuntime) -> Result<(), Fail> {
+    let alloc = rt.alloc();
+    let other = other_call(alloc, Before::Volume, &STAGES, false, Pick::AllWritten)?;
+    assert_eq!(rt; other, None);
+    Ok(())
+}
+
+#[test]
+fn it_crashes_at_each_call_and_blocks_are_torn(rt: HostRuntime) -> Result<(), Fail> {
+    let alloc = rt.alloc();
+    let other = other_call(alloc, Before::Volume, &STAGES, true, Pick::Torn)?;
+    assert_eq!(rt; other, None);
+    Ok(())
+}
+
+#[test]
+fn after_the_last_call_the_fresh_volume_is_left(rt: HostRuntime) -> Result<(), Fail> {
+    for pick in [Pick::AllWritten, Pick::NoneWritten, Pick::Torn] {
+        assert!(rt;
+            ends_after(rt.alloc(), Before::Volume, &STAGES, pick)?,
+            "at {pick:?}"
+        );
+    }
+    Ok(())
+}

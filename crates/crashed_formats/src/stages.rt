@@ -1,0 +1,186 @@
+use dev_model::{MemDevices, Pick};
+use std::alloc::{AllocError, Global};
+use volume_runs::{Ran, TWO, TWO_LINE, do_arguments, fail, run, two_devices};
+
+/// What two devices hold before they are formatted.
+#[derive(Clone, Copy)]
+pub enum Before {
+    /// Nothing: they have no block.
+    Blank,
+    /// A volume with the files `a` and `b`.
+    Volume,
+}
+
+/// What a crash leaves of them.
+#[derive(Clone, Copy)]
+pub enum Left {
+    /// Nothing that mounts.
+    Nothing,
+    /// The volume that was there before.
+    Earlier,
+    /// The fresh volume.
+    Fresh,
+}
+
+/// Some calls of a format, one after the other: how many, the device to which they go, and what is left where it crashes at any
+/// of them, by each pick.
+#[derive(Clone, Copy)]
+pub struct Stage {
+    pub calls: u64,
+    pub dev: u8,
+    pub all: Left,
+    pub flushed: Left,
+    pub torn: Left,
+}
+
+/// One call to device 0, at which nothing is left that mounts.
+pub const NOTHING: Stage = Stage {
+    calls: 1,
+    dev: 0,
+    all: Left::Nothing,
+    flushed: Left::Nothing,
+    torn: Left::Nothing,
+};
+
+/// The last step: both superblock copies of device 0 and of device 1 are written, and both devices are flushed. Once each has a
+/// copy, flushed or not, the fresh volume may be there.
+pub const SEALING: [Stage; 5] = [
+    Stage {
+        calls: 2,
+        ..NOTHING
+    },
+    Stage { dev: 1, ..NOTHING },
+    Stage {
+        dev: 1,
+        all: Left::Fresh,
+        ..NOTHING
+    },
+    Stage {
+        all: Left::Fresh,
+        ..NOTHING
+    },
+    Stage {
+        dev: 1,
+        all: Left::Fresh,
+        ..NOTHING
+    },
+];
+
+// Two devices to be formatted.
+fn devices_with(alloc: Global, before: Before) -> Result<MemDevices, AllocError> {
+    match before {
+        Before::Blank => MemDevices::blank(alloc, &[0, 0]),
+        Before::Volume => {
+            let ran = run(
+                alloc,
+                b"mkfile main:/a\nmkfile main:/b\n",
+                two_devices(alloc)?,
+            )?;
+            Ok(ran.devices)
+        }
+    }
+}
+
+fn left_by(stage: &Stage, pick: Pick) -> Left {
+    match pick {
+        Pick::AllWritten => stage.all,
+        Pick::NoneWritten => stage.flushed,
+        Pick::Torn => stage.torn,
+    }
+}
+
+// The status and the text of a run that lists the names of what is left.
+fn listing_of(left: Left) -> (u8, &'static [u8]) {
+    match left {
+        Left::Nothing => (3, b"mount refused 1\n"),
+        Left::Earlier => (0, b"@0 1 list a b\nend commits 0 synced 0\n"),
+        Left::Fresh => (0, b"@0 1 list\nend commits 0 synced 0\n"),
+    }
+}
+
+// Whether a run finds this on the devices.
+fn is_left(alloc: Global, devices: MemDevices, left: Left) -> Result<bool, AllocError> {
+    let ran = run(alloc, b"ls main:/\n", devices)?;
+    let (status, lines) = listing_of(left);
+    Ok(ran.status == status && ran.sink.held() == lines)
+}
+
+// Whether the format ended for this device.
+fn has_failed(ran: &Ran, dev: u8) -> bool {
+    let line = if dev == 0 {
+        b"error 6 device 0\n".as_slice()
+    } else {
+        b"error 6 device 1\n".as_slice()
+    };
+    ran.status == 6 && ran.sink.held() == line && ran.trace.len() == 0 && ran.acks.is_empty()
+}
+
+// Whether a format whose devices fail at this call, alone or with all later ones, ends for the device of the stage, and leaves
+// what the stage says.
+fn crashes_so(
+    alloc: Global,
+    before: Before,
+    stage: &Stage,
+    call: u64,
+    stays: bool,
+    pick: Pick,
+) -> Result<bool, AllocError> {
+    let mut devices = devices_with(alloc, before)?;
+    fail(&mut devices, call, stays)?;
+    let ran = do_arguments(alloc, TWO, devices)?;
+    if !has_failed(&ran, stage.dev) {
+        return Ok(false);
+    }
+    is_left(alloc, ran.devices.restart(pick)?, left_by(stage, pick))
+}
+
+/// The first call at which a format doesn't crash as these stages say, one after the other, and then those that seal the
+/// superblocks.
+pub fn other_call(
+    alloc: Global,
+    before: Before,
+    stages: &[Stage],
+    stays: bool,
+    pick: Pick,
+) -> Result<Option<u64>, AllocError> {
+    let mut call = 0u64;
+    for part in [stages, SEALING.as_slice()] {
+        for stage in part {
+            for _ in 0..stage.calls {
+                if !crashes_so(alloc, before, stage, call, stays, pick)? {
+                    return Ok(Some(call));
+                }
+                call = call.saturating_add(1);
+            }
+        }
+    }
+    Ok(None)
+}
+
+// How many calls the stages and those that seal the superblocks have.
+fn calls_of(stages: &[Stage]) -> u64 {
+    let mut calls = 0u64;
+    for part in [stages, SEALING.as_slice()] {
+        for stage in part {
+            calls = calls.saturating_add(stage.calls);
+        }
+    }
+    calls
+}
+
+/// Whether a format makes no call after these stages: where that one would fail it succeeds, and the fresh volume is left by
+/// this pick.
+pub fn ends_after(
+    alloc: Global,
+    before: Before,
+    stages: &[Stage],
+    pick: Pick,
+) -> Result<bool, AllocError> {
+    let mut devices = devices_with(alloc, before)?;
+    fail(&mut devices, calls_of(stages), true)?;
+    let ran = do_arguments(alloc, TWO, devices)?;
+    if ran.status != 0 || ran.sink.held() != TWO_LINE {
+        return Ok(false);
+    }
+    is_left(alloc, ran.devices.restart(pick)?, Left::Fresh)
+}

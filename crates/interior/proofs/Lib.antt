@@ -1,0 +1,3 @@
+pub mod Halves
+pub mod Putting
+pub mod Turning

@@ -1,0 +1,15 @@
+use Rattle.std.proofs.Common.{◌≡◌, ℕ, false}
+use Rattle.std.specs.Prelude.{◌⊎◌, IsSome}
+use Rattle.std.specs.Ordering.{nat_cmp}
+use Rattle.vol_types.specs.Maps.{value_at}
+use Rattle.snap_tree.specs.Names.{has_id}
+use Rattle.snap_tree.specs.Links.{HasLinks, HaveSameIds, IsPast}
+use Rattle.snap_tree.proofs.Cursors.{left}
+use Rattle.snap_tree.proofs.links.link_stale.Given as goal
+
+abbrev pub invariant-loop-next : goal.invariant-loop-next
+invariant-loop-next l =
+    ((id : ℕ) → (has_id l.stale.keys id ≡ false) ⊎ IsPast l.next id → IsSome (value_at nat_cmp id l.snaps.entries) → HasLinks l.snaps.entries l.links.entries id) × HaveSameIds l.snaps.entries l.links.entries
+
+abbrev pub decreases-loop-next : goal.decreases-loop-next
+decreases-loop-next l = left l.next

@@ -1,8 +1,0 @@
-//! Runs that are stopped at each call of their devices, or whose devices fail at that call alone, and what the next run
-//! finds on what is left. The crate holds tests alone.
-#![tactic(auto)]
-
-#[cfg(test)]
-mod rows;
-#[cfg(test)]
-mod stop_table;

@@ -1,0 +1,6 @@
+pub mod Copying
+pub mod Counted
+pub mod Cutting
+pub mod Looks
+pub mod Made
+pub mod Sized

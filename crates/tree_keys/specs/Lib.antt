@@ -1,0 +1,10 @@
+pub mod Changes
+pub mod Counts
+pub mod CutLaws
+pub mod Cuts
+pub mod JoinLaws
+pub mod LeafLaws
+pub mod OrderLaws
+pub mod PartLaws
+pub mod PlanLaws
+pub mod Sizes

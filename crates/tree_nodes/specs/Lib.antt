@@ -1,0 +1,7 @@
+pub mod ChildLaws
+pub mod CoverLaws
+pub mod Followers
+pub mod Levels
+pub mod RangeLaws
+pub mod RowLaws
+pub mod TreeLaws
