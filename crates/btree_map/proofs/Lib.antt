@@ -1,4 +1,9 @@
+mod Carried
 mod Updating
 mod Fresh
 mod Making
+mod Meeting
 mod Planning
+mod Bearing
+mod Choosing
+mod Unused

@@ -5,28 +5,21 @@ use Rattle.std.specs.Map.{values_of}
 use Rattle.std.proofs.lemmas.Option.{slice_get-get_or}
 use Rattle.btree_map.specs.Applied.{AreMade, ArePlanned, Last, last_in, made_of}
 use Rattle.btree_map.specs.FreshLaws.{code-lt}
+use Rattle.btree_map.specs.KeyLaws.{entries_of-cuts, key_map-cuts}
 use Rattle.btree_map.specs.StandLaws.{stand-with_updates}
 use Rattle.btree_map.specs.Trees.{AreCuts, IsTrees, Trees, cut_in, cut_of, keys_in, keys_of_cuts, no_cut}
 use Rattle.tree_keys.specs.Cuts.{Cut, IsCut, with_entries}
 use Rattle.tree_keys.specs.PlanLaws.{made-placed}
 use Rattle.vol_types.specs.Btrees.{btree_code}
-use Rattle.vol_types.specs.KeyMaps.{Entries, IsKeyMap, KeyMap, entries_of, with_updates}
-use Rattle.vol_types.specs.KeyMapLaws.{IsKeyMap-with_updates, entries_of-key_map, same_key_maps}
-use Rattle.vol_types.specs.Maps.{IsMap, value_at}
+use Rattle.vol_types.specs.KeyMaps.{Entries, KeyMap, entries_of, with_updates}
+use Rattle.vol_types.specs.KeyMapLaws.{IsKeyMap-with_updates, same_key_maps}
+use Rattle.vol_types.specs.Maps.{value_at}
 use Rattle.vol_types.specs.Positions.{pos_cmp}
 use Rattle.vol_types.specs.Standing.{IsUpdate, MayStand}
 use Rattle.vol_types.specs.declared.keys.Update.{Update}
 use Rattle.vol_types.specs.declared.positions.Btree.{Btree}
 use Rattle.vol_types.specs.declared.positions.Btree.TheVariants.{Extents, Inodes, Dirents, Subvols, Snapshots, Alloc, Backptrs, Deleted, Counters}
 use Rattle.vol_types.specs.declared.values.Value.{Value}
-
--- the key map has the entries of each cut
-pub entries_of-cuts : (cuts : List Cut) (btree : Btree) → entries_of (keys_of_cuts cuts) btree ≡ (cut_of cuts btree).entries
-entries_of-cuts cuts btree = entries_of-key_map (λ b. (cut_of cuts b).entries) btree
-
--- cuts hold a key map
-pub key_map-cuts : (cuts : List Cut) → AreCuts cuts → IsKeyMap (keys_of_cuts cuts)
-key_map-cuts cuts are = record { rises = λ btree. subst (IsMap pos_cmp) (sym (entries_of-cuts cuts btree)) (are.each btree).rises }
 
 -- each of the nine has a cut
 pub cut_below : (cuts : List Cut) → AreCuts cuts → (code : ℕ) → code < 9 → IsCut (slice_index_or cuts code no_cut)
@@ -65,10 +58,6 @@ module _ (old new : List Cut) (updates : List Update) (last : List Last) (before
     count = made_all.count ∙ are.count;
     each = λ btree. sound (btree_code btree) (subst (λ n. btree_code btree < n) (sym planned.count) (code-lt btree));
   }
-
--- the cuts of btrees
-pub cuts-trees : (trees : Trees) → IsTrees trees → AreCuts trees.keys
-cuts-trees trees is = record { count = is.key_count; each = λ btree. (is.each btree).keys }
 
 -- btrees with other keys in the same leaves are btrees
 pub trees-applied : (old : Trees) (keys : List Cut) (updates : List Update) → IsTrees old → All IsUpdate updates → AreCuts keys → ((btree : Btree) → (cut_of keys btree).ends ≡ (cut_in old btree).ends)

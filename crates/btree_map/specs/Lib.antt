@@ -1,5 +1,9 @@
 pub mod Applied
+pub mod Births
+pub mod Faults
 pub mod FreshLaws
+pub mod KeyLaws
 pub mod NodeLaws
+pub mod Sizes
 pub mod StandLaws
 pub mod Trees

@@ -1,7 +1,7 @@
 -- The btrees of a volume in memory: the keys of each, cut into leaves, and its nodes.
-use Rattle.std.specs.Prelude.{◌-◌, ◌≡◌, List, [], ◌∷◌, All, length, map, slice_index_or, slice_set}
+use Rattle.std.specs.Prelude.{◌-◌, ◌≡◌, ◌==◌, ℕ, if◌then◌else◌, List, [], ◌∷◌, All, length, map, slice_index_or, slice_set}
 use Rattle.std.specs.Map.{keys_of, values_of}
-use Rattle.tree_keys.specs.Cuts.{Cut, IsCut}
+use Rattle.tree_keys.specs.Cuts.{Cut, IsCut, cut_at, joined_at}
 use Rattle.tree_nodes.specs.Levels.{Levels, IsNodeOf, IsTree, divided, level_of, under_root}
 use Rattle.vol_types.specs.Btrees.{btree_code}
 use Rattle.vol_types.specs.KeyMaps.{Entries, KeyMap, key_map}
@@ -82,3 +82,18 @@ with_levels btree levels trees = record { keys = trees.keys; nodes = slice_set t
 -- the nodes with two in the place of the root, under a new one
 abbrev pub with_root : NodePtr → Pos → NodePtr → NodePtr → Levels → Levels
 with_root root at first second levels = under_root root (divided (length levels - 1) greatest_pos at first second levels)
+
+-- the keys of btrees, where a node of a level was divided: those of the leaf that covered the position are cut there
+abbrev pub cuts_divided : ℕ → ℕ → Pos → List Cut → List Cut
+cuts_divided code level at cuts = if level == 0 then slice_set cuts code (cut_at at (slice_index_or cuts code no_cut)) else cuts
+
+-- the keys of btrees with two leaves joined that meet at a position, where the level is that of the leaves
+abbrev pub cuts_joined : ℕ → ℕ → Pos → List Cut → List Cut
+cuts_joined code level at cuts = if level == 0 then slice_set cuts code (joined_at at (slice_index_or cuts code no_cut)) else cuts
+
+-- the btrees with other nodes of one, of which a node of a level was divided
+abbrev pub with_divided : Btree → ℕ → Pos → Levels → Trees → Trees
+with_divided btree level at levels trees = record {
+  keys = cuts_divided (btree_code btree) level at trees.keys;
+  nodes = slice_set trees.nodes (btree_code btree) levels;
+}

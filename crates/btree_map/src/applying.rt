@@ -32,10 +32,13 @@ pub(crate) fn apply(
 ) -> Result<Listing<Option<Value>>, AllocError>
     requires cuts { AreCuts keys.old.items }
     requires in_range { All (λ update. IsKeyValue update.value) updates.now }
-    ensures keys { OnOk result (keys_of_cuts keys.new.items ≡ with_updates updates.now (keys_of_cuts keys.old.items)) }
-    ensures leaves { OnOk result ((btree : ABtree) → (cut_of keys.new.items btree).ends ≡ (cut_of keys.old.items btree).ends) }
+    ensures keys { OnOk result (keys_of_cuts keys.new.items ≡ with_updates updates.now
+        (keys_of_cuts keys.old.items)) }
+    ensures leaves { OnOk result ((btree : ABtree) → (cut_of keys.new.items btree).ends
+        ≡ (cut_of keys.old.items btree).ends) }
     ensures sound { OnOk result (AreCuts keys.new.items) }
-    ensures before { IfOk result (λ before. before ≡ values_before updates.now (keys_of_cuts keys.old.items)) }
+    ensures before { IfOk result (λ before. before ≡ values_before updates.now
+        (keys_of_cuts keys.old.items)) }
     ensures err { OnErr result (keys.new.items ≡ keys.old.items) }
 {
     let Planned { last, before } = plan(alloc, keys.as_slice(), updates)?;
@@ -47,7 +50,8 @@ pub(crate) fn apply(
 fn plan(alloc: Global, keys: &[TreeKeys], updates: &[Update]) -> Result<Planned, AllocError>
     requires cuts { AreCuts keys.now }
     requires in_range { All (λ update. IsKeyValue update.value) updates.now }
-    ensures { IfOk result (λ planned. ArePlanned (keys_of_cuts keys.now) updates.now planned.last.items planned.before) }
+    ensures { IfOk result (λ planned. ArePlanned (keys_of_cuts keys.now) updates.now
+        planned.last.items planned.before) }
 {
     let mut last = no_values(alloc, keys)?;
     let mut before = Listing::new(alloc);
@@ -81,7 +85,8 @@ fn note(
     requires last_count { length last.old.items ≡ 9 }
     requires in_range { IsKeyValue update.now.value }
     ensures ok { OnOk result (last.new.items ≡ noted update.now last.old.items) }
-    ensures before { IfOk result (λ before. before ≡ value_noted update.now last.old.items (keys_of_cuts keys.now)) }
+    ensures before { IfOk result (λ before. before ≡ value_noted update.now last.old.items
+        (keys_of_cuts keys.now)) }
 {
     if update.level > 0 {
         return Ok(None);
@@ -98,9 +103,11 @@ fn make_all(
     last: Vec<LastValues>,
 ) -> Result<(), AllocError>
     requires count { length last.items ≤ length keys.old.items }
-    requires cuts { (code : ℕ) → code < length last.items → IsCut (slice_index_or keys.old.items code no_cut) }
+    requires cuts { (code : ℕ) → code < length last.items
+        → IsCut (slice_index_or keys.old.items code no_cut) }
     ensures ok { OnOk result (AreMade last.items keys.old.items keys.new.items) }
-    ensures sound { OnOk result ((code : ℕ) → code < length last.items → IsCut (slice_index_or keys.new.items code no_cut)) }
+    ensures sound { OnOk result ((code : ℕ) → code < length last.items
+        → IsCut (slice_index_or keys.new.items code no_cut)) }
     ensures err { OnErr result (keys.new.items ≡ keys.old.items) }
 {
     let mut last = last;
@@ -129,8 +136,10 @@ fn take_room(
     values: &LastValues,
 ) -> Result<Vec<Pos>, AllocError>
     requires { code < length keys.old.items }
-    ensures ok { OnOk result (keys.new.items ≡ slice_set keys.old.items code (placed values.now (slice_index_or keys.old.items code no_cut))) }
-    ensures positions { IfOk result (λ fresh. fresh.items ≡ fresh_positions values.now (slice_index_or keys.old.items code no_cut).entries) }
+    ensures ok { OnOk result (keys.new.items ≡ slice_set keys.old.items code
+        (placed values.now (slice_index_or keys.old.items code no_cut))) }
+    ensures positions { IfOk result (λ fresh. fresh.items ≡ fresh_positions values.now
+        (slice_index_or keys.old.items code no_cut).entries) }
     ensures err { OnErr result (keys.new.items ≡ keys.old.items) }
 {
     let tree = &mut keys[code];
@@ -140,7 +149,10 @@ fn take_room(
 // Takes away what is at each of the positions of a btree.
 fn give_room_back(keys: &mut Vec<TreeKeys>, code: usize, positions: &[Pos])
     requires { code < length keys.old.items }
-    ensures { keys.new.items ≡ slice_set keys.old.items code (with_entries (slice_index_or keys.old.items code no_cut) (with_keys (keys_with None positions.now) (slice_index_or keys.old.items code no_cut).entries)) }
+    ensures { keys.new.items ≡ slice_set keys.old.items code
+        (with_entries (slice_index_or keys.old.items code no_cut)
+        (with_keys (keys_with None positions.now)
+        (slice_index_or keys.old.items code no_cut).entries)) }
 {
     let tree = &mut keys[code];
     tree.give_room_back(positions);
@@ -149,8 +161,11 @@ fn give_room_back(keys: &mut Vec<TreeKeys>, code: usize, positions: &[Pos])
 // Gives each position of a btree its last value. The memory for it was taken.
 fn make(keys: &mut Vec<TreeKeys>, code: usize, values: LastValues)
     requires there { code < length keys.old.items }
-    requires placed { (pos : APos) (value : AValue) → value_at pos_cmp pos values ≡ Some (Some value) → IsSome (value_at pos_cmp pos (slice_index_or keys.old.items code no_cut).entries) }
-    ensures made { keys.new.items ≡ slice_set keys.old.items code (made values (slice_index_or keys.old.items code no_cut)) }
+    requires placed { (pos : APos) (value : AValue) → value_at pos_cmp pos values ≡ Some
+        (Some value) → IsSome (value_at pos_cmp pos
+        (slice_index_or keys.old.items code no_cut).entries) }
+    ensures made { keys.new.items ≡ slice_set keys.old.items code
+        (made values (slice_index_or keys.old.items code no_cut)) }
     ensures sound { IsCut (slice_index_or keys.new.items code no_cut) }
 {
     let tree = &mut keys[code];

@@ -1,14 +1,16 @@
 ghost use Rattle.std.specs.Map.Iter.{deref_pair};
-ghost use Rattle.std.specs.Prelude.{◌≡◌, ◌==◌, ◌∷◌, ◌-◌, [], All, IfOk, OnErr, OnOk, Some, length, map, option_copied, option_map};
+ghost use Rattle.std.specs.Prelude.{◌≡◌, ◌==◌, ◌<◌, ◌↔◌, ◌∷◌, ◌-◌, [], All, IfErr, IfOk, IfSome, IsSome, OnErr, OnOk, Some, length, map, option_copied, option_map};
+ghost use Rattle.birth_index.specs.Births.{HasCause, birth_of};
 ghost use Rattle.btree_map.specs.Trees.{AreRoots, IsTrees, cut_in, entries_in, fresh_trees, keys_in, levels_in, one_leaf};
 ghost use Rattle.btree_map.specs.Applied.{values_before};
-ghost use Rattle.tree_nodes.specs.Levels.{IsNodeOf, level_of, node_at, under_root};
+ghost use Rattle.tree_nodes.specs.Levels.{Covers, IsNodeOf, level_of, node_at, under_root};
 ghost use Rattle.vol_types.specs.KeyMaps.{entries_within, first_from, with_updates};
 ghost use Rattle.vol_types.specs.Maps.{value_at};
 ghost use Rattle.vol_types.specs.Positions.{greatest_pos, pos_cmp};
 ghost use Rattle.vol_types.specs.Standing.{IsUpdate};
 
 use crate::applying;
+use birth_index::{IndexFault, IndexedNodes};
 use std::alloc::{AllocError, Global};
 use std::collections::btree_map;
 use std::marker::Model;
@@ -21,7 +23,7 @@ use vol_types::{Btree, Listing, NodePtr, Pos, Roots, Updates, Value};
 #[derive(Drop)]
 pub struct KeyMap {
     pub(crate) keys: Vec<TreeKeys>,
-    pub(crate) nodes: Vec<TreeNodes>,
+    pub(crate) nodes: IndexedNodes,
 }
 
 impl Model for KeyMap {
@@ -29,21 +31,24 @@ impl Model for KeyMap {
 
     ghost Value = { Trees };
 
-    ghost view = { λ map. record { keys = map.keys.items; nodes = map.nodes.items } };
+    ghost view = { λ map. record { keys = map.keys.items; nodes = map.nodes } };
 
-    ghost invariant = { λ map. IsTrees (record { keys = map.keys.items; nodes = map.nodes.items }) };
+    ghost invariant = { λ map. IsTrees (record { keys = map.keys.items; nodes = map.nodes }) };
 }
 
 impl KeyMap {
-    /// Btrees without keys, each with one leaf, which is its root.
-    pub fn fresh(alloc: Global, roots: Roots) -> Result<KeyMap, AllocError>
+    /// Btrees without keys, each with one leaf, which is its root, or a birth that two of them have.
+    pub fn fresh(alloc: Global, roots: Roots) -> Result<KeyMap, IndexFault>
         requires { AreRoots roots }
-        ensures { IfOk result (λ map. map ≡ fresh_trees roots) }
+        ensures ok { IfOk result (λ map. map ≡ fresh_trees roots) }
+        // It fails for two roots of one birth alone, or for memory.
+        ensures err { IfErr result (HasCause (birth_of (fresh_trees roots).nodes)) }
     {
         let keys = no_keys(alloc, roots.as_slice())?;
+        let nodes = Listing::from(leaves(alloc, roots)?);
         Ok(KeyMap {
             keys,
-            nodes: leaves(alloc, roots)?,
+            nodes: IndexedNodes::of(alloc, nodes)?,
         })
     }
 
@@ -71,14 +76,19 @@ impl KeyMap {
     /// The node of a level of a btree that covers a position, with the greatest position that it covers, or none where
     /// the btree has no such level.
     pub fn node_at(&self, btree: Btree, level: u8, pos: &Pos) -> Option<(&Pos, &NodePtr)>
-        ensures { option_map deref_pair result ≡ node_at pos.now (level_of (levels_in self.now btree) level) }
+        ensures found { option_map deref_pair result ≡ node_at pos.now
+            (level_of (levels_in self.now btree) level) }
+        ensures there { IsSome result ↔ (level < length (levels_in self.now btree)) }
+        ensures covers { IfSome result (λ node. Covers
+            (level_of (levels_in self.now btree) level) node.0.now pos.now) }
     {
         self.nodes(btree).node_at(level, pos)
     }
 
     /// The birth of the leaf of a btree that covers a position.
     pub fn leaf_of(&self, btree: Btree, pos: &Pos) -> u64
-        ensures { option_map (λ leaf. leaf.1.birth) (node_at pos.now (level_of (levels_in self.now btree) 0)) ≡ Some result }
+        ensures { option_map (λ leaf. leaf.1.birth)
+            (node_at pos.now (level_of (levels_in self.now btree) 0)) ≡ Some result }
     {
         let nodes = self.nodes(btree);
         // There is a level of leaves.
@@ -93,15 +103,18 @@ impl KeyMap {
 
     /// The root of a btree, which is the node of its last level.
     pub fn root(&self, btree: Btree) -> &NodePtr
-        ensures { level_of (levels_in self.now btree) (length (levels_in self.now btree) - 1) ≡ (greatest_pos, result.now) ∷ [] }
+        ensures { level_of (levels_in self.now btree) (length (levels_in self.now btree) - 1)
+            ≡ (greatest_pos, result.now) ∷ [] }
     {
         self.nodes(btree).root()
     }
 
     /// How many levels a btree has, from 1 to 8.
     pub fn height(&self, btree: Btree) -> u8
-        ensures { result ≡ length (levels_in self.now btree) }
+        ensures exact { result ≡ length (levels_in self.now btree) }
+        ensures sound { IsTrees self.now }
     {
+        let _ = self.keys(btree);
         self.nodes(btree).height()
     }
 
@@ -114,9 +127,11 @@ impl KeyMap {
         updates: &Updates,
     ) -> Result<Listing<Option<Value>>, AllocError>
         requires { All IsUpdate updates.now }
-        ensures keys { OnOk result (keys_in self.new ≡ with_updates updates.now (keys_in self.old)) }
+        ensures keys { OnOk result (keys_in self.new ≡ with_updates updates.now
+            (keys_in self.old)) }
         ensures nodes { self.new.nodes ≡ self.old.nodes }
-        ensures before { IfOk result (λ before. before ≡ values_before updates.now (keys_in self.old)) }
+        ensures before { IfOk result (λ before. before ≡ values_before updates.now
+            (keys_in self.old)) }
         ensures err { OnErr result (self.new ≡ self.old) }
     {
         let _ = &self.nodes;
@@ -135,7 +150,10 @@ impl KeyMap {
     pub(crate) fn nodes(&self, btree: Btree) -> &TreeNodes
         ensures { result.now ≡ levels_in self.now btree }
     {
-        &self.nodes[usize::from(btree.code())]
+        match self.nodes.get(btree) {
+            Some(nodes) => nodes,
+            None => unreachable!(),
+        }
     }
 }
 

@@ -1,14 +1,18 @@
-//! Random updates of all btrees beside a plain sorted list, also where memory runs out on the way
+//! Random updates of all btrees and divisions of their nodes beside plain lists, also where memory runs out on the way
 //! (`rt try --test --fail-alloc N`).
 
-ghost use Rattle.std.specs.Prelude.{◌≤◌, All, IfOk, IsTrue, ◌↔◌};
-ghost use Rattle.btree_map.specs.Trees.{AreRoots};
-ghost use Rattle.tree_nodes.specs.Levels.{IsNodeOf};
+ghost use Rattle.std.specs.Prelude.{ℕ, ◌≡◌, ◌≢◌, ◌+◌, ◌<◌, ◌≤◌, ◌^◌, All, IfOk, IsTrue, Some, ◌↔◌};
+ghost use Rattle.birth_index.specs.Births.{birth_of};
+ghost use Rattle.birth_index.specs.declared.name.NodeName.{NodeName as ANodeName};
+ghost use Rattle.btree_map.specs.Trees.{AreRoots, levels_in};
+ghost use Rattle.tree_nodes.specs.Levels.{EndsAt, IsNodeOf, level_of};
 ghost use Rattle.vol_types.specs.Standing.{IsUpdate};
 
 use super::*;
 use std::alloc::{AllocError, Global};
 use std::test::Fail;
+use tree_keys::TreeKeys;
+use tree_nodes::TreeNodes;
 use vol_types::{Btree, Listing, Live, NodePtr, Place, Places, Pos, Roots, Update, Updates, Value};
 
 fn at(offset: u64) -> Pos {
@@ -19,13 +23,15 @@ fn at(offset: u64) -> Pos {
     }
 }
 
-fn pointer(alloc: Global, birth: u64) -> Result<NodePtr, AllocError>
-    ensures { IfOk result (IsNodeOf 0) }
+fn pointer(alloc: Global, birth: u64, level: u8) -> Result<NodePtr, AllocError>
+    requires { level ≤ 7 }
+    ensures node { IfOk result (IsNodeOf level) }
+    ensures born { IfOk result (λ node. node.birth ≡ birth) }
 {
     let places = Places::from_slice(alloc, &[Place { dev: 0, block: 512 }])?;
     Ok(NodePtr {
         birth,
-        level: 0,
+        level,
         places,
     })
 }
@@ -35,7 +41,7 @@ fn roots(alloc: Global) -> Result<Roots, AllocError>
 {
     let mut roots = Roots::new(alloc);
     for birth in 0..9 {
-        roots.push(pointer(alloc, birth)?)?;
+        roots.push(pointer(alloc, birth, 0)?)?;
     }
     Ok(roots)
 }
@@ -45,6 +51,9 @@ type Row = (u8, u64, u64);
 
 // What a plain sorted list has.
 type Plain = Vec<Row>;
+
+// Where a node ends that isn't the last of its level: a btree, a level, and the offset.
+type End = (u8, u8, u64);
 
 // An update: a number is put or one taken away, in the leaves or above them.
 #[derive(Clone, Copy, Debug)]
@@ -121,7 +130,7 @@ fn update_of(alloc: Global, step: &Step) -> Result<Option<Update>, AllocError> {
     };
     let value = match step.number {
         None => None,
-        Some(number) if step.above => Some(Value::Node(pointer(alloc, number)?)),
+        Some(number) if step.above => Some(Value::Node(pointer(alloc, number, 0)?)),
         Some(number) => value_of(btree, number),
     };
     Ok(Some(Update {
@@ -239,19 +248,47 @@ fn plain_from(plain: &[Row], code: u8, offset: u64) -> Option<u64> {
     None
 }
 
-fn has_btree(map: &KeyMap, plain: &[Row], btree: Btree, offset: u64) -> bool {
+// The end of the node of a level that covers an offset.
+fn plain_end(ends: &[End], code: u8, level: u8, offset: u64) -> Pos {
+    let mut end = Pos::GREATEST;
+    for other in ends {
+        if other.0 == code && other.1 == level && other.2 >= offset && at(other.2) < end {
+            end = at(other.2);
+        }
+    }
+    end
+}
+
+// Whether the nodes that cover an offset end where those of the list do.
+fn has_nodes(map: &KeyMap, ends: &[End], btree: Btree, offset: u64) -> bool {
+    for level in 0..map.height(btree) {
+        match map.node_at(btree, level, &at(offset)) {
+            None => return false,
+            Some((end, node)) => {
+                if *end != plain_end(ends, btree.code(), level, offset) || node.level != level {
+                    return false;
+                }
+            }
+        }
+    }
+    true
+}
+
+fn has_btree(map: &KeyMap, plain: &[Row], ends: &[End], btree: Btree, offset: u64) -> bool {
     map.next_from(btree, &at(offset)).map(|(pos, _)| pos.offset)
         == plain_from(plain, btree.code(), offset)
         && has_span(map, plain, btree, 0, u64::MAX)
         && has_span(map, plain, btree, offset, 20)
-        && map.leaf_of(btree, &at(offset)) == u64::from(btree.code())
-        && map.height(btree) == 1
+        && has_nodes(map, ends, btree, offset)
+        && map
+            .leaf_size(btree, &plain_end(ends, btree.code(), 0, offset))
+            .is_some()
 }
 
-fn has_all(map: &KeyMap, plain: &[Row], offset: u64) -> bool {
+fn has_all(map: &KeyMap, plain: &[Row], ends: &[End], offset: u64) -> bool {
     for code in 0..9 {
         if let Some(btree) = Btree::from_code(code) {
-            if !has_btree(map, plain, btree, offset) {
+            if !has_btree(map, plain, ends, btree, offset) {
                 return false;
             }
         }
@@ -259,11 +296,12 @@ fn has_all(map: &KeyMap, plain: &[Row], offset: u64) -> bool {
     true
 }
 
-// Makes six random updates, and gives the list after them, or none where the map isn't that of the list.
+// Makes six random updates, and gives the list after them, or none where the map isn't that of the lists.
 fn goes_on(
     alloc: Global,
     map: &mut KeyMap,
     plain: Plain,
+    ends: &[End],
     seed: u64,
 ) -> Result<Option<Plain>, AllocError> {
     let steps = steps_of(alloc, seed)?;
@@ -274,7 +312,7 @@ fn goes_on(
     match map.apply(alloc, &updates) {
         // Nothing has changed.
         Err(error) => {
-            if has_all(map, &plain, seed % 30) {
+            if has_all(map, &plain, ends, seed % 30) {
                 return Err(error);
             }
             Ok(None)
@@ -283,23 +321,273 @@ fn goes_on(
     }
 }
 
+// Divides the node of a level, which isn't the root, where it may be, and says whether it was.
+fn divide(
+    alloc: Global,
+    map: &mut KeyMap,
+    btree: Btree,
+    level: u8,
+    pos: &Pos,
+    birth: u64,
+) -> Result<bool, AllocError> {
+    let Some((greatest, _)) = map.node_at(btree, level, pos) else {
+        return Ok(false);
+    };
+    let name = NodeName {
+        btree,
+        level,
+        greatest: *greatest,
+    };
+    if level > 6 || level + 1 >= map.height(btree) || *pos >= name.greatest {
+        return Ok(false);
+    }
+    if level > 0 && !has_node(map, btree, level - 1, pos) {
+        return Ok(false);
+    }
+    if !are_unused(map, birth) {
+        return Ok(false);
+    }
+    let first = pointer(alloc, birth, level)?;
+    let second = pointer(alloc, birth + 1, level)?;
+    map.divide(&name, pos, first, second)?;
+    Ok(true)
+}
+
+// Whether no node has one of three births in a row.
+fn are_unused(map: &KeyMap, birth: u64) -> bool
+    ensures room { IsTrue result → birth + 2 < 2 ^ 64 }
+    ensures free { IsTrue result → (name : ANodeName) (place : ℕ) → place ≤ 2
+        → birth_of map.now.nodes name ≢ Some (birth + place) }
+{
+    if birth > u64::MAX - 2 {
+        return false;
+    }
+    if map.node_of(birth).is_some() || map.node_of(birth + 1).is_some() {
+        return false;
+    }
+    map.node_of(birth + 2).is_none()
+}
+
+fn has_node(map: &KeyMap, btree: Btree, level: u8, greatest: &Pos) -> bool
+    ensures { IsTrue result → EndsAt (level_of (levels_in map.now btree) level) greatest.now }
+{
+    let name = NodeName {
+        btree,
+        level,
+        greatest: *greatest,
+    };
+    map.node(&name).is_some()
+}
+
+// Divides the root of one or two levels where it may be, and says whether it was.
+fn divide_root(
+    alloc: Global,
+    map: &mut KeyMap,
+    btree: Btree,
+    pos: &Pos,
+    birth: u64,
+) -> Result<bool, AllocError> {
+    let height = map.height(btree);
+    if height == 0 || height > 2 || *pos >= Pos::GREATEST {
+        return Ok(false);
+    }
+    if height > 1 && !has_node(map, btree, height - 2, pos) {
+        return Ok(false);
+    }
+    if !are_unused(map, birth) {
+        return Ok(false);
+    }
+    let first = pointer(alloc, birth, height - 1)?;
+    let second = pointer(alloc, birth + 1, height - 1)?;
+    let root = pointer(alloc, birth + 2, height)?;
+    map.divide_root(alloc, btree, pos, first, second, root)?;
+    Ok(true)
+}
+
+// Divides a node at random, and says whether the map is that of the lists.
+fn grows(
+    alloc: Global,
+    map: &mut KeyMap,
+    plain: &[Row],
+    ends: &mut Vec<End>,
+    seed: u64,
+) -> Result<bool, AllocError> {
+    let Some(btree) = Btree::from_code(((seed >> 33) % 9) as u8) else {
+        return Ok(false);
+    };
+    let (level, offset) = (((seed >> 44) % 3) as u8, (seed >> 50) % 30);
+    let birth = seed >> 2;
+    // Room for the end, before anything is divided.
+    ends.reserve(1)?;
+    let done = if level + 1 == map.height(btree) {
+        divide_root(alloc, map, btree, &at(offset), birth)
+    } else {
+        divide(alloc, map, btree, level, &at(offset), birth)
+    };
+    match done {
+        // Nothing has changed.
+        Err(error) => {
+            if has_all(map, plain, ends, offset) {
+                return Err(error);
+            }
+            Ok(false)
+        }
+        Ok(done) => {
+            if done {
+                ends.push((btree.code(), level, offset))?;
+            }
+            Ok(has_all(map, plain, ends, offset))
+        }
+    }
+}
+
+// A map without keys, or none where two roots have one birth.
+fn fresh(alloc: Global) -> Result<Option<KeyMap>, AllocError> {
+    match KeyMap::fresh(alloc, roots(alloc)?) {
+        Ok(map) => Ok(Some(map)),
+        Err(IndexFault::NoMemory) => Err(AllocError),
+        Err(IndexFault::SameBirth { .. }) => Ok(None),
+    }
+}
+
 #[test]
 fn random_updates(rt: HostRuntime) -> Result<(), Fail> {
     let alloc = rt.alloc();
-    let mut map = KeyMap::fresh(alloc, roots(alloc)?)?;
+    let Some(map) = fresh(alloc)? else {
+        assert!(rt; false);
+        return Ok(());
+    };
+    let mut map = map;
     let mut plain: Plain = Vec::new(alloc);
+    let mut ends: Vec<End> = Vec::new(alloc);
     let mut seed: u64 = 5;
     for _ in 0..200 {
         seed = random(seed);
-        match goes_on(alloc, &mut map, plain, seed)? {
+        match goes_on(alloc, &mut map, plain, &ends, seed)? {
             None => {
                 assert!(rt; false);
                 plain = Vec::new(alloc);
             }
             Some(after) => {
-                assert!(rt; has_all(&map, &after, seed % 30));
+                assert!(rt; has_all(&map, &after, &ends, seed % 30));
                 plain = after;
             }
+        }
+        seed = random(seed);
+        assert!(rt; grows(alloc, &mut map, &plain, &mut ends, seed)?);
+    }
+    assert!(rt; ends.len() > 20);
+    Ok(())
+}
+
+// The key map of some btrees without keys, of which one is cut, or has a hole, or none where they aren't nine btrees.
+fn map_of(alloc: Global, case: &Case) -> Result<Option<KeyMap>, AllocError> {
+    let mut keys = Listing::new(alloc);
+    let mut nodes = Listing::new(alloc);
+    for code in 0..case.count {
+        let mut tree = TreeKeys::new(alloc)?;
+        if case.cut == Some(code) {
+            cut(&mut tree, &at(5))?;
+        }
+        if case.hole == Some(code) {
+            put_hole(&mut tree)?;
+        }
+        keys.push(tree)?;
+        nodes.push(TreeNodes::leaf(alloc, pointer(alloc, code, 0)?)?)?;
+    }
+    match KeyMap::of(alloc, keys, nodes) {
+        Ok(map) => Ok(Some(map)),
+        Err(NotAKeyMap::NoMemory) => Err(AllocError),
+        Err(_) => Ok(None),
+    }
+}
+
+fn cut(tree: &mut TreeKeys, pos: &Pos) -> Result<(), AllocError> {
+    if !tree.is_end(pos) {
+        tree.cut(pos)?;
+    }
+    Ok(())
+}
+
+fn put_hole(tree: &mut TreeKeys) -> Result<(), AllocError> {
+    tree.put(&at(3), Some(Value::Hole { blocks: 1 }))?;
+    Ok(())
+}
+
+#[derive(Clone, Copy, Debug)]
+struct Case {
+    count: u64,
+    cut: Option<u64>,
+    hole: Option<u64>,
+    good: bool,
+}
+
+// Holes stand in btree 0 alone, and no node ends where keys are cut.
+#[test]
+fn parts_make_maps(rt: HostRuntime) -> Result<(), Fail> {
+    let plain = Case {
+        count: 9,
+        cut: None,
+        hole: None,
+        good: true,
+    };
+    let table = [
+        plain,
+        Case {
+            hole: Some(0),
+            ..plain
+        },
+        Case {
+            hole: Some(8),
+            good: false,
+            ..plain
+        },
+        Case {
+            cut: Some(4),
+            good: false,
+            ..plain
+        },
+        Case {
+            count: 8,
+            good: false,
+            ..plain
+        },
+    ];
+    for case in table {
+        assert_eq!(rt; map_of(rt.alloc(), &case)?.is_some(), case.good);
+    }
+    Ok(())
+}
+
+// Births with the birth of the node above and the size: a set of no keys takes 56 bytes, and one of two nodes 72 more.
+const BORN: [(u64, Option<u64>, Option<u32>); 6] = [
+    (0, None, Some(56)),
+    (1, None, None),
+    (21, Some(23), Some(56)),
+    (22, Some(23), Some(56)),
+    (23, None, Some(128)),
+    (24, None, None),
+];
+
+// Whether nodes are found by their births, where the leaf of the inodes was divided.
+fn are_born(map: &KeyMap) -> bool {
+    for (birth, parent, size) in BORN {
+        if map.parent_of(birth) != parent || map.size_of(birth) != size {
+            return false;
+        }
+    }
+    true
+}
+
+#[test]
+fn nodes_are_found_by_birth(rt: HostRuntime) -> Result<(), Fail> {
+    let alloc = rt.alloc();
+    match fresh(alloc)? {
+        None => assert!(rt; false),
+        Some(map) => {
+            let mut map = map;
+            assert!(rt; divide_root(alloc, &mut map, Btree::Inodes, &at(7), 21)?);
+            assert!(rt; are_born(&map));
         }
     }
     Ok(())

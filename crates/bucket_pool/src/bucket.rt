@@ -305,7 +305,8 @@ fn kept_slot(slot: Slot, named: bool) -> Slot
 #[tactic(auto, using(crate::proofs::EachPlace::partly_more, crate::proofs::EachPlace::partly_all))]
 fn keep_slots(slots: &mut [Slot], runs: &[Run], dev: u8, first: u32)
     requires { first + length slots.old < 2 ^ 32 }
-    ensures { slots.new ≡ each_place (λ at. kept_slot (is_named runs.now dev (first + at))) slots.old }
+    ensures { slots.new ≡ each_place (λ at. kept_slot (is_named runs.now dev (first + at)))
+        slots.old }
 {
     for at in 0..slots.len() {
         slots[at] = kept_slot(slots[at], is_named(runs, dev, first + at as u32));

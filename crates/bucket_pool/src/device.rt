@@ -150,7 +150,8 @@ impl Device {
     // Settles the buckets of a group, where those before it are settled.
     fn settle_group(&mut self, group: usize, seq: u64)
         requires { group < 256 }
-        ensures after { (whole : List ABucket) → self.old ≡ partly (λ _. settled seq) (256 * group) whole → self.new ≡ partly (λ _. settled seq) (256 * (group + 1)) whole }
+        ensures after { (whole : List ABucket) → self.old ≡ partly (λ _. settled seq) (256 * group)
+            whole → self.new ≡ partly (λ _. settled seq) (256 * (group + 1)) whole }
         ensures size { length self.new ≡ length self.old }
     {
         if !self.is_busy(group) {
@@ -176,7 +177,9 @@ impl Device {
     // Keeps what is reserved in the buckets of a group, where it is kept in those before it.
     fn keep_group(&mut self, group: usize, actor: u8, runs: &[Run], dev: u8)
         requires { group < 256 }
-        ensures after { (whole : List ABucket) → self.old ≡ partly (kept_at actor runs.now dev) (256 * group) whole → self.new ≡ partly (kept_at actor runs.now dev) (256 * (group + 1)) whole }
+        ensures after { (whole : List ABucket) → self.old ≡ partly (kept_at actor runs.now dev)
+            (256 * group) whole → self.new ≡ partly (kept_at actor runs.now dev)
+            (256 * (group + 1)) whole }
         ensures size { length self.new ≡ length self.old }
     {
         if !self.is_busy(group) {
@@ -232,7 +235,8 @@ impl Device {
     /// Whether so many blocks in a row can be given to the actor, where so many free buckets are held back.
     pub fn can_give(&self, count: usize, actor: u8, held: u32) -> bool
         ensures value { result ≡ can_give count actor held self.now }
-        ensures room { result ≡ true → IsTrue (has_open_room count actor self.now || list_any is_free self.now) }
+        ensures room { result ≡ true → IsTrue (has_open_room count actor self.now || list_any
+            is_free self.now) }
     {
         if self.has_open_room(count, actor) {
             return true;
@@ -258,7 +262,8 @@ impl Device {
 
     // Lets the bucket go that is open for an actor, if there is one.
     fn let_go(&mut self, actor: u8)
-        ensures after { self.new ≡ changed let_go (position_or_len (is_current_of actor) self.old) self.old }
+        ensures after { self.new ≡ changed let_go (position_or_len (is_current_of actor) self.old)
+            self.old }
         ensures size { length self.new ≡ length self.old }
     {
         let Some(at) = self.current(actor) else {
@@ -272,7 +277,8 @@ impl Device {
     pub fn reserve(&mut self, count: usize, actor: u8, dev: u8) -> Pointer
         requires range { count ≤ 16 }
         requires can { IsTrue (has_open_room count actor self.old || list_any is_free self.old) }
-        ensures { reserved_at count dev (spot count actor self.old) (readied count actor self.old) ≡ Some (result, self.new) }
+        ensures { reserved_at count dev (spot count actor self.old) (readied count actor self.old)
+            ≡ Some (result, self.new) }
     {
         let at = self.ready(count, actor);
         // So the number of a block fits.

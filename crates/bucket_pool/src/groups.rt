@@ -73,8 +73,10 @@ pub fn recount(group: Group, before: &Bucket, after: &Bucket) -> Group
     requires busy { is_busy before.now ≡ true → 0 < group.busy }
     requires few_free { group.free ≤ 65536 }
     requires few_busy { group.busy ≤ 65536 }
-    ensures free { result.free + (if is_free before.now then 1 else 0) ≡ group.free + (if is_free after.now then 1 else 0) }
-    ensures busy { result.busy + (if is_busy before.now then 1 else 0) ≡ group.busy + (if is_busy after.now then 1 else 0) }
+    ensures free { result.free + (if is_free before.now then 1 else 0)
+        ≡ group.free + (if is_free after.now then 1 else 0) }
+    ensures busy { result.busy + (if is_busy before.now then 1 else 0)
+        ≡ group.busy + (if is_busy after.now then 1 else 0) }
 {
     Group {
         free: recounted(group.free, bucket::is_free(before), bucket::is_free(after)),

@@ -46,7 +46,8 @@ fn add_devices(
     first: u32,
 ) -> Result<(), AllocError>
     requires { All (λ size. size ≤ 1048576) blocks.now }
-    ensures { OnOk result (devices.new.items ≡ devices.old.items ++ map (blank_device first) blocks.now) }
+    ensures { OnOk result (devices.new.items ≡ devices.old.items ++ map (blank_device first)
+        blocks.now) }
 {
     for size in blocks {
         let buckets = blank_buckets(alloc, *size / BUCKET_BLOCKS, first)?;
@@ -58,7 +59,8 @@ fn add_devices(
 // So many buckets, of which those before the first one have the superblocks and the journal.
 fn blank_buckets(alloc: Global, count: u32, first: u32) -> Result<Vec<Bucket>, AllocError>
     requires { count ≤ 65536 }
-    ensures { IfOk result (λ buckets. buckets.items ≡ map (blank_bucket first) (range_with_len 0 count)) }
+    ensures { IfOk result (λ buckets. buckets.items ≡ map (blank_bucket first)
+        (range_with_len 0 count)) }
 {
     let mut buckets = Vec::new(alloc);
     for at in 0..count {

@@ -73,7 +73,8 @@ impl Pool {
 
     /// A bucket of a device, or none where there is no such bucket.
     pub fn bucket(&self, dev: u8, at: u32) -> Option<Bucket>
-        ensures { result ≡ option_and_then (λ buckets. slice_get buckets at) (slice_get self.now dev) }
+        ensures { result ≡ option_and_then (λ buckets. slice_get buckets at)
+            (slice_get self.now dev) }
     {
         let dev = dev as usize;
         if dev >= self.devices.len() {
@@ -103,8 +104,10 @@ impl Pool {
         requires blocks { IsInRange 1 16 blocks }
         requires replicas { IsInRange 1 (length self.old) replicas }
         requires held { length held.now ≡ length self.old }
-        ensures ok { IfOk result (λ pointers. pointers ≡ (reserved blocks actor replicas held.now self.old).given) }
-        ensures after { OnOk result (self.new ≡ (reserved blocks actor replicas held.now self.old).left) }
+        ensures ok { IfOk result (λ pointers. pointers
+            ≡ (reserved blocks actor replicas held.now self.old).given) }
+        ensures after { OnOk result (self.new ≡ (reserved blocks actor replicas held.now
+            self.old).left) }
         ensures can { OnOk result (replicas ≤ givers blocks actor held.now self.old) }
         ensures short { IfErr result (IsFaultOf (IsShort blocks actor replicas held.now self.old)) }
         ensures err { OnErr result (self.new ≡ self.old) }
@@ -237,8 +240,10 @@ fn reserve_all(
     requires held { length held.now ≡ length devices.old }
     requires empty { pointers.old.members ≡ [] }
     requires room { replicas ≤ pointers.old.spare }
-    ensures given { pointers.new.members ≡ (reserved want.blocks want.actor replicas held.now devices.old).given }
-    ensures after { devices.new ≡ (reserved want.blocks want.actor replicas held.now devices.old).left }
+    ensures given { pointers.new.members ≡ (reserved want.blocks want.actor replicas held.now
+        devices.old).given }
+    ensures after { devices.new ≡ (reserved want.blocks want.actor replicas held.now
+        devices.old).left }
 {
     let mut left = replicas;
     for dev in 0..devices.len() {
@@ -283,7 +288,8 @@ fn take_nodes(devices: &mut [Device], replicas: u8, places: &mut SpareList<Place
 
 // What is short: how many blocks were asked for, and for each device its free buckets and those that are held back.
 fn short_of(alloc: Global, devices: &[Device], need: u8, held: Counts) -> Result<Short, AllocError>
-    ensures { IfOk result (λ short. short ≡ record { need = need; free = map free_count devices.now; held = held }) }
+    ensures { IfOk result (λ short. short ≡ record
+        { need = need; free = map free_count devices.now; held = held }) }
 {
     let mut free = Counts::new(alloc);
     for device in devices {

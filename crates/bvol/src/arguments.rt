@@ -34,7 +34,11 @@ fn help_of(command: &RcStr) -> Option<&'static str> {
 /// The arguments before the first `--`, and the image files after it. None where there is no `--`, no file, or more files
 /// than there can be devices.
 pub fn words_and_paths(args: &[RcStr]) -> Option<(&[RcStr], &[RcStr])>
-    ensures parts { option_map (λ parts. (map rc_str_bytes parts.0.now, map rc_str_bytes parts.1.now)) result ≡ words_and_files (map rc_str_bytes args.now) }
+    ensures parts { option_map (λ parts. (
+      map rc_str_bytes parts.0.now,
+      map rc_str_bytes
+          parts.1.now,
+    )) result ≡ words_and_files (map rc_str_bytes args.now) }
     ensures files { IfSome result (λ parts. (1 ≤ length parts.1.now) × (length parts.1.now ≤ 8)) }
 {
     let dashes = first_dashes(args)?;

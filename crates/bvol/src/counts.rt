@@ -29,7 +29,9 @@ impl CallCounts {
         ensures ok { IsOk result ↔ IsOk answer }
         ensures calls { RoseBy 1 self.old.calls self.new.calls }
         ensures later { self.old.calls ≤ self.new.calls }
-        ensures faults { MatchResult result (λ _. faults_in self.new.faults ≡ faults_in self.old.faults) (λ _. faults_in self.new.faults ≡ with_read_fault dev (faults_in self.old.faults)) }
+        ensures faults { MatchResult result (λ _. faults_in self.new.faults ≡ faults_in
+            self.old.faults) (λ _. faults_in self.new.faults ≡ with_read_fault dev
+            (faults_in self.old.faults)) }
     {
         self.calls = self.calls.saturating_add(1);
         let outcome = outcome_of(answer);
@@ -43,7 +45,9 @@ impl CallCounts {
         ensures ok { IsOk result ↔ IsOk answer }
         ensures calls { RoseBy 1 self.old.calls self.new.calls }
         ensures later { self.old.calls ≤ self.new.calls }
-        ensures faults { MatchResult result (λ _. faults_in self.new.faults ≡ faults_in self.old.faults) (λ _. faults_in self.new.faults ≡ with_write_fault dev (faults_in self.old.faults)) }
+        ensures faults { MatchResult result (λ _. faults_in self.new.faults ≡ faults_in
+            self.old.faults) (λ _. faults_in self.new.faults ≡ with_write_fault dev
+            (faults_in self.old.faults)) }
     {
         self.calls = self.calls.saturating_add(1);
         let outcome = outcome_of(answer);

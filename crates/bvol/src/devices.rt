@@ -97,7 +97,8 @@ impl FileDevices<File> {
     /// Takes the lock on each file, so that no other run that asks for it has it at the same time, and no file is two devices. It
     /// names the first file that is in use, or can't be locked.
     pub fn lock(&self) -> Result<(), OpenFault>
-        ensures { (fault : OpenFault) → result ≡ Err fault → (dev : ℕ) × (fault ≡ Device dev InUse) × (dev < length self.now.images.items) }
+        ensures { (fault : OpenFault) → result ≡ Err fault → (dev : ℕ) × (fault ≡ Device dev InUse)
+            × (dev < length self.now.images.items) }
     {
         for dev in 0..self.images.len() {
             if !self.images[dev].lock() {

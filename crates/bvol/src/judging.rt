@@ -13,7 +13,8 @@ use std::rc::RcStr;
 /// What the arguments ask for on so many images. So arguments are refused before an image is opened.
 pub fn judge_arguments(alloc: Global, arguments: &[RcStr], images: u8) -> Result<Task, Refusal>
     ensures ok { IfOk result (λ task. task_of images (map rc_str_bytes arguments.now) ≡ Some task) }
-    ensures cause { (refusal : Refusal) → result ≡ Err refusal → (refusal ≡ Memory) ⊎ ((refusal ≡ Usage) × (task_of images (map rc_str_bytes arguments.now) ≡ None)) }
+    ensures cause { (refusal : Refusal) → result ≡ Err refusal → (refusal ≡ Memory)
+        ⊎ ((refusal ≡ Usage) × (task_of images (map rc_str_bytes arguments.now) ≡ None)) }
 {
     match read_task(alloc, arguments, images) {
         Ok(task) => Ok(task),

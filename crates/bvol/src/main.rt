@@ -2,6 +2,8 @@
 //! to standard output; beside an error line, standard error has a sentence for people.
 #![tactic(auto)]
 
+ghost use Rattle.std.specs.Prelude.{◌≡◌, ◌≤◌, length};
+
 mod advice;
 mod arguments;
 mod counts;
@@ -16,12 +18,12 @@ mod tests;
 
 use advice::{Advice, RefusalAdvice};
 use arguments::{help_for, words_and_paths};
-use dev_model::{Devices, NoGate};
+use dev_model::NoGate;
 use devices::{FileDevices, MOST_DEVICES, open_devices};
 use judging::judge_arguments;
-use overwriting::{Overwritten, volume_on};
+use overwriting::say_what_is_lost;
 use refusal::Refusal;
-use shell::{Task, run_words};
+use shell::run_task;
 use std::alloc::Global;
 use std::env;
 use std::fs::File;
@@ -94,23 +96,13 @@ fn run_on<
     if images.is_empty() || images.len() > MOST_DEVICES {
         return Err(Refusal::Usage);
     }
-    let task = judge_arguments(alloc, arguments, images.len() as u8)?;
+    let task = judge_arguments(alloc, arguments, count_of(images))?;
     let mut devices = open_devices(rt, alloc, images)?;
     devices.lock()?;
-    if let Task::Format(_) = task {
-        say_what_is_lost(rt, &mut devices, images);
-    }
+    say_what_is_lost(rt, &task, &mut devices, images);
     let mut source = StdSource::new(input);
     let mut sink = StdSink::new(output);
-    let ended = run_words(
-        rt,
-        alloc,
-        arguments,
-        &mut source,
-        &mut sink,
-        devices,
-        &NoGate,
-    );
+    let ended = run_task(rt, alloc, task, &mut source, &mut sink, devices, &NoGate);
     if let Some(end) = ended.early_end {
         let _ = rt.eprintln(Advice {
             end,
@@ -121,17 +113,12 @@ fn run_on<
     Ok(ended.status)
 }
 
-// Says on standard error of which volumes the images hold parts that a format writes over.
-fn say_what_is_lost<R: Eprint>(rt: &R, devices: &mut FileDevices<File>, images: &[RcStr]) {
-    for (dev, image) in images.iter().enumerate() {
-        if dev >= devices.count() as usize {
-            return;
-        }
-        if let Some(volume) = volume_on(devices, dev as u8) {
-            let image = image.as_str();
-            let _ = rt.eprintln(Overwritten { image, volume });
-        }
-    }
+// How many images there are.
+fn count_of(images: &[RcStr]) -> u8
+    requires { length images.now ≤ 8 }
+    ensures { result ≡ length images.now }
+{
+    images.len() as u8
 }
 
 // The arguments after the program's name.

@@ -3,14 +3,17 @@ ghost use Rattle.std.specs.Prelude.{◌≡◌, ◌<◌, length};
 use command_words::id_text;
 use dev_model::Devices;
 use sealed_block::{SUPERBLOCK, unseal};
+use shell::Task;
+use std::io::Eprint;
+use std::rc::RcStr;
 use std::{fmt, str};
 use vol_types::BLOCK_SIZE;
 
-/// A sentence for people on what a format writes over: the volume of which this image holds a part.
+// A sentence for people on what a format writes over: the volume of which this image holds a part.
 #[derive(Drop)]
-pub struct Overwritten<'a> {
-    pub image: &'a str,
-    pub volume: [u8; 16],
+struct Overwritten<'a> {
+    image: &'a str,
+    volume: [u8; 16],
 }
 
 impl fmt::Display for Overwritten<'_> {
@@ -25,9 +28,34 @@ impl fmt::Display for Overwritten<'_> {
     }
 }
 
-/// The id of the volume of which a device holds a part, as one of its two superblocks names it. It reads two blocks at most.
-pub fn volume_on<D: Devices>(devices: &mut D, dev: u8) -> Option<[u8; 16]>
+/// Says on standard error of which volumes the images hold parts that a format writes over. It reads two blocks of each at most, and
+/// none where the task is another.
+pub fn say_what_is_lost<R: Eprint, D: Devices>(
+    rt: &R,
+    task: &Task,
+    devices: &mut D,
+    images: &[RcStr],
+)
+    ensures { (D.state devices.new).sizes ≡ (D.state devices.old).sizes }
+{
+    let Task::Format(_) = task else {
+        return;
+    };
+    for (dev, image) in images.iter().enumerate() {
+        if dev >= devices.count() as usize {
+            return;
+        }
+        if let Some(volume) = volume_on(devices, dev as u8) {
+            let image = image.as_str();
+            let _ = rt.eprintln(Overwritten { image, volume });
+        }
+    }
+}
+
+// The id of the volume of which a device holds a part, as one of its two superblocks names it. It reads two blocks at most.
+fn volume_on<D: Devices>(devices: &mut D, dev: u8) -> Option<[u8; 16]>
     requires { dev < length (D.state devices.old).sizes }
+    ensures { (D.state devices.new).sizes ≡ (D.state devices.old).sizes }
 {
     match volume_in(devices, dev, 0) {
         Some(id) => Some(id),

@@ -23,7 +23,8 @@ const DEFAULT_REPLICAS: u64 = 1;
 // What the arguments after `format` ask for.
 pub fn read_format<'a>(alloc: Global, words: &'a [RcStr]) -> Result<FormatRequest, WordsFault>
     ensures ok { IfOk result (λ format. format_of (map rc_str_bytes words.now) ≡ Some format) }
-    ensures usage { IfErr result (λ fault. fault ≡ WordsFault.Usage → format_of (map rc_str_bytes words.now) ≡ None) }
+    ensures usage { IfErr result (λ fault. fault ≡ WordsFault.Usage
+        → format_of (map rc_str_bytes words.now) ≡ None) }
 {
     if has_stray(words) {
         return Err(WordsFault::Usage);

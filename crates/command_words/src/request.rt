@@ -59,7 +59,8 @@ impl From<AllocError> for WordsFault {
 /// Reads the arguments before the first `--`: a command and its options.
 pub fn read_words(alloc: Global, words: &[RcStr]) -> Result<Request, WordsFault>
     ensures ok { IfOk result (λ request. request_of (map rc_str_bytes words.now) ≡ Some request) }
-    ensures usage { IfErr result (λ fault. fault ≡ WordsFault.Usage → request_of (map rc_str_bytes words.now) ≡ None) }
+    ensures usage { IfErr result (λ fault. fault ≡ WordsFault.Usage
+        → request_of (map rc_str_bytes words.now) ≡ None) }
 {
     let (command, options) = words.split_first().ok_or(WordsFault::Usage)?;
     if command.as_str() == "run" {
@@ -74,7 +75,8 @@ pub fn read_words(alloc: Global, words: &[RcStr]) -> Result<Request, WordsFault>
 // What the arguments after `run` ask for.
 fn read_run(options: &[RcStr]) -> Result<Request, WordsFault>
     ensures ok { IfOk result (λ request. run_of (map rc_str_bytes options.now) ≡ Some request) }
-    ensures usage { IfErr result (λ fault. fault ≡ WordsFault.Usage → run_of (map rc_str_bytes options.now) ≡ None) }
+    ensures usage { IfErr result (λ fault. fault ≡ WordsFault.Usage
+        → run_of (map rc_str_bytes options.now) ≡ None) }
 {
     if options.is_empty() {
         Ok(Request::Run)

@@ -53,7 +53,8 @@ impl FaultPlan {
 
     /// These calls are to fail too.
     pub fn fail_at(&mut self, calls: &[u64]) -> Result<(), AllocError>
-        ensures ok { OnOk result (self.new ≡ record self.old { failing = self.old.failing ++ calls.now }) }
+        ensures ok { OnOk result (self.new ≡ record self.old
+            { failing = self.old.failing ++ calls.now }) }
         ensures err { OnErr result (self.new ≡ self.old) }
     {
         self.failing.extend_from_slice(calls)

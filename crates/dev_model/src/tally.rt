@@ -29,7 +29,8 @@ impl FaultTally {
     /// Counts a read or an extension of this device by its outcome.
     pub fn count(&mut self, dev: u8, outcome: &Result<(), Failed>)
         requires { dev < 8 }
-        ensures { MatchResult outcome.now (λ _. faults_in self.new ≡ faults_in self.old) (λ _. faults_in self.new ≡ with_read_fault dev (faults_in self.old)) }
+        ensures { MatchResult outcome.now (λ _. faults_in self.new ≡ faults_in self.old)
+            (λ _. faults_in self.new ≡ with_read_fault dev (faults_in self.old)) }
     {
         if outcome.is_err() {
             self.add_read_fault(dev);
@@ -39,7 +40,8 @@ impl FaultTally {
     /// Counts a write or a flush of this device by its outcome.
     pub fn count_write(&mut self, dev: u8, outcome: &Result<(), Failed>)
         requires { dev < 8 }
-        ensures { MatchResult outcome.now (λ _. faults_in self.new ≡ faults_in self.old) (λ _. faults_in self.new ≡ with_write_fault dev (faults_in self.old)) }
+        ensures { MatchResult outcome.now (λ _. faults_in self.new ≡ faults_in self.old)
+            (λ _. faults_in self.new ≡ with_write_fault dev (faults_in self.old)) }
     {
         if outcome.is_err() {
             self.add_write_fault(dev);

@@ -75,9 +75,11 @@ fn read_copy<D: Devices>(
     block: u32,
 ) -> Result<Option<SuperCopy>, DiskFault>
     requires { dev < length (D.state devices.old).sizes }
-    ensures found { D.tells → IfOk result (λ copy. copy ≡ copy_at block (blocks_of (as_read (now (D.state devices.old))) dev)) }
+    ensures found { D.tells → IfOk result (λ copy. copy ≡ copy_at block
+        (blocks_of (as_read (now (D.state devices.old))) dev)) }
     ensures read { AreOnlyRead D.tells (D.state devices.old) (D.state devices.new) }
-    ensures cause { (D.state devices.new).faults ≡ after_reads (failed_device result) (D.state devices.old).faults }
+    ensures cause { (D.state devices.new).faults ≡ after_reads (failed_device result)
+        (D.state devices.old).faults }
     ensures device { IfSome (failed_device result) (λ failed. failed ≡ dev) }
 {
     if devices.blocks(dev) <= block {
@@ -94,9 +96,11 @@ pub fn read_counting<D: Devices>(
     dev: u8,
 ) -> Result<Option<SuperCopy>, DiskFault>
     requires { dev < length (D.state devices.old).sizes }
-    ensures found { D.tells → IfOk result (λ copy. copy ≡ counting (blocks_of (as_read (now (D.state devices.old))) dev)) }
+    ensures found { D.tells → IfOk result (λ copy. copy ≡ counting
+        (blocks_of (as_read (now (D.state devices.old))) dev)) }
     ensures read { AreOnlyRead D.tells (D.state devices.old) (D.state devices.new) }
-    ensures cause { (D.state devices.new).faults ≡ after_reads (failed_device result) (D.state devices.old).faults }
+    ensures cause { (D.state devices.new).faults ≡ after_reads (failed_device result)
+        (D.state devices.old).faults }
     ensures device { IfSome (failed_device result) (λ failed. failed ≡ dev) }
 {
     let first = read_copy(alloc, devices, dev, 0)?;

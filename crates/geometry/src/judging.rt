@@ -20,7 +20,8 @@ fn says_same(
     dev: u8,
     copy: &SuperCopy,
 ) -> Result<bool, AllocError>
-    ensures { IfOk result (λ same. same ≡ (slice_index copy.now.payload 0 == devices && slice_index copy.now.payload 1 == dev && is_same_layout (named_layout copy.now) layout.now)) }
+    ensures { IfOk result (λ same. same ≡ (slice_index copy.now.payload 0 == devices && slice_index
+        copy.now.payload 1 == dev && is_same_layout (named_layout copy.now) layout.now)) }
 {
     let payload = copy.payload.as_slice();
     if byte_at(payload, 0) as usize != devices {

@@ -33,7 +33,8 @@ pub fn write_device<D: Devices>(
 ) -> Result<(), DiskFault>
     requires place { IsPlace (D.state devices.old).sizes dev block }
     requires size { length bytes.now ≡ 4096 }
-    ensures call { IsWrite D.tells dev block bytes.now result (D.state devices.old) (D.state devices.new) }
+    ensures call { IsWrite D.tells dev block bytes.now result (D.state devices.old)
+        (D.state devices.new) }
     ensures device { IfErr result (λ fault. fault ≡ DiskFault.DeviceFault dev) }
     ensures sizes { (D.state devices.new).sizes ≡ (D.state devices.old).sizes }
 {
@@ -46,12 +47,17 @@ pub fn write_device<D: Devices>(
 /// Flushes the first so many devices, one after the other. A crash leaves nothing that it might not have left before.
 pub fn flush_devices<D: Devices>(devices: &mut D, count: u8) -> Result<(), DiskFault>
     requires { count ≤ length (D.state devices.old).sizes }
-    ensures crashes { D.tells → EachCrash (λ _ _ image. IsCrashImage (now (D.state devices.old)) image) (D.state devices.old) (D.state devices.new) }
-    ensures reads { D.tells → (dev block : ℕ) → block_at (as_read (now (D.state devices.new))) dev block ≡ block_at (as_read (now (D.state devices.old))) dev block }
-    ensures settled { D.tells → OnOk result ((dev : ℕ) → dev < count → IsSettled (now (D.state devices.new)) dev) }
-    ensures asks { D.tells → (opens : List ℕ → Bool) → HoldOnly opens NoBlock (D.state devices.old) (D.state devices.new) }
+    ensures crashes { D.tells → EachCrash (λ _ _ image. IsCrashImage (now (D.state devices.old))
+        image) (D.state devices.old) (D.state devices.new) }
+    ensures reads { D.tells → (dev block : ℕ) → block_at (as_read (now (D.state devices.new))) dev
+        block ≡ block_at (as_read (now (D.state devices.old))) dev block }
+    ensures settled { D.tells → OnOk result ((dev : ℕ) → dev < count
+        → IsSettled (now (D.state devices.new)) dev) }
+    ensures asks { D.tells → (opens : List ℕ → Bool) → HoldOnly opens NoBlock (D.state devices.old)
+        (D.state devices.new) }
     ensures goes_on { GoOn (D.state devices.old) (D.state devices.new) }
-    ensures cause { (D.state devices.new).faults ≡ after_writes (failed_device result) (D.state devices.old).faults }
+    ensures cause { (D.state devices.new).faults ≡ after_writes (failed_device result)
+        (D.state devices.old).faults }
     ensures device { NamesOneOf count result }
 {
     for dev in 0..count {
@@ -71,12 +77,18 @@ pub fn write_mirrors<D: Devices>(
     requires mirrors { mirrors ≤ length (D.state devices.old).sizes }
     requires places { HaveBlock (D.state devices.old).sizes mirrors block }
     requires size { length bytes.now ≡ 4096 }
-    ensures crashes { D.tells → EachCrash (λ _ _ image. IsCrashImageBut (IsMirror mirrors block) (now (D.state devices.old)) image) (D.state devices.old) (D.state devices.new) }
-    ensures written { D.tells → OnOk result (HoldMirrors mirrors block bytes.now (as_read (now (D.state devices.new)))) }
-    ensures elsewhere { D.tells → SameBut (IsMirror mirrors block) (as_read (now (D.state devices.old))) (as_read (now (D.state devices.new))) }
-    ensures asks { D.tells → (opens : List ℕ → Bool) → HoldOnly opens (IsMirrorBlock mirrors block bytes.now) (D.state devices.old) (D.state devices.new) }
+    ensures crashes { D.tells → EachCrash (λ _ _ image. IsCrashImageBut (IsMirror mirrors block)
+        (now (D.state devices.old)) image) (D.state devices.old) (D.state devices.new) }
+    ensures written { D.tells → OnOk result (HoldMirrors mirrors block bytes.now
+        (as_read (now (D.state devices.new)))) }
+    ensures elsewhere { D.tells → SameBut (IsMirror mirrors block)
+        (as_read (now (D.state devices.old))) (as_read (now (D.state devices.new))) }
+    ensures asks { D.tells → (opens : List ℕ → Bool)
+        → HoldOnly opens (IsMirrorBlock mirrors block bytes.now) (D.state devices.old)
+        (D.state devices.new) }
     ensures goes_on { GoOn (D.state devices.old) (D.state devices.new) }
-    ensures cause { (D.state devices.new).faults ≡ after_writes (failed_device result) (D.state devices.old).faults }
+    ensures cause { (D.state devices.new).faults ≡ after_writes (failed_device result)
+        (D.state devices.old).faults }
     ensures device { NamesOneOf mirrors result }
 {
     for dev in 0..mirrors {
@@ -95,12 +107,18 @@ pub fn settle_mirrors<D: Devices>(
     requires mirrors { mirrors ≤ length (D.state devices.old).sizes }
     requires places { HaveBlock (D.state devices.old).sizes mirrors block }
     requires size { length bytes.now ≡ 4096 }
-    ensures crashes { D.tells → EachCrash (λ _ _ image. IsCrashImageBut (IsMirror mirrors block) (now (D.state devices.old)) image) (D.state devices.old) (D.state devices.new) }
-    ensures held { D.tells → OnOk result (EachCrashNow (HoldMirrors mirrors block bytes.now) (D.state devices.new)) }
-    ensures elsewhere { D.tells → SameBut (IsMirror mirrors block) (as_read (now (D.state devices.old))) (as_read (now (D.state devices.new))) }
-    ensures asks { D.tells → (opens : List ℕ → Bool) → HoldOnly opens (IsMirrorBlock mirrors block bytes.now) (D.state devices.old) (D.state devices.new) }
+    ensures crashes { D.tells → EachCrash (λ _ _ image. IsCrashImageBut (IsMirror mirrors block)
+        (now (D.state devices.old)) image) (D.state devices.old) (D.state devices.new) }
+    ensures held { D.tells → OnOk result (EachCrashNow (HoldMirrors mirrors block bytes.now)
+        (D.state devices.new)) }
+    ensures elsewhere { D.tells → SameBut (IsMirror mirrors block)
+        (as_read (now (D.state devices.old))) (as_read (now (D.state devices.new))) }
+    ensures asks { D.tells → (opens : List ℕ → Bool)
+        → HoldOnly opens (IsMirrorBlock mirrors block bytes.now) (D.state devices.old)
+        (D.state devices.new) }
     ensures goes_on { GoOn (D.state devices.old) (D.state devices.new) }
-    ensures cause { (D.state devices.new).faults ≡ after_writes (failed_device result) (D.state devices.old).faults }
+    ensures cause { (D.state devices.new).faults ≡ after_writes (failed_device result)
+        (D.state devices.old).faults }
     ensures device { NamesOneOf mirrors result }
 {
     write_mirrors(devices, mirrors, block, bytes)?;

@@ -17,10 +17,12 @@ pub fn read_block<D: Devices>(
     block: u32,
 ) -> Result<Bytes, DiskFault>
     requires { IsPlace (D.state devices.old).sizes dev block }
-    ensures bytes { D.tells → IfOk result (λ bytes. block_at (as_read (now (D.state devices.old))) dev block ≡ Some bytes) }
+    ensures bytes { D.tells → IfOk result (λ bytes. block_at (as_read (now (D.state devices.old)))
+        dev block ≡ Some bytes) }
     ensures length { IfOk result (λ bytes. length bytes ≡ 4096) }
     ensures read { AreOnlyRead D.tells (D.state devices.old) (D.state devices.new) }
-    ensures cause { (D.state devices.new).faults ≡ after_reads (failed_device result) (D.state devices.old).faults }
+    ensures cause { (D.state devices.new).faults ≡ after_reads (failed_device result)
+        (D.state devices.old).faults }
     ensures device { IfSome (failed_device result) (λ failed. failed ≡ dev) }
 {
     let mut bytes = vec![in alloc; 0; BLOCK_SIZE]?;

@@ -59,7 +59,8 @@ pub fn session_bytes(id: &[u8; 16], session: u64, into: &mut [u8])
 // The block that names a session.
 fn sealed_session(alloc: Global, id: &[u8; 16], session: u64) -> Result<Bytes, AllocError>
     ensures bytes { IfOk result (λ bytes. bytes ≡ session_block id.now session) }
-    ensures named { IfOk result (λ bytes. session_named id.now (session_place session) bytes ≡ Some session) }
+    ensures named { IfOk result (λ bytes. session_named id.now (session_place session) bytes ≡ Some
+        session) }
     ensures size { IfOk result (λ bytes. length bytes ≡ 4096) }
 {
     let mut bytes = vec![in alloc; 0; BLOCK_SIZE]?;
@@ -85,7 +86,8 @@ fn is_session_head(id: &[u8; 16], block: u32, session: u64, head: &Head) -> bool
 
 // The number that eight bytes encode.
 fn number_in(bytes: &[u8]) -> Option<u64>
-    ensures { MatchOption result (length bytes.now ≢ 8) (λ n. (length bytes.now ≡ 8) × (n ≡ from_le_bytes w64 bytes.now)) }
+    ensures { MatchOption result (length bytes.now ≢ 8)
+        (λ n. (length bytes.now ≡ 8) × (n ≡ from_le_bytes w64 bytes.now)) }
 {
     if bytes.len() != 8 {
         return None;
@@ -133,9 +135,11 @@ fn read_named<D: Devices>(
     block: u32,
 ) -> Result<Option<u64>, DiskFault>
     requires { IsPlace (D.state devices.old).sizes dev block }
-    ensures found { D.tells → IfOk result (λ session. session ≡ session_at id.now (as_read (now (D.state devices.old))) dev block) }
+    ensures found { D.tells → IfOk result (λ session. session ≡ session_at id.now
+        (as_read (now (D.state devices.old))) dev block) }
     ensures read { AreOnlyRead D.tells (D.state devices.old) (D.state devices.new) }
-    ensures cause { (D.state devices.new).faults ≡ after_reads (failed_device result) (D.state devices.old).faults }
+    ensures cause { (D.state devices.new).faults ≡ after_reads (failed_device result)
+        (D.state devices.old).faults }
     ensures device { IfSome (failed_device result) (λ failed. failed ≡ dev) }
 {
     let bytes = read_block(alloc, devices, dev, block)?;
@@ -153,7 +157,8 @@ fn read_device<D: Devices>(
     ensures found { D.tells → let image = as_read (now (D.state devices.old)) in
         IfOk result (λ session. session ≡ greater (session_at id.now image dev 4) (session_at id.now image dev 5)) }
     ensures read { AreOnlyRead D.tells (D.state devices.old) (D.state devices.new) }
-    ensures cause { (D.state devices.new).faults ≡ after_reads (failed_device result) (D.state devices.old).faults }
+    ensures cause { (D.state devices.new).faults ≡ after_reads (failed_device result)
+        (D.state devices.old).faults }
     ensures device { IfSome (failed_device result) (λ failed. failed ≡ dev) }
 {
     let even = read_named(alloc, devices, id, dev, 4)?;
@@ -168,9 +173,11 @@ pub fn read_session<D: Devices>(
     layout: &Layout,
 ) -> Result<Option<u64>, DiskFault>
     requires { is_layout_of (D.state devices.old).sizes layout.now ≡ true }
-    ensures found { D.tells → IfOk result (λ session. session ≡ session_in layout.now (as_read (now (D.state devices.old)))) }
+    ensures found { D.tells → IfOk result (λ session. session ≡ session_in layout.now
+        (as_read (now (D.state devices.old)))) }
     ensures read { AreOnlyRead D.tells (D.state devices.old) (D.state devices.new) }
-    ensures cause { (D.state devices.new).faults ≡ after_reads (failed_device result) (D.state devices.old).faults }
+    ensures cause { (D.state devices.new).faults ≡ after_reads (failed_device result)
+        (D.state devices.old).faults }
     ensures device { IfSome (failed_device result) (λ dev. dev < length (D.state devices.old).sizes) }
 {
     let mut greatest = None;
@@ -189,10 +196,18 @@ pub fn write_session<D: Devices>(
     session: u64,
 ) -> Result<(), DiskFault>
     requires { is_layout_of (D.state devices.old).sizes layout.now ≡ true }
-    ensures crashes { D.tells → EachCrash (λ _ _ image. IsCrashImageBut (IsSessionPlace layout.now session) (now (D.state devices.old)) image) (D.state devices.old) (D.state devices.new) }
-    ensures held { D.tells → OnOk result (EachCrashNow (λ image. (dev : ℕ) → dev < layout.now.metadata_replicas → session_at layout.now.id image dev (session_place session) ≡ Some session) (D.state devices.new)) }
-    ensures asks { D.tells → (opens : List ℕ → Bool) → HoldOnly opens (IsSessionBlock layout.now session) (D.state devices.old) (D.state devices.new) }
-    ensures cause { (D.state devices.new).faults ≡ after_writes (failed_device result) (D.state devices.old).faults }
+    ensures crashes { D.tells → EachCrash (λ _ _ image. IsCrashImageBut
+        (IsSessionPlace layout.now session) (now (D.state devices.old)) image)
+        (D.state devices.old) (D.state devices.new) }
+    ensures held { D.tells → OnOk result (EachCrashNow
+        (λ image. (dev : ℕ) → dev < layout.now.metadata_replicas
+        → session_at layout.now.id image dev (session_place session) ≡ Some session)
+        (D.state devices.new)) }
+    ensures asks { D.tells → (opens : List ℕ → Bool)
+        → HoldOnly opens (IsSessionBlock layout.now session) (D.state devices.old)
+        (D.state devices.new) }
+    ensures cause { (D.state devices.new).faults ≡ after_writes (failed_device result)
+        (D.state devices.old).faults }
     ensures device { IfSome (failed_device result) (λ dev. dev < length (D.state devices.old).sizes) }
     ensures goes_on { GoOn (D.state devices.old) (D.state devices.new) }
 {

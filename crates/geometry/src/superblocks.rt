@@ -36,7 +36,8 @@ fn put(into: &mut [u8], at: usize, bytes: &[u8])
 // Writes the number of blocks of each device after the first eight bytes.
 fn put_blocks(blocks: &[u32], into: &mut [u8; 40])
     requires { length blocks.now ≤ 8 }
-    ensures { take (8 + 4 * length blocks.now) into.new ≡ take 8 into.old ++ flat_map (to_le_bytes w32) blocks.now }
+    ensures { take (8 + 4 * length blocks.now) into.new ≡ take 8 into.old ++ flat_map
+        (to_le_bytes w32) blocks.now }
 {
     for dev in 0..blocks.len() {
         put(into, 8 + 4 * dev, &blocks[dev].to_le_bytes());
@@ -73,7 +74,20 @@ fn super_payload(layout: &Layout, dev: u8) -> [u8; 40]
 // The head of the copy in this block, with this sequence.
 fn super_head(id: &[u8; 16], dev: u8, block: u32, sequence: u64, payload: &[u8]) -> Head
     requires { length payload.now ≤ 40 }
-    ensures head { result ≡ record { kind = 1; version = 1; part = 0; parts = 1; id = id.now; owner = dev; number = block; sequence = sequence; length = length payload.now; whole = sha256 payload.now } }
+    ensures head { result ≡ record {
+      kind = 1;
+      version = 1;
+      part = 0;
+      parts = 1;
+      id = id.now;
+      owner
+          = dev;
+      number = block;
+      sequence = sequence;
+      length = length payload.now;
+      whole = sha256
+          payload.now;
+    } }
     ensures ranges { IsInRanges result }
 {
     Head {
@@ -96,7 +110,8 @@ pub fn write_super(layout: &Layout, dev: u8, block: u32, sequence: u64, into: &m
     requires device { dev < length layout.now.blocks }
     requires room { length into.old ≡ 4096 }
     ensures bytes { into.new ≡ super_block layout.now dev block sequence }
-    ensures copy { sequence < 2 ^ 63 → copy_in block into.new ≡ Some (super_copy layout.now dev block sequence) }
+    ensures copy { sequence < 2 ^ 63 → copy_in block into.new ≡ Some
+        (super_copy layout.now dev block sequence) }
 {
     let bytes = super_payload(layout, dev);
     let (payload, _) = bytes.split_at(8 + 4 * layout.blocks.len());
@@ -117,7 +132,8 @@ fn read_copies<D: Devices>(
         IfOk result (λ copies. MatchOption copies (there ≡ None) (λ list. there ≡ Some list.items)) }
     ensures few { IfOk result (λ copies. IfSome copies (λ list. length list.items ≤ 8)) }
     ensures read { AreOnlyRead D.tells (D.state devices.old) (D.state devices.new) }
-    ensures cause { (D.state devices.new).faults ≡ after_reads (failed_device result) (D.state devices.old).faults }
+    ensures cause { (D.state devices.new).faults ≡ after_reads (failed_device result)
+        (D.state devices.old).faults }
     ensures device { IfSome (failed_device result) (λ dev. dev < length (D.state devices.old).sizes) }
     ensures few_devices { length (D.state devices.old).sizes ≤ 8 }
 {
@@ -137,8 +153,10 @@ pub fn read_super<D: Devices>(alloc: Global, devices: &mut D) -> Result<Layout, 
     ensures found { D.tells → IsSuperAnswer result (layout_in (as_read (now (D.state devices.old)))) }
     ensures fits { IfOk result (λ layout. is_layout_of (D.state devices.new).sizes layout ≡ true) }
     ensures read { AreOnlyRead D.tells (D.state devices.old) (D.state devices.new) }
-    ensures cause { (D.state devices.new).faults ≡ after_reads (failed_super_device result) (D.state devices.old).faults }
-    ensures device { IfSome (failed_super_device result) (λ dev. dev < length (D.state devices.old).sizes) }
+    ensures cause { (D.state devices.new).faults ≡ after_reads (failed_super_device result)
+        (D.state devices.old).faults }
+    ensures device { IfSome (failed_super_device result)
+        (λ dev. dev < length (D.state devices.old).sizes) }
     ensures few_devices { length (D.state devices.old).sizes ≤ 8 }
 {
     let sizes = sizes_of(alloc, devices)?;

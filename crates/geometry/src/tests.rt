@@ -71,7 +71,8 @@ fn odd_copy(alloc: Global, version: u8, payload: &[u8]) -> Result<Bytes, Fail> {
 fn put(devices: &mut MemDevices, dev: u8, block: u32, bytes: &[u8]) -> Result<(), Fail>
     requires { NothingPending (now (⟦<MemDevices as Devices>⟧.state devices.old)) }
     ensures quiet { NothingPending (now (⟦<MemDevices as Devices>⟧.state devices.new)) }
-    ensures sizes { (⟦<MemDevices as Devices>⟧.state devices.new).sizes ≡ (⟦<MemDevices as Devices>⟧.state devices.old).sizes }
+    ensures sizes { (⟦<MemDevices as Devices>⟧.state devices.new).sizes
+        ≡ (⟦<MemDevices as Devices>⟧.state devices.old).sizes }
 {
     if dev >= devices.count() || block >= devices.blocks(dev) || bytes.len() != 4096 {
         return Err(Fail::from("there is no such block"));

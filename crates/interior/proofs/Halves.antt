@@ -19,7 +19,7 @@ use Rattle.vol_types.specs.declared.positions.Btree.{Btree}
 use Rattle.vol_types.specs.declared.positions.Pos.{Pos}
 use Rattle.tree_nodes.specs.ChildLaws.{parent-covers}
 use Rattle.tree_nodes.specs.CoverLaws.{covered-once}
-use Rattle.tree_nodes.specs.Followers.{follows-test, not_greatest}
+use Rattle.vol_types.specs.FollowerLaws.{follows-test, not_greatest}
 use Rattle.tree_nodes.specs.Levels.{Level, Levels, Covers, EndsAt, IsRow, IsTree, children_of, divided, halved, least_of, level_of, with_node}
 use Rattle.tree_nodes.specs.RangeLaws.{least-first_half, least-other, least-replaced, least-second_half}
 use Rattle.tree_nodes.specs.RowLaws.{at_end}

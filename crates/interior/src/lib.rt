@@ -57,7 +57,8 @@ pub fn rewrite(
 ) -> Result<Updates, AllocError>
     requires there { level < length nodes.now }
     requires fresh { IsNode fresh.now }
-    ensures exact { IfOk result (λ updates. updates ≡ rewrite_updates btree nodes.now level greatest.now fresh.now) }
+    ensures exact { IfOk result (λ updates. updates ≡ rewrite_updates btree nodes.now level
+        greatest.now fresh.now) }
     ensures stand { IfOk result (All IsUpdate) }
     ensures turn { IfOk result (λ updates. Turn (level + 1) updates nodes.now
         (with_node level greatest.now fresh.now nodes.now)) }

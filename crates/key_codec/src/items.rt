@@ -24,7 +24,8 @@ pub(crate) trait Item: Drop {
         before: Option<&Self>,
         bytes: &'a [u8],
     ) -> Result<(Self, &'a [u8]), KeyFault>
-        ensures { Gives (λ x. (x.0, x.1.now)) result ((format (option_copied before.entry)).read bytes.now) };
+        ensures { Gives (λ x. (x.0, x.1.now)) result
+            ((format (option_copied before.entry)).read bytes.now) };
 
     /// Appends the member.
     fn put(&self, into: &mut Bytes) -> Result<(), AllocError>
@@ -70,7 +71,8 @@ pub(crate) fn counted_at<T: Item>(
 #[tactic(auto, using(crate::specs::Appending::appending), unfolding(crate::specs::Formats::items))]
 pub(crate) fn put_items<T: Item>(into: &mut Bytes, members: &[T]) -> Result<(), AllocError>
     requires { All T.Writable members.now }
-    ensures ok { OnOk result (into.new ≡ into.old ++ (items T.format (length members.now)).encode members.now) }
+    ensures ok { OnOk result (into.new ≡ into.old ++ (items T.format (length members.now)).encode
+        members.now) }
     ensures width { OnOk result (All T.Fits members.now) }
     ensures kept { into.new ≡ into.old ++ drop (length into.old) into.new }
 {

@@ -13,7 +13,10 @@ pub fn keys_are_exact()
 
 /// No encoding is another one's, nor the beginning of another one.
 pub fn one_encoding()
-    ensures { (pos other_pos : Pos) (value other_value : Option Value) (rest other_rest : List ℕ) → IsKey pos value → IsKey other_pos other_value → encoding pos value ++ rest ≡ encoding other_pos other_value ++ other_rest → (pos ≡ other_pos) × (value ≡ other_value) × (rest ≡ other_rest) }
+    ensures { (pos other_pos : Pos) (value other_value : Option Value) (rest other_rest : List ℕ)
+        → IsKey pos value → IsKey other_pos other_value → encoding pos value ++ rest ≡ encoding
+        other_pos other_value ++ other_rest → (pos ≡ other_pos) × (value ≡ other_value)
+        × (rest ≡ other_rest) }
 {}
 
 /// A key takes as many bytes as `vol_types` says.

@@ -47,7 +47,8 @@ impl Item for Link {
 
 // Whether the name is above that of the link before it.
 fn is_link_after(before: Option<&Link>, name: &[u8]) -> bool
-    ensures { result ≡ is_above name_cmp (option_map (λ l. l.name) (option_copied before.entry)) name.now }
+    ensures { result ≡ is_above name_cmp (option_map (λ l. l.name) (option_copied before.entry))
+        name.now }
 {
     match before {
         None => true,
@@ -99,7 +100,8 @@ impl Item for Sub {
 
 // Whether the name is above that of the subvolume before it.
 fn is_sub_after(before: Option<&Sub>, name: &[u8]) -> bool
-    ensures { result ≡ is_above name_cmp (option_map (λ s. s.name) (option_copied before.entry)) name.now }
+    ensures { result ≡ is_above name_cmp (option_map (λ s. s.name) (option_copied before.entry))
+        name.now }
 {
     match before {
         None => true,
@@ -140,7 +142,8 @@ impl Item for Pointer {
 
 // Whether the device is above that of the pointer before it.
 fn is_pointer_after(before: Option<&Pointer>, dev: u8) -> bool
-    ensures { result ≡ is_above nat_cmp (option_map (λ p. p.place.dev) (option_copied before.entry)) dev }
+    ensures { result ≡ is_above nat_cmp (option_map (λ p. p.place.dev) (option_copied before.entry))
+        dev }
 {
     match before {
         None => true,

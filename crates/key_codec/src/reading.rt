@@ -26,9 +26,13 @@ pub struct KeyRead {
 /// lists and names of the value, and one pass over the bytes that it uses.
 pub fn get_key(alloc: Global, from: &[u8]) -> Result<KeyRead, KeyFault>
     // What is read is a key, and the bytes that it takes are its encoding.
-    ensures found { IfOk result (λ read. IsKey read.pos read.value × (read.used ≤ length from.now) × (take read.used from.now ≡ encoding read.pos read.value)) }
+    ensures found { IfOk result (λ read. IsKey read.pos read.value × (read.used ≤ length from.now)
+        × (take read.used from.now ≡ encoding read.pos read.value)) }
     // What is encoded so is read, whatever follows it, unless out of memory.
-    ensures only { (pos : APos) (value : Option AValue) (rest : List ℕ) → IsKey pos value → from.now ≡ encoding pos value ++ rest → Gives (λ read. read) result (Ok (record { pos = pos; value = value; used = key_length_of value })) }
+    ensures only { (pos : APos) (value : Option AValue) (rest : List ℕ) → IsKey pos value
+        → from.now ≡ encoding pos value ++ rest
+        → Gives (λ read. read) result
+        (Ok (record { pos = pos; value = value; used = key_length_of value })) }
     // Which fault it is, unless out of memory.
     ensures exact { Gives (λ read. read) result (key_in from.now) }
 {

@@ -44,7 +44,8 @@ impl Holding {
     // Notes a node that is held from now on, and that wasn't held before where it is new.
     fn add(&mut self, birth: u64, name: &NodeName, is_new: bool)
         requires { vec_len self.old.births < vec_capacity self.old.births }
-        ensures births { self.new.births.items ≡ (if is_new then self.old.births.items ++ birth ∷ [] else self.old.births.items) }
+        ensures births { self.new.births.items ≡ (if is_new then self.old.births.items ++ birth ∷ []
+            else self.old.births.items) }
         ensures highest { self.new.highest ≡ highest_with self.old.highest name.now }
     {
         if self.is_below(name) {
@@ -70,7 +71,8 @@ fn ask_noted(
     requires actor { actor < count }
     requires in_use { EachInUse count nodes.old.entries }
     requires holding { IsHolding nodes.old.entries actor holding.old }
-    ensures ok { IfOk result (λ answer. AsksNode sequence nodes.old.entries actor name.now (mode_of mode) answer nodes.new.entries) }
+    ensures ok { IfOk result (λ answer. AsksNode sequence nodes.old.entries actor name.now
+        (mode_of mode) answer nodes.new.entries) }
     ensures in_use { EachInUse count nodes.new.entries }
     ensures holding { IsHolding nodes.new.entries actor holding.new }
     ensures err { OnErr result (nodes.new.entries ≡ nodes.old.entries) }
@@ -98,7 +100,8 @@ pub(crate) fn release_noted(
     requires actor { actor < count }
     requires in_use { EachInUse count nodes.old.entries }
     requires holding { IsHolding nodes.old.entries actor holding.old }
-    ensures releases { ReleasesAll sequence.old nodes.old.entries actor sequence.new nodes.new.entries }
+    ensures releases { ReleasesAll sequence.old nodes.old.entries actor sequence.new
+        nodes.new.entries }
     ensures in_use { EachInUse count nodes.new.entries }
     ensures holding { IsHolding nodes.new.entries actor holding.new }
 {
@@ -117,8 +120,10 @@ fn release_all(
 )
     requires actor { actor < count }
     requires in_use { EachInUse count nodes.old.entries }
-    requires listed { (b : ℕ) (m : SixMode) → HoldsOf (node_at nodes.old.entries b) actor m → IsListed births.now b }
-    ensures releases { ReleasesAll sequence.old nodes.old.entries actor sequence.new nodes.new.entries }
+    requires listed { (b : ℕ) (m : SixMode) → HoldsOf (node_at nodes.old.entries b) actor m
+        → IsListed births.now b }
+    ensures releases { ReleasesAll sequence.old nodes.old.entries actor sequence.new
+        nodes.new.entries }
     ensures in_use { EachInUse count nodes.new.entries }
 {
     for birth in births {
@@ -150,7 +155,8 @@ pub(crate) fn ask_kept(
 ) -> Result<Ask, AllocError>
     requires actor { actor < count }
     requires kept { IsKept nodes.old.entries holdings.old.items count }
-    ensures ok { IfOk result (λ answer. AsksNode sequence nodes.old.entries actor name.now (mode_of mode) answer nodes.new.entries) }
+    ensures ok { IfOk result (λ answer. AsksNode sequence nodes.old.entries actor name.now
+        (mode_of mode) answer nodes.new.entries) }
     ensures kept { IsKept nodes.new.entries holdings.new.items count }
     ensures err { OnErr result (nodes.new.entries ≡ nodes.old.entries) }
 {
@@ -168,7 +174,8 @@ pub(crate) fn release_kept(
 )
     requires actor { actor < count }
     requires kept { IsKept nodes.old.entries holdings.old.items count }
-    ensures releases { ReleasesAll sequence.old nodes.old.entries actor sequence.new nodes.new.entries }
+    ensures releases { ReleasesAll sequence.old nodes.old.entries actor sequence.new
+        nodes.new.entries }
     ensures kept { IsKept nodes.new.entries holdings.new.items count }
 {
     let holding = &mut holdings[actor as usize];

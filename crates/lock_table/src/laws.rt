@@ -11,22 +11,27 @@ pub fn sound_has_no_cycle()
 
 /// Every call leaves a sound table, where it finds one.
 pub fn calls_keep_sound()
-    ensures { (old new : Table) (call : Call) → IsSound old → May old call → Steps old call new → IsSound new }
+    ensures { (old new : Table) (call : Call) → IsSound old → May old call → Steps old call new
+        → IsSound new }
 {}
 
 /// After every list of calls by any actors the table is sound, and so nobody waits for itself.
 pub fn runs_are_sound()
-    ensures { (count : ℕ) (calls : List Call) (table : Table) → Runs (fresh count) calls table → IsSound table }
+    ensures { (count : ℕ) (calls : List Call) (table : Table) → Runs (fresh count) calls table
+        → IsSound table }
 {}
 
 /// After every list of calls by any actors in which each birth is asked for by one name, whoever was told to wait for a
 /// node that its holder still holds waits for that holder: no other node came by that birth.
 pub fn one_name_is_awaited()
-    ensures { (count : ℕ) (calls : List Call) (table : Table) (actor holder : ℕ) → Runs (fresh count) calls table → HasOneName calls → WaitsByBirth table actor holder → WaitsFor table actor holder }
+    ensures { (count : ℕ) (calls : List Call) (table : Table) (actor holder : ℕ)
+        → Runs (fresh count) calls table → HasOneName calls → WaitsByBirth table actor holder
+        → WaitsFor table actor holder }
 {}
 
 /// Over every list of calls by any actors, from a sound table on, no node's sequence falls; and where an actor held
 /// exclusive before, and doesn't in the end, it has risen.
 pub fn sequences_rise()
-    ensures { (old new : Table) (calls : List Call) → IsSound old → Runs old calls new → SequencesRise old new }
+    ensures { (old new : Table) (calls : List Call) → IsSound old → Runs old calls new
+        → SequencesRise old new }
 {}

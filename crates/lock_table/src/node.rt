@@ -31,9 +31,12 @@ pub(crate) fn called(nodes: &BTreeMap<u64, Node>, name: &NodeName) -> NodeName
 
 // Whether the actor holds the node.
 pub(crate) fn is_held(nodes: &BTreeMap<u64, Node>, birth: u64, actor: u8) -> bool
-    requires { (node : Node) → node_at nodes.now.entries birth ≡ Some node → actor < actors node.lock }
-    ensures yes { IsTrue result → (mode : SixMode) × HoldsOf (node_at nodes.now.entries birth) actor mode }
-    ensures no { result ≡ false → (mode : SixMode) → HoldsOf (node_at nodes.now.entries birth) actor mode → ⊥ }
+    requires { (node : Node) → node_at nodes.now.entries birth ≡ Some node
+        → actor < actors node.lock }
+    ensures yes { IsTrue result → (mode : SixMode) × HoldsOf (node_at nodes.now.entries birth) actor
+        mode }
+    ensures no { result ≡ false → (mode : SixMode) → HoldsOf (node_at nodes.now.entries birth) actor
+        mode → ⊥ }
 {
     match nodes.get(&birth) {
         Some(node) => node.lock.is_held_by(actor),
@@ -54,7 +57,8 @@ pub(crate) fn ask_node(
 ) -> Result<Ask, AllocError>
     requires actor { actor < count }
     requires in_use { EachInUse count nodes.old.entries }
-    ensures ok { IfOk result (λ answer. AsksNode sequence nodes.old.entries actor name.now (mode_of mode) answer nodes.new.entries) }
+    ensures ok { IfOk result (λ answer. AsksNode sequence nodes.old.entries actor name.now
+        (mode_of mode) answer nodes.new.entries) }
     ensures in_use { EachInUse count nodes.new.entries }
     ensures err { OnErr result (nodes.new.entries ≡ nodes.old.entries) }
 {
@@ -82,7 +86,8 @@ fn ask_lock(lock: &mut Six, actor: u8, mode: Mode) -> Ask
 pub(crate) fn upgrade_node(nodes: &mut BTreeMap<u64, Node>, birth: u64, actor: u8) -> Ask
     requires { HoldsOf (node_at nodes.old.entries birth) actor Intent }
     ensures answer { UpgradesNode nodes.old.entries birth actor result nodes.new.entries }
-    ensures in_use { (count : ℕ) → EachInUse count nodes.old.entries → EachInUse count nodes.new.entries }
+    ensures in_use { (count : ℕ) → EachInUse count nodes.old.entries
+        → EachInUse count nodes.new.entries }
 {
     match nodes.get_mut(&birth) {
         Some(node) => node.lock.exclusive(actor),
@@ -94,7 +99,8 @@ pub(crate) fn upgrade_node(nodes: &mut BTreeMap<u64, Node>, birth: u64, actor: u
 pub(crate) fn lower_node(nodes: &mut BTreeMap<u64, Node>, birth: u64, actor: u8)
     requires { HoldsOf (node_at nodes.old.entries birth) actor Exclusive }
     ensures lowers { LowersNode nodes.old.entries birth nodes.new.entries }
-    ensures in_use { (count : ℕ) → EachInUse count nodes.old.entries → EachInUse count nodes.new.entries }
+    ensures in_use { (count : ℕ) → EachInUse count nodes.old.entries
+        → EachInUse count nodes.new.entries }
 {
     match nodes.get_mut(&birth) {
         Some(node) => node.lock.lower(actor),
@@ -118,9 +124,11 @@ fn release_lock(lock: &mut Six, actor: u8) -> Option<u64>
 
 // Lets go of a node. Where nobody holds it any more, it is forgotten, and its sequence is given.
 pub(crate) fn release_node(nodes: &mut BTreeMap<u64, Node>, birth: u64, actor: u8) -> Option<u64>
-    requires { (node : Node) → node_at nodes.old.entries birth ≡ Some node → actor < actors node.lock }
+    requires { (node : Node) → node_at nodes.old.entries birth ≡ Some node
+        → actor < actors node.lock }
     ensures releases { ReleasesNode nodes.old.entries birth actor result nodes.new.entries }
-    ensures in_use { (count : ℕ) → EachInUse count nodes.old.entries → EachInUse count nodes.new.entries }
+    ensures in_use { (count : ℕ) → EachInUse count nodes.old.entries
+        → EachInUse count nodes.new.entries }
     ensures was_held { IfSome result (λ _. IsSome (node_at nodes.old.entries birth)) }
 {
     let gone = match nodes.get_mut(&birth) {

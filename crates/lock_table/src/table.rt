@@ -80,7 +80,8 @@ impl LockTable {
     /// grows with the logarithm of the number of nodes that are held, and a node's first lock takes a byte for each actor.
     pub fn ask(&mut self, actor: u8, node: &NodeName, mode: Mode) -> Result<Ruling, AllocError>
         requires { actor < actors self.old }
-        ensures ok { IfOk result (λ ruling. Asks self.old actor node.now (mode_of mode) ruling self.new) }
+        ensures ok { IfOk result (λ ruling. Asks self.old actor node.now (mode_of mode) ruling
+            self.new) }
         ensures err { OnErr result (self.new ≡ self.old) }
     {
         let count = self.waits.len() as u8;
@@ -146,8 +147,10 @@ impl LockTable {
     /// Another actor that holds any mode of a node, if there is one. Its cost grows with the number of actors and with the
     /// logarithm of the number of nodes that are held.
     pub fn other_holder(&self, actor: u8, birth: u64) -> Option<u8>
-        ensures some { IfSome result (λ holder. (holder ≢ actor) × ((mode : SixMode) × HoldsAt self.now birth holder mode)) }
-        ensures none { IfNone result ((holder : ℕ) (mode : SixMode) → holder ≢ actor → HoldsAt self.now birth holder mode → ⊥) }
+        ensures some { IfSome result (λ holder. (holder ≢ actor)
+            × ((mode : SixMode) × HoldsAt self.now birth holder mode)) }
+        ensures none { IfNone result ((holder : ℕ) (mode : SixMode) → holder ≢ actor
+            → HoldsAt self.now birth holder mode → ⊥) }
     {
         match self.nodes.get(&birth) {
             Some(node) => node.lock.other_holder(actor),
@@ -157,8 +160,10 @@ impl LockTable {
 
     /// Another actor that holds shared of a node, if there is one. Its cost is that of [`LockTable::other_holder`].
     pub fn other_reader(&self, actor: u8, birth: u64) -> Option<u8>
-        ensures some { IfSome result (λ holder. (holder ≢ actor) × HoldsAt self.now birth holder Shared) }
-        ensures none { IfNone result ((holder : ℕ) → holder ≢ actor → HoldsAt self.now birth holder Shared → ⊥) }
+        ensures some { IfSome result (λ holder. (holder ≢ actor) × HoldsAt self.now birth holder
+            Shared) }
+        ensures none { IfNone result ((holder : ℕ) → holder ≢ actor → HoldsAt self.now birth holder
+            Shared → ⊥) }
     {
         match self.nodes.get(&birth) {
             Some(node) => node.lock.other_reader(actor),

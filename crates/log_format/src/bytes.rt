@@ -25,7 +25,8 @@ pub(crate) fn zero_block(alloc: Global) -> Result<Bytes, AllocError>
 /// The block that names session 1 of the volume.
 pub(crate) fn first_session(alloc: Global, layout: &Layout) -> Result<Bytes, AllocError>
     ensures bytes { IfOk result (λ bytes. bytes ≡ session_block layout.now.id 1) }
-    ensures named { IfOk result (λ bytes. session_named layout.now.id 5 (session_block layout.now.id 1) ≡ Some 1) }
+    ensures named { IfOk result (λ bytes. session_named layout.now.id 5
+        (session_block layout.now.id 1) ≡ Some 1) }
     ensures size { IfOk result (λ bytes. length bytes ≡ 4096) }
 {
     let mut bytes = vec![in alloc; 0; 4096]?;
@@ -38,7 +39,8 @@ fn super_bytes(alloc: Global, layout: &Layout, dev: u8, block: u32) -> Result<By
     requires layout { is_layout layout.now ≡ true }
     requires device { dev < length layout.now.blocks }
     ensures bytes { IfOk result (λ bytes. bytes ≡ super_block layout.now dev block 1) }
-    ensures copy { IfOk result (λ bytes. copy_in block (super_block layout.now dev block 1) ≡ Some (super_copy layout.now dev block 1)) }
+    ensures copy { IfOk result (λ bytes. copy_in block (super_block layout.now dev block 1) ≡ Some
+        (super_copy layout.now dev block 1)) }
     ensures size { IfOk result (λ bytes. length bytes ≡ 4096) }
 {
     let mut bytes = vec![in alloc; 0; 4096]?;
@@ -76,10 +78,12 @@ pub(crate) fn find_spare<D: Devices>(
     dev: u8,
 ) -> Result<u32, DiskFault>
     requires { dev < length (D.state devices.old).sizes }
-    ensures found { D.tells → IfOk result (λ block. block ≡ spare_block (blocks_of (as_read (now (D.state devices.old))) dev)) }
+    ensures found { D.tells → IfOk result (λ block. block ≡ spare_block
+        (blocks_of (as_read (now (D.state devices.old))) dev)) }
     ensures range { IfOk result (λ block. block ≤ 8) }
     ensures read { AreOnlyRead D.tells (D.state devices.old) (D.state devices.new) }
-    ensures cause { (D.state devices.new).faults ≡ after_reads (failed_device result) (D.state devices.old).faults }
+    ensures cause { (D.state devices.new).faults ≡ after_reads (failed_device result)
+        (D.state devices.old).faults }
     ensures device { IfSome (failed_device result) (λ failed. failed ≡ dev) }
 {
     match read_counting(alloc, devices, dev)? {
@@ -91,10 +95,13 @@ pub(crate) fn find_spare<D: Devices>(
 /// The blocks of the devices' superblock copies that don't count, in order. It costs two reads a device.
 pub(crate) fn find_spares<D: Devices>(alloc: Global, devices: &mut D) -> Result<Vec<u32>, DiskFault>
     ensures count { IfOk result (λ spares. length spares.items ≡ length (D.state devices.old).sizes) }
-    ensures found { D.tells → IfOk result (λ spares. (dev : ℕ) → dev < length (D.state devices.old).sizes → slice_index spares.items dev ≡ spare_block (blocks_of (as_read (now (D.state devices.old))) dev)) }
+    ensures found { D.tells → IfOk result (λ spares. (dev : ℕ)
+        → dev < length (D.state devices.old).sizes → slice_index spares.items dev ≡ spare_block
+        (blocks_of (as_read (now (D.state devices.old))) dev)) }
     ensures range { IfOk result (λ spares. (dev : ℕ) → slice_index spares.items dev ≤ 8) }
     ensures read { AreOnlyRead D.tells (D.state devices.old) (D.state devices.new) }
-    ensures cause { (D.state devices.new).faults ≡ after_reads (failed_device result) (D.state devices.old).faults }
+    ensures cause { (D.state devices.new).faults ≡ after_reads (failed_device result)
+        (D.state devices.old).faults }
     ensures device { IfSome (failed_device result) (λ dev. dev < length (D.state devices.old).sizes) }
 {
     let count = devices.count();
@@ -110,7 +117,8 @@ pub(crate) fn find_spares<D: Devices>(alloc: Global, devices: &mut D) -> Result<
 pub(crate) fn other_blocks(alloc: Global, spares: &[u32]) -> Result<Vec<u32>, AllocError>
     requires { (dev : ℕ) → slice_index spares.now dev ≤ 8 }
     ensures count { IfOk result (λ others. length others.items ≡ length spares.now) }
-    ensures others { IfOk result (λ others. (dev : ℕ) → dev < length spares.now → slice_index others.items dev ≡ 8 - slice_index spares.now dev) }
+    ensures others { IfOk result (λ others. (dev : ℕ) → dev < length spares.now
+        → slice_index others.items dev ≡ 8 - slice_index spares.now dev) }
 {
     let mut others = Vec::new(alloc);
     for dev in 0..spares.len() {

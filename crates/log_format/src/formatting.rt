@@ -29,9 +29,12 @@ fn clear_supers<D: Devices>(
     requires blank { blank.now ≡ zeros }
     requires spares { length spares.now ≡ length (D.state devices.old).sizes }
     requires others { length others.now ≡ length (D.state devices.old).sizes }
-    ensures formats { D.tells → (start : DevicesState) → DisksStay start (D.state devices.old) → ArePlaces (as_read (now start)) spares.now others.now → Formats result layout.now Extend start (D.state devices.new) }
+    ensures formats { D.tells → (start : DevicesState) → DisksStay start (D.state devices.old)
+        → ArePlaces (as_read (now start)) spares.now others.now → Formats result layout.now Extend
+        start (D.state devices.new) }
     ensures goes_on { GoOn (D.state devices.old) (D.state devices.new) }
-    ensures cause { (D.state devices.new).faults ≡ after_writes (failed_device result) (D.state devices.old).faults }
+    ensures cause { (D.state devices.new).faults ≡ after_writes (failed_device result)
+        (D.state devices.old).faults }
     ensures device { IfSome (failed_device result) (λ dev. dev < length (D.state devices.old).sizes) }
 {
     let _ = layout.metadata_replicas;
@@ -56,8 +59,11 @@ fn lay_out<D: Devices>(
     requires session { session.now ≡ session_block layout.now.id 1 }
     requires firsts { AreSupers layout.now 0 firsts.now }
     requires seconds { AreSupers layout.now 8 seconds.now }
-    ensures formats { D.tells → (start : DevicesState) → Reached layout.now Extend start (D.state devices.old) → sizes_of (now start) ≡ (D.state devices.old).sizes → Formats result layout.now Done start (D.state devices.new) }
-    ensures cause { AreAfterCalls (failed_device result) (D.state devices.old).faults (D.state devices.new).faults }
+    ensures formats { D.tells → (start : DevicesState) → Reached layout.now Extend start
+        (D.state devices.old) → sizes_of (now start) ≡ (D.state devices.old).sizes
+        → Formats result layout.now Done start (D.state devices.new) }
+    ensures cause { AreAfterCalls (failed_device result) (D.state devices.old).faults
+        (D.state devices.new).faults }
     ensures device { IfSome (failed_device result) (λ dev. dev < length (D.state devices.old).sizes) }
     ensures moment { (D.state devices.old).moment ≤ (D.state devices.new).moment }
 {
@@ -77,11 +83,15 @@ fn lay_out<D: Devices>(
 pub fn format<D: Devices>(alloc: Global, devices: &mut D, layout: &Layout) -> Result<(), DiskFault>
     requires layout { is_layout layout.now ≡ true }
     requires count { length layout.now.blocks ≡ length (D.state devices.old).sizes }
-    ensures survives { D.tells → FormatSurvives layout.now (D.state devices.old) (D.state devices.new) }
-    ensures done { D.tells → OnOk result (EachCrashNow (λ image. mounts image ≡ Ok (fresh_volume layout.now)) (D.state devices.new)) }
-    ensures cause { AreAfterCalls (failed_device result) (D.state devices.old).faults (D.state devices.new).faults }
+    ensures survives { D.tells → FormatSurvives layout.now (D.state devices.old)
+        (D.state devices.new) }
+    ensures done { D.tells → OnOk result (EachCrashNow
+        (λ image. mounts image ≡ Ok (fresh_volume layout.now)) (D.state devices.new)) }
+    ensures cause { AreAfterCalls (failed_device result) (D.state devices.old).faults
+        (D.state devices.new).faults }
     ensures device { IfSome (failed_device result) (λ dev. dev < length (D.state devices.old).sizes) }
-    ensures past { D.tells → (m : ℕ) → m ≤ (D.state devices.old).moment → (D.state devices.new).disks m ≡ (D.state devices.old).disks m }
+    ensures past { D.tells → (m : ℕ) → m ≤ (D.state devices.old).moment
+        → (D.state devices.new).disks m ≡ (D.state devices.old).disks m }
     ensures moment { (D.state devices.old).moment ≤ (D.state devices.new).moment }
 {
     let blank = zero_block(alloc)?;

@@ -21,9 +21,12 @@ pub(crate) fn write_copies<D: Devices>(
 ) -> Result<(), DiskFault>
     requires places { length places.now ≡ length (D.state devices.old).sizes }
     requires size { length bytes.now ≡ 4096 }
-    ensures step { D.tells → IsStep result (on_first (length places.now) (λ dev. if_there (slice_index (D.state devices.old).sizes dev) (slice_index places.now dev) bytes.now)) (D.state devices.old) (D.state devices.new) }
+    ensures step { D.tells → IsStep result (on_first (length places.now)
+        (λ dev. if_there (slice_index (D.state devices.old).sizes dev)
+        (slice_index places.now dev) bytes.now)) (D.state devices.old) (D.state devices.new) }
     ensures goes_on { GoOn (D.state devices.old) (D.state devices.new) }
-    ensures cause { (D.state devices.new).faults ≡ after_writes (failed_device result) (D.state devices.old).faults }
+    ensures cause { (D.state devices.new).faults ≡ after_writes (failed_device result)
+        (D.state devices.old).faults }
     ensures device { IfSome (failed_device result) (λ dev. dev < length (D.state devices.old).sizes) }
 {
     let all = devices.count();
@@ -36,11 +39,15 @@ pub(crate) fn write_copies<D: Devices>(
 /// Makes each device as long as its number of blocks, and flushes all.
 pub(crate) fn extend_devices<D: Devices>(devices: &mut D, layout: &Layout) -> Result<(), DiskFault>
     requires count { length layout.now.blocks ≡ length (D.state devices.old).sizes }
-    ensures step { D.tells → IsStep result (on_first (length layout.now.blocks) (λ dev. extension (slice_index (D.state devices.old).sizes dev) (slice_index layout.now.blocks dev))) (D.state devices.old) (D.state devices.new) }
-    ensures cause { AreAfterCalls (failed_device result) (D.state devices.old).faults (D.state devices.new).faults }
+    ensures step { D.tells → IsStep result (on_first (length layout.now.blocks)
+        (λ dev. extension (slice_index (D.state devices.old).sizes dev)
+        (slice_index layout.now.blocks dev))) (D.state devices.old) (D.state devices.new) }
+    ensures cause { AreAfterCalls (failed_device result) (D.state devices.old).faults
+        (D.state devices.new).faults }
     ensures device { IfSome (failed_device result) (λ dev. dev < length (D.state devices.old).sizes) }
     ensures count { length (D.state devices.new).sizes ≡ length (D.state devices.old).sizes }
-    ensures room { OnOk result ((dev : ℕ) → dev < length (D.state devices.old).sizes → slice_index layout.now.blocks dev ≤ slice_index (D.state devices.new).sizes dev) }
+    ensures room { OnOk result ((dev : ℕ) → dev < length (D.state devices.old).sizes
+        → slice_index layout.now.blocks dev ≤ slice_index (D.state devices.new).sizes dev) }
     ensures moment { (D.state devices.old).moment ≤ (D.state devices.new).moment }
 {
     let count = devices.count();
@@ -63,9 +70,11 @@ pub(crate) fn prepare_devices<D: Devices>(
     requires blank { blank.now ≡ zeros }
     requires session_size { length session.now ≡ 4096 }
     requires session { session.now ≡ session_block layout.now.id 1 }
-    ensures step { D.tells → IsStep result (on_first layout.now.metadata_replicas (λ dev. prepared layout.now)) (D.state devices.old) (D.state devices.new) }
+    ensures step { D.tells → IsStep result (on_first layout.now.metadata_replicas
+        (λ dev. prepared layout.now)) (D.state devices.old) (D.state devices.new) }
     ensures goes_on { GoOn (D.state devices.old) (D.state devices.new) }
-    ensures cause { (D.state devices.new).faults ≡ after_writes (failed_device result) (D.state devices.old).faults }
+    ensures cause { (D.state devices.new).faults ≡ after_writes (failed_device result)
+        (D.state devices.old).faults }
     ensures device { IfSome (failed_device result) (λ dev. dev < length (D.state devices.old).sizes) }
 {
     for dev in 0..layout.metadata_replicas {
@@ -85,9 +94,11 @@ pub(crate) fn seal_devices<D: Devices>(
     requires fits { is_layout_of (D.state devices.old).sizes layout.now ≡ true }
     requires firsts { AreSupers layout.now 0 firsts.now }
     requires seconds { AreSupers layout.now 8 seconds.now }
-    ensures step { D.tells → IsStep result (on_first (length layout.now.blocks) (super_copies layout.now)) (D.state devices.old) (D.state devices.new) }
+    ensures step { D.tells → IsStep result (on_first (length layout.now.blocks)
+        (super_copies layout.now)) (D.state devices.old) (D.state devices.new) }
     ensures goes_on { GoOn (D.state devices.old) (D.state devices.new) }
-    ensures cause { (D.state devices.new).faults ≡ after_writes (failed_device result) (D.state devices.old).faults }
+    ensures cause { (D.state devices.new).faults ≡ after_writes (failed_device result)
+        (D.state devices.old).faults }
     ensures device { IfSome (failed_device result) (λ dev. dev < length (D.state devices.old).sizes) }
 {
     let count = devices.count();

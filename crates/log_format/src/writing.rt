@@ -21,9 +21,12 @@ pub(crate) fn write_if_there<D: Devices>(
 ) -> Result<(), DiskFault>
     requires device { dev < length (D.state devices.old).sizes }
     requires size { length bytes.now ≡ 4096 }
-    ensures writes { D.tells → Writes result (on_device dev (if_there (slice_index (D.state devices.old).sizes dev) place bytes.now)) (D.state devices.old) (D.state devices.new) }
+    ensures writes { D.tells → Writes result (on_device dev
+        (if_there (slice_index (D.state devices.old).sizes dev) place bytes.now))
+        (D.state devices.old) (D.state devices.new) }
     ensures goes_on { GoOn (D.state devices.old) (D.state devices.new) }
-    ensures cause { (D.state devices.new).faults ≡ after_writes (failed_device result) (D.state devices.old).faults }
+    ensures cause { (D.state devices.new).faults ≡ after_writes (failed_device result)
+        (D.state devices.old).faults }
     ensures device { IfSome (failed_device result) (λ failed. failed ≡ dev) }
 {
     if devices.blocks(dev) <= place {
@@ -39,12 +42,16 @@ pub(crate) fn extend_device<D: Devices>(
     blocks: u32,
 ) -> Result<(), DiskFault>
     requires device { dev < length (D.state devices.old).sizes }
-    ensures writes { D.tells → Writes result (on_device dev (extension (slice_index (D.state devices.old).sizes dev) blocks)) (D.state devices.old) (D.state devices.new) }
-    ensures cause { (D.state devices.new).faults ≡ after_reads (failed_device result) (D.state devices.old).faults }
+    ensures writes { D.tells → Writes result (on_device dev
+        (extension (slice_index (D.state devices.old).sizes dev) blocks)) (D.state devices.old)
+        (D.state devices.new) }
+    ensures cause { (D.state devices.new).faults ≡ after_reads (failed_device result)
+        (D.state devices.old).faults }
     ensures device { IfSome (failed_device result) (λ failed. failed ≡ dev) }
     ensures count { length (D.state devices.new).sizes ≡ length (D.state devices.old).sizes }
     ensures room { OnOk result (blocks ≤ slice_index (D.state devices.new).sizes dev) }
-    ensures others { (other : ℕ) → other ≢ dev → slice_index (D.state devices.new).sizes other ≡ slice_index (D.state devices.old).sizes other }
+    ensures others { (other : ℕ) → other ≢ dev → slice_index (D.state devices.new).sizes other
+        ≡ slice_index (D.state devices.old).sizes other }
     ensures moment { (D.state devices.old).moment ≤ (D.state devices.new).moment }
 {
     if blocks <= devices.blocks(dev) {
@@ -74,9 +81,11 @@ fn prepare_block<D: Devices>(
     requires blank { blank.now ≡ zeros }
     requires session_size { length session.now ≡ 4096 }
     requires session { session.now ≡ session_block layout.now.id 1 }
-    ensures writes { D.tells → Writes result (on_device dev (in_block block (prepared layout.now block))) (D.state devices.old) (D.state devices.new) }
+    ensures writes { D.tells → Writes result (on_device dev
+        (in_block block (prepared layout.now block))) (D.state devices.old) (D.state devices.new) }
     ensures goes_on { GoOn (D.state devices.old) (D.state devices.new) }
-    ensures cause { (D.state devices.new).faults ≡ after_writes (failed_device result) (D.state devices.old).faults }
+    ensures cause { (D.state devices.new).faults ≡ after_writes (failed_device result)
+        (D.state devices.old).faults }
     ensures device { IfSome (failed_device result) (λ failed. failed ≡ dev) }
 {
     if block == 8 {
@@ -102,9 +111,11 @@ pub(crate) fn prepare_device<D: Devices>(
     requires blank { blank.now ≡ zeros }
     requires session_size { length session.now ≡ 4096 }
     requires session { session.now ≡ session_block layout.now.id 1 }
-    ensures writes { D.tells → Writes result (on_device dev (prepared layout.now)) (D.state devices.old) (D.state devices.new) }
+    ensures writes { D.tells → Writes result (on_device dev (prepared layout.now))
+        (D.state devices.old) (D.state devices.new) }
     ensures goes_on { GoOn (D.state devices.old) (D.state devices.new) }
-    ensures cause { (D.state devices.new).faults ≡ after_writes (failed_device result) (D.state devices.old).faults }
+    ensures cause { (D.state devices.new).faults ≡ after_writes (failed_device result)
+        (D.state devices.old).faults }
     ensures device { IfSome (failed_device result) (λ failed. failed ≡ dev) }
 {
     for block in 1..16 + layout.journal {
@@ -125,9 +136,11 @@ pub(crate) fn seal_device<D: Devices>(
     requires device { dev < length (D.state devices.old).sizes }
     requires first { IsSuper layout.now dev 0 first.now }
     requires second { IsSuper layout.now dev 8 second.now }
-    ensures writes { D.tells → Writes result (on_device dev (super_copies layout.now dev)) (D.state devices.old) (D.state devices.new) }
+    ensures writes { D.tells → Writes result (on_device dev (super_copies layout.now dev))
+        (D.state devices.old) (D.state devices.new) }
     ensures goes_on { GoOn (D.state devices.old) (D.state devices.new) }
-    ensures cause { (D.state devices.new).faults ≡ after_writes (failed_device result) (D.state devices.old).faults }
+    ensures cause { (D.state devices.new).faults ≡ after_writes (failed_device result)
+        (D.state devices.old).faults }
     ensures device { IfSome (failed_device result) (λ failed. failed ≡ dev) }
 {
     let _ = layout.metadata_replicas;

@@ -62,9 +62,12 @@ fn record_on<D: Devices>(
     requires layout { is_layout_of (D.state devices.old).sizes layout.now ≡ true }
     requires device { dev < layout.now.metadata_replicas }
     requires place { place < layout.now.journal }
-    ensures found { D.tells → IfOk result (λ found. found ≡ Rattle.log_records.specs.Records.record_on layout.now place (as_read (now (D.state devices.old))) dev) }
+    ensures found { D.tells → IfOk result (λ found. found
+        ≡ Rattle.log_records.specs.Records.record_on layout.now place
+        (as_read (now (D.state devices.old))) dev) }
     ensures read { AreOnlyRead D.tells (D.state devices.old) (D.state devices.new) }
-    ensures cause { IfSome (failed_device result) (λ failed. (failed ≡ dev) × DeviceFailed failed (D.state devices.old).faults (D.state devices.new).faults) }
+    ensures cause { IfSome (failed_device result) (λ failed. (failed ≡ dev)
+        × DeviceFailed failed (D.state devices.old).faults (D.state devices.new).faults) }
 {
     let block = read_block(alloc, devices, dev, LOG_START + place)?;
     Ok(read_record(alloc, &layout.id, place, block.as_slice())?)
@@ -80,9 +83,13 @@ fn find_record<D: Devices>(
 ) -> Result<Option<MadeFile>, DiskFault>
     requires layout { is_layout_of (D.state devices.old).sizes layout.now ≡ true }
     requires place { place < layout.now.journal }
-    ensures found { D.tells → (SomeFailed (D.state devices.old).faults (D.state devices.new).faults → IsMirroredAt layout.now (as_read (now (D.state devices.old))) place) → IfOk result (λ found. found ≡ record_at layout.now (as_read (now (D.state devices.old))) place) }
+    ensures found { D.tells → (SomeFailed (D.state devices.old).faults (D.state devices.new).faults
+        → IsMirroredAt layout.now (as_read (now (D.state devices.old))) place)
+        → IfOk result (λ found. found ≡ record_at layout.now (as_read (now (D.state devices.old)))
+        place) }
     ensures read { AreOnlyRead D.tells (D.state devices.old) (D.state devices.new) }
-    ensures cause { IfSome (failed_device result) (λ dev. (dev < length (D.state devices.old).sizes) × DeviceFailed dev (D.state devices.old).faults (D.state devices.new).faults) }
+    ensures cause { IfSome (failed_device result) (λ dev. (dev < length (D.state devices.old).sizes)
+        × DeviceFailed dev (D.state devices.old).faults (D.state devices.new).faults) }
 {
     let mut failed = None;
     for dev in 0..layout.metadata_replicas {
@@ -102,10 +109,14 @@ fn find_record<D: Devices>(
 // Reads the log, record by record, up to the first place without the next one.
 fn scan<D: Devices>(alloc: Global, devices: &mut D, layout: &Layout) -> Result<Scanned, DiskFault>
     requires layout { is_layout_of (D.state devices.old).sizes layout.now ≡ true }
-    ensures found { D.tells → (SomeFailed (D.state devices.old).faults (D.state devices.new).faults → AreMirrored layout.now (as_read (now (D.state devices.old)))) → IfOk result (λ scanned. log_in layout.now (as_read (now (D.state devices.old))) ≡ (scanned.records, scanned.forest)) }
+    ensures found { D.tells → (SomeFailed (D.state devices.old).faults (D.state devices.new).faults
+        → AreMirrored layout.now (as_read (now (D.state devices.old))))
+        → IfOk result (λ scanned. log_in layout.now (as_read (now (D.state devices.old)))
+        ≡ (scanned.records, scanned.forest)) }
     ensures room { IfOk result (λ scanned. scanned.records ≤ layout.now.journal) }
     ensures read { AreOnlyRead D.tells (D.state devices.old) (D.state devices.new) }
-    ensures cause { IfSome (failed_device result) (λ dev. (dev < length (D.state devices.old).sizes) × DeviceFailed dev (D.state devices.old).faults (D.state devices.new).faults) }
+    ensures cause { IfSome (failed_device result) (λ dev. (dev < length (D.state devices.old).sizes)
+        × DeviceFailed dev (D.state devices.old).faults (D.state devices.new).faults) }
 {
     let mut forest = Forest::fresh(alloc)?;
     for place in 0..layout.journal {
@@ -128,13 +139,19 @@ fn scan<D: Devices>(alloc: Global, devices: &mut D, layout: &Layout) -> Result<S
 ///
 /// Where a device failed in the call, as the counts say, the volume is the one that the image means if its mirrors agree.
 pub fn load<D: Devices>(alloc: Global, devices: &mut D) -> Result<Loaded, MountFault>
-    ensures found { D.tells → IsMountAnswer (SomeFailed (D.state devices.old).faults (D.state devices.new).faults) (as_read (now (D.state devices.old))) result }
-    ensures layout { D.tells → IfOk result (λ loaded. layout_in (as_read (now (D.state devices.old))) ≡ Ok loaded.layout) }
-    ensures session { D.tells → IfOk result (λ loaded. session_in loaded.layout (as_read (now (D.state devices.old))) ≡ Some loaded.session) }
-    ensures fits { IfOk result (λ loaded. is_layout_of (D.state devices.new).sizes loaded.layout ≡ true) }
+    ensures found { D.tells → IsMountAnswer (SomeFailed (D.state devices.old).faults
+        (D.state devices.new).faults) (as_read (now (D.state devices.old))) result }
+    ensures layout { D.tells → IfOk result (λ loaded. layout_in
+        (as_read (now (D.state devices.old))) ≡ Ok loaded.layout) }
+    ensures session { D.tells → IfOk result (λ loaded. session_in loaded.layout
+        (as_read (now (D.state devices.old))) ≡ Some loaded.session) }
+    ensures fits { IfOk result (λ loaded. is_layout_of (D.state devices.new).sizes loaded.layout
+        ≡ true) }
     ensures room { IfOk result (λ loaded. loaded.records ≤ loaded.layout.journal) }
     ensures read { AreOnlyRead D.tells (D.state devices.old) (D.state devices.new) }
-    ensures cause { IfSome (failed_mount_device result) (λ dev. (dev < length (D.state devices.old).sizes) × DeviceFailed dev (D.state devices.old).faults (D.state devices.new).faults) }
+    ensures cause { IfSome (failed_mount_device result)
+        (λ dev. (dev < length (D.state devices.old).sizes)
+        × DeviceFailed dev (D.state devices.old).faults (D.state devices.new).faults) }
 {
     let layout = read_super(alloc, devices)?;
     let Some(session) = read_session(alloc, devices, &layout)? else {

@@ -72,7 +72,8 @@ fn put(devices: &mut MemDevices, dev: u8, block: u32, bytes: &[u8]) -> Result<()
 
 // Two devices with the superblocks of a volume that keeps its metadata on both.
 fn volume(alloc: Global) -> Result<MemDevices, Fail>
-    ensures { Rattle.std.specs.Prelude.IfOk result (λ d. NothingPending (now (⟦<MemDevices as Devices>⟧.state d))) }
+    ensures { Rattle.std.specs.Prelude.IfOk result
+        (λ d. NothingPending (now (⟦<MemDevices as Devices>⟧.state d))) }
 {
     let layout = Layout {
         id: ID,
@@ -95,7 +96,8 @@ fn volume(alloc: Global) -> Result<MemDevices, Fail>
 
 // The same, with session 1 on the second device alone.
 fn begun_volume(alloc: Global) -> Result<MemDevices, Fail>
-    ensures { Rattle.std.specs.Prelude.IfOk result (λ d. NothingPending (now (⟦<MemDevices as Devices>⟧.state d))) }
+    ensures { Rattle.std.specs.Prelude.IfOk result
+        (λ d. NothingPending (now (⟦<MemDevices as Devices>⟧.state d))) }
 {
     let mut devices = volume(alloc)?;
     let mut block = vec![in alloc; 0; 4096]?;

@@ -17,7 +17,7 @@ use Rattle.vol_types.specs.declared.values.Value.{Value}
 use Rattle.node_mem.specs.Counts.{IsCounted, lengths_of}
 use Rattle.node_mem.specs.Nodes.{Node, IsNode, entries_after, entries_up_to}
 use Rattle.node_mem.specs.CountLaws.{sum_keys, lengths-append}
-use Rattle.node_mem.specs.NextLaws.{up_to_test, after_test}
+use Rattle.vol_types.specs.FollowerLaws.{up_to_test, after_test}
 use Rattle.node_mem.specs.RangeLaws.{same_part, All-part}
 
 module _ (at next : Pos) (fits : PosFits at) (follows : next_pos at ≡ Some next) where

@@ -1,7 +1,6 @@
 pub mod CountLaws
 pub mod Counts
 pub mod MergeLaws
-pub mod NextLaws
 pub mod Nodes
 pub mod RangeLaws
 pub mod Sets

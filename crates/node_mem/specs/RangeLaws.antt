@@ -74,15 +74,3 @@ pub crossed-range : (first last : Pos) (values : List (Pos × Value)) → is_gt 
 crossed-range first last values after =
     filter_agree (λ entry. is_le (pos_cmp first entry.0) && not (is_le (pos_cmp first entry.0))) (λ entry. is_le (pos_cmp first entry.0) && is_le (pos_cmp entry.0 last))
     (λ entry. crossed (pos_cmp first entry.0) (pos_cmp entry.0 last) (λ le up. false≢true (sym (upto pos_total first entry.0 last le up) ∙ after))) values
-
--- the last of a list that was pushed to
-last_pushed : {X : Type 0} (xs : List X) (x : X) → slice_get (xs ++ x ∷ []) (length (xs ++ x ∷ []) - 1) ≡ Some x
-last_pushed xs x =
-    let at : length (xs ++ x ∷ []) - 1 ≡ length xs = omega (arith, length-append xs (x ∷ [])) in
-    ap (λ i. slice_get (xs ++ x ∷ []) i) at
-    ∙ slice_get_read (xs ++ x ∷ []) (length (xs ++ x ∷ [])) (length xs) x refl (omega (arith, length-append xs (x ∷ []))) (sym (get_or-append_seam xs x [] x))
-
--- The item that is taken from the end is the last one.
-pub last_taken : {A X : Type 0} (shows : A → X) (values rest : List X) (taken : Option A) → TakesLast shows values taken rest → option_map shows taken ≡ slice_get values (length values - 1)
-last_taken shows values rest None none = sym (ap (λ xs. slice_get xs (length xs - 1)) none.0)
-last_taken shows values rest (Some x) some = sym (ap (λ xs. slice_get xs (length xs - 1)) some ∙ last_pushed rest (shows x))

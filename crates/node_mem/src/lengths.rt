@@ -41,7 +41,8 @@ pub fn length_at(entries: &BTreeMap<Pos, Value>, pos: &Pos) -> u32
 /// How many bytes the key at a position takes after some changes, by those at the positions that were changed.
 pub fn length_so_far(lengths: &BTreeMap<Pos, u32>, entries: &BTreeMap<Pos, Value>, pos: &Pos) -> u32
     requires { All IsValue (values_of entries.now.entries) }
-    ensures { result ≡ unwrap_or (value_at pos_cmp pos.now lengths.now.entries) (length_of (value_at pos_cmp pos.now entries.now.entries)) }
+    ensures { result ≡ unwrap_or (value_at pos_cmp pos.now lengths.now.entries)
+        (length_of (value_at pos_cmp pos.now entries.now.entries)) }
 {
     match lengths.get(pos) {
         Some(length) => *length,

@@ -15,24 +15,18 @@ mod laws;
 pub mod lengths;
 mod positions;
 mod sizing;
-mod splitting;
 
 use crate::entries::{copy_keys, exchange};
 use crate::lengths::{length, total};
 use crate::positions::middle_after;
 use crate::sizing::bytes_after;
-use crate::splitting::follower;
 pub use changes::Change;
 pub use laws::{keys_are_merged, middles_halve, nodes_are_sets, puts_are_counted};
-pub use splitting::wide;
 use std::alloc::{AllocError, Global};
 use std::collections::{BTreeMap, btree_map};
 use std::marker::Model;
 use std::ops::Bound;
-use vol_types::{Duplicate, Key, Keys, Pos, Value, copy_map};
-
-/// How many bytes a set takes before its keys.
-const SET_HEAD: u128 = 56;
+use vol_types::{Duplicate, Key, Keys, Pos, SET_HEAD, Value, copy_map, follower, wide};
 
 /// The values of a node, each at its position, in order. Each call that looks for a position, puts or removes takes steps
 /// that grow with the logarithm of their number. `size`, `len`, `least` and `greatest` only look.
@@ -62,7 +56,8 @@ impl Model for NodeMem {
 impl NodeMem {
     /// A node without values, which covers the positions from the least to the greatest one. It takes no memory.
     pub fn new(alloc: Global, least: &Pos, greatest: &Pos) -> Result<NodeMem, AllocError>
-        ensures { IfOk result (λ node. node ≡ record { least = least.now; greatest = greatest.now; entries = [] }) }
+        ensures { IfOk result (λ node. node ≡ record
+            { least = least.now; greatest = greatest.now; entries = [] }) }
     {
         Ok(NodeMem {
             least: *least,
@@ -170,7 +165,11 @@ impl NodeMem {
         requires covered { IsWithin self.old.least self.old.greatest pos.now }
         requires in_range { IsKeyValue value }
         ensures before { IfOk result (λ before. before ≡ value_at pos_cmp pos.now self.old.entries) }
-        ensures ok { OnOk result (self.new ≡ record { least = self.old.least; greatest = self.old.greatest; entries = put_at pos_cmp pos.now value self.old.entries }) }
+        ensures ok { OnOk result (self.new ≡ record {
+          least = self.old.least;
+          greatest = self.old.greatest;
+          entries = put_at pos_cmp pos.now value self.old.entries;
+        }) }
         // After an `Err` the node is as before. It comes only where a value is put at a position that has none.
         ensures err { OnErr result (self.new ≡ self.old) }
         ensures put { OnErr result (IsSome value) }
@@ -189,7 +188,11 @@ impl NodeMem {
     /// Takes the value at a position away, and gives it. It takes no memory.
     pub fn remove(&mut self, pos: &Pos) -> Option<Value>
         ensures before { result ≡ value_at pos_cmp pos.now self.old.entries }
-        ensures after { self.new ≡ record { least = self.old.least; greatest = self.old.greatest; entries = put_at pos_cmp pos.now None self.old.entries } }
+        ensures after { self.new ≡ record {
+          least = self.old.least;
+          greatest = self.old.greatest;
+          entries = put_at pos_cmp pos.now None self.old.entries;
+        } }
     {
         let before = self.entries.remove(pos);
         self.bytes -= length(&before) as u128;
@@ -202,11 +205,17 @@ impl NodeMem {
     pub fn split_off(&mut self, at: &Pos) -> Result<NodeMem, AllocError>
         requires covered { IsWithin self.old.least self.old.greatest at.now }
         requires before { IsBefore at.now self.old.greatest }
-        ensures stays { OnOk result (self.new ≡ record { least = self.old.least; greatest = at.now; entries = entries_up_to at.now self.old.entries }) }
+        ensures stays { OnOk result (self.new ≡ record {
+          least = self.old.least;
+          greatest = at.now;
+          entries = entries_up_to at.now self.old.entries;
+        }) }
         ensures follows { IfOk result (λ second. next_pos at.now ≡ Some second.least) }
         ensures ends { IfOk result (λ second. second.greatest ≡ self.old.greatest) }
-        ensures goes { IfOk result (λ second. second.entries ≡ entries_after at.now self.old.entries) }
-        ensures whole { IfOk result (λ second. self.old.entries ≡ self.new.entries ++ second.entries) }
+        ensures goes { IfOk result (λ second. second.entries ≡ entries_after at.now
+            self.old.entries) }
+        ensures whole { IfOk result (λ second. self.old.entries
+            ≡ self.new.entries ++ second.entries) }
         // After an `Err` the node is as before.
         ensures err { OnErr result (self.new ≡ self.old) }
     {
@@ -236,7 +245,8 @@ impl NodeMem {
     /// few steps for each change, times a logarithm, and memory for each position that is changed.
     pub fn size_after<C: Change>(&self, alloc: Global, changes: &[C]) -> Result<u32, AllocError>
         requires { All (λ change. IsKeyValue (C.key change).value) changes.now }
-        ensures { IfOk result (λ size. size ≡ size_of (with_keys (map C.key changes.now) self.now.entries)) }
+        ensures { IfOk result (λ size. size ≡ size_of
+            (with_keys (map C.key changes.now) self.now.entries)) }
     {
         let bytes = bytes_after(alloc, &self.entries, self.bytes, changes)?;
         Ok(u32::try_from(bytes).unwrap_or(u32::MAX))
@@ -249,7 +259,8 @@ impl NodeMem {
         alloc: Global,
         changes: &[C],
     ) -> Result<Option<Pos>, AllocError>
-        ensures { IfOk result (λ at. at ≡ middle_of (with_keys (map C.key changes.now) self.now.entries)) }
+        ensures { IfOk result (λ at. at ≡ middle_of
+            (with_keys (map C.key changes.now) self.now.entries)) }
     {
         middle_after(alloc, &self.entries, changes)
     }
@@ -258,7 +269,11 @@ impl NodeMem {
     fn put_key(&mut self, key: Key) -> Result<(), AllocError>
         requires covered { IsWithin self.old.least self.old.greatest key.pos }
         requires in_range { IsKeyValue key.value }
-        ensures { OnOk result (self.new ≡ record { least = self.old.least; greatest = self.old.greatest; entries = put_at pos_cmp key.pos key.value self.old.entries }) }
+        ensures { OnOk result (self.new ≡ record {
+          least = self.old.least;
+          greatest = self.old.greatest;
+          entries = put_at pos_cmp key.pos key.value self.old.entries;
+        }) }
     {
         let Key { pos, value } = key;
         self.put(&pos, value)?;
@@ -270,7 +285,11 @@ impl NodeMem {
     pub fn merged(mut self, keys: Keys) -> Result<NodeMem, AllocError>
         requires covered { All (λ key. IsWithin self.least self.greatest key.pos) keys }
         requires in_range { All (λ key. IsKeyValue key.value) keys }
-        ensures { IfOk result (λ node. node ≡ record { least = self.least; greatest = self.greatest; entries = with_keys keys self.entries }) }
+        ensures { IfOk result (λ node. node ≡ record {
+          least = self.least;
+          greatest = self.greatest;
+          entries = with_keys keys self.entries;
+        }) }
     {
         for key in Vec::from(keys) {
             self.put_key(key)?;

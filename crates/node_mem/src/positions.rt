@@ -16,7 +16,8 @@ pub(crate) fn middle_after<C: Change>(
     entries: &BTreeMap<Pos, Value>,
     changes: &[C],
 ) -> Result<Option<Pos>, AllocError>
-    ensures { IfOk result (λ at. at ≡ middle_of (with_keys (map C.key changes.now) entries.now.entries)) }
+    ensures { IfOk result (λ at. at ≡ middle_of (with_keys (map C.key changes.now)
+        entries.now.entries)) }
 {
     let mut positions = positions_of(alloc, entries)?;
     for change in changes {
@@ -39,7 +40,9 @@ fn positions_of(alloc: Global, entries: &BTreeMap<Pos, Value>) -> Result<BTreeSe
 
 // Takes the changed position or frees it.
 fn change_one<C: Change>(positions: &mut BTreeSet<Pos>, change: &C) -> Result<(), AllocError>
-    ensures { OnOk result ((entries : Entries) → positions.old.keys ≡ keys_of entries → positions.new.keys ≡ keys_of (put_at pos_cmp (C.key change.now).pos (C.key change.now).value entries)) }
+    ensures { OnOk result ((entries : Entries) → positions.old.keys ≡ keys_of entries
+        → positions.new.keys ≡ keys_of (put_at pos_cmp (C.key change.now).pos
+        (C.key change.now).value entries)) }
 {
     match change.value() {
         None => {
@@ -54,7 +57,8 @@ fn change_one<C: Change>(positions: &mut BTreeSet<Pos>, change: &C) -> Result<()
 
 // The middle one of the positions, if there are two or more.
 fn middle(positions: &BTreeSet<Pos>) -> Option<Pos>
-    ensures { (entries : Entries) → positions.now.keys ≡ keys_of entries → result ≡ middle_of entries }
+    ensures { (entries : Entries) → positions.now.keys ≡ keys_of entries
+        → result ≡ middle_of entries }
 {
     let count = positions.len();
     if count < 2 {

@@ -25,7 +25,8 @@ pub(crate) fn bytes_after<C: Change>(
     requires rises { IsMap pos_cmp entries.now.entries }
     requires values { All IsValue (values_of entries.now.entries) }
     requires in_range { All (λ change. IsKeyValue (C.key change).value) changes.now }
-    ensures { IfOk result (λ after. after ≡ set_length_of (keys_in (with_keys (map C.key changes.now) entries.now.entries))) }
+    ensures { IfOk result (λ after. after ≡ set_length_of
+        (keys_in (with_keys (map C.key changes.now) entries.now.entries))) }
 {
     // So few keys of so few bytes each fit 128 bits together.
     let (count, more) = (entries.len(), changes.len());

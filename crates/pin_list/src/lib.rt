@@ -61,7 +61,8 @@ impl PinList {
     pub fn pin(&mut self, node: u64, seq: u64)
         requires { IsSome (value_at nat_cmp node self.old.numbers) ⊎ (0 < self.old.spare) }
         ensures numbers { self.new.numbers ≡ with_pin node seq self.old.numbers }
-        ensures spare { (if is_some (value_at nat_cmp node self.old.numbers) then self.old.spare else self.old.spare - 1) ≤ self.new.spare }
+        ensures spare { (if is_some (value_at nat_cmp node self.old.numbers) then self.old.spare
+            else self.old.spare - 1) ≤ self.new.spare }
     {
         put(&mut self.pins, node, seq);
         self.oldest = Some(smaller_of(seq, self.oldest));
@@ -103,7 +104,8 @@ impl PinList {
     /// Takes the pin of a node away, if it has one, and its room is spare again.
     pub fn release(&mut self, node: u64)
         ensures numbers { self.new.numbers ≡ without nat_cmp node self.old.numbers }
-        ensures spare { self.new.spare ≡ (if is_some (value_at nat_cmp node self.old.numbers) then self.old.spare + 1 else self.old.spare) }
+        ensures spare { self.new.spare ≡ (if is_some (value_at nat_cmp node self.old.numbers) then
+            self.old.spare + 1 else self.old.spare) }
     {
         take_out(&mut self.pins, node);
         self.oldest = least_of(&self.pins);
@@ -113,10 +115,12 @@ impl PinList {
 // Pins a number for a node. Where the node isn't pinned, there is room.
 fn put(pins: &mut Vec<(u64, u64)>, node: u64, seq: u64)
     requires rises { IsMap nat_cmp pins.old.items }
-    requires room { IsSome (value_at nat_cmp node pins.old.items) ⊎ (vec_len pins.old < vec_capacity pins.old) }
+    requires room { IsSome (value_at nat_cmp node pins.old.items)
+        ⊎ (vec_len pins.old < vec_capacity pins.old) }
     ensures numbers { pins.new.items ≡ with_pin node seq pins.old.items }
     ensures capacity { vec_capacity pins.old ≤ vec_capacity pins.new }
-    ensures len { vec_len pins.new ≡ (if is_some (value_at nat_cmp node pins.old.items) then vec_len pins.old else vec_len pins.old + 1) }
+    ensures len { vec_len pins.new ≡ (if is_some (value_at nat_cmp node pins.old.items) then vec_len
+        pins.old else vec_len pins.old + 1) }
 {
     let place = match find(pins, node) {
         Ok(place) => {
@@ -136,7 +140,8 @@ fn take_out(pins: &mut Vec<(u64, u64)>, node: u64)
     requires { IsMap nat_cmp pins.old.items }
     ensures numbers { pins.new.items ≡ without nat_cmp node pins.old.items }
     ensures capacity { vec_capacity pins.new ≡ vec_capacity pins.old }
-    ensures len { vec_len pins.new ≡ (if is_some (value_at nat_cmp node pins.old.items) then vec_len pins.old - 1 else vec_len pins.old) }
+    ensures len { vec_len pins.new ≡ (if is_some (value_at nat_cmp node pins.old.items) then vec_len
+        pins.old - 1 else vec_len pins.old) }
 {
     let place = match find(pins, node) {
         Ok(place) => place,
@@ -173,7 +178,8 @@ fn place_of(pins: &[(u64, u64)], node: u64) -> usize
     requires { IsMap nat_cmp pins.now }
     ensures within { result ≤ length pins.now }
     ensures before { AreSmallerBefore pins.now result node }
-    ensures from { (k : ℕ) (pin : ℕ × ℕ) → result ≤ k → slice_get pins.now k ≡ Some pin → node ≤ pin.0 }
+    ensures from { (k : ℕ) (pin : ℕ × ℕ) → result ≤ k → slice_get pins.now k ≡ Some pin
+        → node ≤ pin.0 }
 {
     pins.partition_point(|pin| pin.0 < node)
 }

@@ -1,3 +1,4 @@
+ghost use Rattle.vol_digest.specs.Digests.{slot_of};
 ghost use Rattle.std.specs.Prelude.{◌≡◌, [], OnOk, OnErr};
 ghost use Rattle.plain_forest.specs.Maps.{name_cmp, value_at, with_value};
 ghost use Rattle.plain_forest.specs.Steps.{count_in_slot, check_name};
@@ -7,7 +8,6 @@ use crate::operation::refuse_if;
 use std::alloc::{AllocError, Global};
 use std::collections::{BTreeMap, btree_map};
 use std::marker::Model;
-use vol_digest::slot;
 use vol_types::{Bytes, Duplicate, copy_map};
 
 /// How many names of a directory may have one slot.
@@ -60,23 +60,30 @@ impl NameTable {
         self.slot_counts.get(&slot).copied().unwrap_or(0)
     }
 
-    /// Whether it takes a new name: the name isn't there, and fewer than eight names have its slot.
-    pub fn check_new(&self, name: &Bytes) -> Result<(), Cause>
+    /// Whether it takes a new name of this slot: the name isn't there, and fewer than eight names have the slot.
+    pub fn check_new(&self, name: &Bytes, slot: u64) -> Result<(), Cause>
+        requires { slot ≡ slot_of name.now }
         ensures { result ≡ check_name name.now self.now }
     {
         refuse_if(self.number(name).is_some(), Cause::Exists)?;
-        let count = self.count_in_slot(slot(name.as_slice()));
+        let count = self.count_in_slot(slot);
         refuse_if(count >= NAMES_PER_SLOT, Cause::Crowded)
     }
 
-    /// Adds a name. An `Err` changes nothing.
-    pub fn insert(&mut self, alloc: Global, name: &Bytes, number: u64) -> Result<(), AllocError>
-        requires { check_name name.now self.old ≡ Ok tt }
+    /// Adds a name of this slot. An `Err` changes nothing.
+    pub fn insert(
+        &mut self,
+        alloc: Global,
+        name: &Bytes,
+        slot: u64,
+        number: u64,
+    ) -> Result<(), AllocError>
+        requires slot { slot ≡ slot_of name.now }
+        requires new { check_name name.now self.old ≡ Ok tt }
         ensures ok { OnOk result (self.new ≡ with_value name_cmp name.now number self.old) }
         ensures err { OnErr result (self.new ≡ self.old) }
     {
         let key = name.copy(alloc)?;
-        let slot = slot(name.as_slice());
         let count = self.count_in_slot(slot);
         self.slot_counts.insert(slot, count + 1)?;
         if self.numbers.insert(key, number).is_err() {

@@ -12,6 +12,7 @@ use crate::{Cause, Op, Path, Reply};
 use std::alloc::{AllocError, Global};
 use std::collections::BTreeMap;
 use std::marker::Model;
+use vol_digest::slot;
 use vol_types::{Bytes, Duplicate, copy_map};
 
 /// How many inode numbers a client has.
@@ -126,7 +127,8 @@ impl Forest {
         let names = tree.directory(directory).ok_or(Cause::NotDir)?;
         refuse_if(tree.is_locked(), Cause::ReadOnly)?;
         let name = path.last().ok_or(Cause::Exists)?;
-        names.check_new(name)?;
+        let slot = slot(name.as_slice());
+        names.check_new(name, slot)?;
         refuse_if(
             self.next[client as usize] >= NUMBERS_PER_CLIENT,
             Cause::IdsSpent,
@@ -134,6 +136,7 @@ impl Forest {
         Ok(NewPlace {
             directory,
             name,
+            slot,
             number: self.next_number(client),
         })
     }
@@ -189,8 +192,10 @@ fn add_to_subvolume(
     sub: &Bytes,
     place: &NewPlace<'_>,
 ) -> Result<(), AllocError>
-    requires { (tree : Tree) → value_at name_cmp sub.now subvolumes.old.entries ≡ Some tree → IsFree (place_of place.now) tree }
-    ensures ok { OnOk result (subvolumes.new.entries ≡ changed_at name_cmp sub.now (with_file (place_of place.now)) subvolumes.old.entries) }
+    requires { (tree : Tree) → value_at name_cmp sub.now subvolumes.old.entries ≡ Some tree
+        → IsFree (place_of place.now) tree }
+    ensures ok { OnOk result (subvolumes.new.entries ≡ changed_at name_cmp sub.now
+        (with_file (place_of place.now)) subvolumes.old.entries) }
     ensures err { OnErr result (subvolumes.new.entries ≡ subvolumes.old.entries) }
 {
     match subvolumes.get_mut(sub) {

@@ -68,7 +68,7 @@ pub enum Reply {
     DeviceFault(u8),
     /// The session has stopped writing: at this moment a write or a flush of this device had failed.
     Halted { dev: u8, tick: u64 },
-    /// Memory was wanting. The operation has no place in the history.
+    /// Out of memory. The operation has no place in the history.
     NoMemory,
 }
 

@@ -36,7 +36,8 @@ impl Model for Subvolume {
 impl Subvolume {
     /// A tree with an empty root directory of that number, which may be changed.
     pub fn empty(alloc: Global, root: u64) -> Result<Self, AllocError>
-        ensures { IfOk result (λ tree. tree ≡ record { locked = false; root = root; files = []; directories = (root, []) ∷ [] }) }
+        ensures { IfOk result (λ tree. tree ≡ record
+            { locked = false; root = root; files = []; directories = (root, []) ∷ [] }) }
     {
         let mut directories = BTreeMap::new(alloc);
         directories.insert(root, NameTable::new(alloc))?;
@@ -144,12 +145,14 @@ fn add_name(
     directories: &mut BTreeMap<u64, NameTable>,
     place: &NewPlace<'_>,
 ) -> Result<(), AllocError>
-    requires { (names : Names) → value_at nat_cmp place.now.directory directories.old.entries ≡ Some names → check_name place.now.name.now names ≡ Ok tt }
-    ensures ok { OnOk result (directories.new.entries ≡ changed_at nat_cmp place.now.directory (with_value name_cmp place.now.name.now place.now.number) directories.old.entries) }
+    requires { (names : Names) → value_at nat_cmp place.now.directory directories.old.entries ≡ Some
+        names → check_name place.now.name.now names ≡ Ok tt }
+    ensures ok { OnOk result (directories.new.entries ≡ changed_at nat_cmp place.now.directory
+        (with_value name_cmp place.now.name.now place.now.number) directories.old.entries) }
     ensures err { OnErr result (directories.new.entries ≡ directories.old.entries) }
 {
     match directories.get_mut(&place.directory) {
-        Some(names) => names.insert(alloc, place.name, place.number),
+        Some(names) => names.insert(alloc, place.name, place.slot, place.number),
         None => Ok(()),
     }
 }

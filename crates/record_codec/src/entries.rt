@@ -54,7 +54,8 @@ pub fn get_entry(alloc: Global, payload: &[u8]) -> Result<EntryRecord, RecordFau
     // What is read is an entry, and the payload is its encoding.
     ensures found { IfOk result (λ entry. IsEntry entry × (payload.now ≡ entry_format.encode entry)) }
     // What is encoded so is read, unless out of memory.
-    ensures only { (entry : AnEntry) → IsEntry entry → payload.now ≡ entry_format.encode entry → Gives (λ read. read) result (Ok entry) }
+    ensures only { (entry : AnEntry) → IsEntry entry → payload.now ≡ entry_format.encode entry
+        → Gives (λ read. read) result (Ok entry) }
     // Which fault it is, unless out of memory.
     ensures exact { Gives (λ read. read) result (entry_in payload.now) }
 {
@@ -110,7 +111,9 @@ fn roots_at(alloc: Global, bytes: &[u8]) -> Result<(Roots, &[u8]), RecordFault>
 // Appends the four numbers of the entry.
 #[tactic(auto, using(key_codec::specs::Appending::appending))]
 fn put_numbers(into: &mut Bytes, entry: &EntryRecord) -> Result<(), AllocError>
-    ensures ok { OnOk result (into.new ≡ into.old ++ u64_le.encode entry.now.sequence ++ u64_le.encode entry.now.oldest ++ u64_le.encode entry.now.session ++ u64_le.encode entry.now.commits) }
+    ensures ok { OnOk result (into.new ≡ into.old ++ u64_le.encode
+        entry.now.sequence ++ u64_le.encode entry.now.oldest ++ u64_le.encode
+        entry.now.session ++ u64_le.encode entry.now.commits) }
     ensures sequence { OnOk result (entry.now.sequence < 2 ^ 64) }
     ensures session { OnOk result (entry.now.session < 2 ^ 64) }
     ensures commits { OnOk result (entry.now.commits < 2 ^ 64) }

@@ -19,7 +19,9 @@ pub fn sets_are_exact()
 
 /// No set's encoding is another one's, nor the beginning of another one.
 pub fn one_set_encoding()
-    ensures { (set other : SetRecord) (rest other_rest : List ℕ) → IsSet set → IsSet other → set_format.encode set ++ rest ≡ set_format.encode other ++ other_rest → (set ≡ other) × (rest ≡ other_rest) }
+    ensures { (set other : SetRecord) (rest other_rest : List ℕ) → IsSet set → IsSet other
+        → set_format.encode set ++ rest ≡ set_format.encode other ++ other_rest → (set ≡ other)
+        × (rest ≡ other_rest) }
 {}
 
 /// A set takes as many bytes as `vol_types` says of its keys.
@@ -35,16 +37,22 @@ pub fn entries_are_exact()
 
 /// No entry's encoding is another one's, nor the beginning of another one.
 pub fn one_entry_encoding()
-    ensures { (entry other : EntryRecord) (rest other_rest : List ℕ) → IsEntry entry → IsEntry other → entry_format.encode entry ++ rest ≡ entry_format.encode other ++ other_rest → (entry ≡ other) × (rest ≡ other_rest) }
+    ensures { (entry other : EntryRecord) (rest other_rest : List ℕ) → IsEntry entry → IsEntry other
+        → entry_format.encode entry ++ rest ≡ entry_format.encode other ++ other_rest
+        → (entry ≡ other) × (rest ≡ other_rest) }
 {}
 
 /// How many bytes an entry takes.
 pub fn entry_lengths()
-    ensures { (entry : EntryRecord) → length (entry_format.encode entry) ≡ entry_length_of entry.roots entry.updates }
+    ensures { (entry : EntryRecord) → length (entry_format.encode entry) ≡ entry_length_of
+        entry.roots entry.updates }
 {}
 
 /// An entry with more updates is longer by theirs, and a set with more keys by theirs.
 pub fn lengths_add()
-    ensures entries { (roots : List NodePtr) (first second : List Update) → entry_length_of roots (first ++ second) ≡ entry_length_of roots first + sum_by update_length_of second }
-    ensures sets { (first second : List Key) → set_length_of (first ++ second) ≡ set_length_of first + sum_by (λ key. key_length_of key.value) second }
+    ensures entries { (roots : List NodePtr) (first second : List Update)
+        → entry_length_of roots (first ++ second) ≡ entry_length_of roots first + sum_by
+        update_length_of second }
+    ensures sets { (first second : List Key) → set_length_of (first ++ second) ≡ set_length_of
+        first + sum_by (λ key. key_length_of key.value) second }
 {}

@@ -40,7 +40,8 @@ pub(crate) trait Member<H>: Drop {
         before: Option<&Self>,
         bytes: &'a [u8],
     ) -> Result<(Self, &'a [u8]), RecordFault>
-        ensures { Gives (λ x. (x.0, x.1.now)) result ((format head.now (option_copied before.entry)).read bytes.now) };
+        ensures { Gives (λ x. (x.0, x.1.now)) result
+            ((format head.now (option_copied before.entry)).read bytes.now) };
 }
 
 /// So many members, and the rest. It takes memory as members come, whatever the count says.

@@ -102,7 +102,8 @@ pub fn get_set(alloc: Global, payload: &[u8]) -> Result<SetRecord, RecordFault>
     // What is read is a set, and the payload is its encoding.
     ensures found { IfOk result (λ set. IsSet set × (payload.now ≡ set_format.encode set)) }
     // What is encoded so is read, unless out of memory.
-    ensures only { (set : ASet) → IsSet set → payload.now ≡ set_format.encode set → Gives (λ read. read) result (Ok set) }
+    ensures only { (set : ASet) → IsSet set → payload.now ≡ set_format.encode set
+        → Gives (λ read. read) result (Ok set) }
     // Which fault it is, unless out of memory.
     ensures exact { Gives (λ read. read) result (set_in payload.now) }
 {
@@ -230,7 +231,8 @@ fn is_next(head: &SetHead, before: Option<&Key>, pos: &Pos) -> bool
 
 // Whether the position is above that of the key before it.
 fn is_key_after(before: Option<&Key>, pos: &Pos) -> bool
-    ensures { result ≡ is_above pos_cmp (option_map (λ key. key.pos) (option_copied before.entry)) pos.now }
+    ensures { result ≡ is_above pos_cmp (option_map (λ key. key.pos) (option_copied before.entry))
+        pos.now }
 {
     match before {
         None => true,
@@ -240,7 +242,8 @@ fn is_key_after(before: Option<&Key>, pos: &Pos) -> bool
 
 // Whether the node covers the position.
 fn is_covered(head: &SetHead, pos: &Pos) -> bool
-    ensures { result ≡ (is_le (pos_cmp head.now.least pos.now) && is_le (pos_cmp pos.now head.now.greatest)) }
+    ensures { result ≡ (is_le (pos_cmp head.now.least pos.now) && is_le
+        (pos_cmp pos.now head.now.greatest)) }
 {
     head.least.cmp(pos).is_le() && pos.cmp(&head.greatest).is_le()
 }

@@ -51,10 +51,15 @@ pub fn begin_session<D: Devices>(
     requires { is_layout_of (D.state devices.old).sizes loaded.now.layout ≡ true }
     ensures spent { (result ≡ Err BeginFault.Spent) ↔ (4294967295 ≤ loaded.now.session) }
     ensures nothing { result ≡ Err BeginFault.Spent → devices.new ≡ devices.old }
-    ensures numbered { D.tells → OnOk result (EachCrashNow (NamesSession loaded.now.layout (loaded.now.session + 1)) (D.state devices.new)) }
-    ensures crashes { D.tells → EachCrash (λ _ _ image. IsCrashImageBut (IsSessionPlace loaded.now.layout (loaded.now.session + 1)) (now (D.state devices.old)) image) (D.state devices.old) (D.state devices.new) }
-    ensures cause { (D.state devices.new).faults ≡ after_writes (failed_begin_device result) (D.state devices.old).faults }
-    ensures device { IfSome (failed_begin_device result) (λ dev. dev < length (D.state devices.old).sizes) }
+    ensures numbered { D.tells → OnOk result (EachCrashNow
+        (NamesSession loaded.now.layout (loaded.now.session + 1)) (D.state devices.new)) }
+    ensures crashes { D.tells → EachCrash (λ _ _ image. IsCrashImageBut
+        (IsSessionPlace loaded.now.layout (loaded.now.session + 1)) (now (D.state devices.old))
+        image) (D.state devices.old) (D.state devices.new) }
+    ensures cause { (D.state devices.new).faults ≡ after_writes (failed_begin_device result)
+        (D.state devices.old).faults }
+    ensures device { IfSome (failed_begin_device result)
+        (λ dev. dev < length (D.state devices.old).sizes) }
     ensures goes_on { GoOn (D.state devices.old) (D.state devices.new) }
 {
     if loaded.session >= LAST_SESSION {

@@ -9,10 +9,15 @@ ghost use Rattle.record_log.specs.Survives.{Survives};
 
 /// While devices are only read, what a crash leaves means what they meant.
 pub fn reading_is_survived()
-    ensures { (opening : Mounted) (old new : DevicesState) → DisksStay old new → Survives opening old new [] [] }
+    ensures { (opening : Mounted) (old new : DevicesState) → DisksStay old new
+        → Survives opening old new [] [] }
 {}
 
 /// While the next session's number is sealed after such reading, what a crash leaves means what they meant.
 pub fn beginning_is_survived()
-    ensures { (opening : Mounted) (old new : DevicesState) (before devices : ℕ) → session_in opening.layout (as_read (now old)) ≡ Some before → EachCrash (λ _ _ image. IsCrashImageBut (IsSessionPlace opening.layout (suc before)) (now old) image) old new → ((m : ℕ) → m ≤ new.moment → length (new.disks m) ≡ devices) → Survives opening old new [] [] }
+    ensures { (opening : Mounted) (old new : DevicesState) (before devices : ℕ)
+        → session_in opening.layout (as_read (now old)) ≡ Some before
+        → EachCrash (λ _ _ image. IsCrashImageBut (IsSessionPlace opening.layout (suc before))
+        (now old) image) old new → ((m : ℕ) → m ≤ new.moment → length (new.disks m) ≡ devices)
+        → Survives opening old new [] [] }
 {}

@@ -72,12 +72,26 @@ impl<D: Devices, O: Opening> RecordLog<D, O> {
         requires fits { is_layout_of (D.state devices).sizes loaded.layout ≡ true }
         requires room { loaded.records ≤ loaded.layout.journal }
         requires unspent { loaded.session < 4294967295 }
-        requires named { D.tells → session_in loaded.layout (as_read (now O.start)) ≡ Some loaded.session }
-        requires numbered { D.tells → EachCrashNow (NamesSession loaded.layout (loaded.session + 1)) (D.state devices) }
-        requires begun { D.tells → EachCrash (λ _ _ image. IsCrashImageBut (IsSessionPlace loaded.layout (loaded.session + 1)) (now O.start) image) O.start (D.state devices) }
+        requires named { D.tells → session_in loaded.layout (as_read (now O.start)) ≡ Some
+            loaded.session }
+        requires numbered { D.tells → EachCrashNow (NamesSession loaded.layout (loaded.session + 1))
+            (D.state devices) }
+        requires begun { D.tells → EachCrash (λ _ _ image. IsCrashImageBut
+            (IsSessionPlace loaded.layout (loaded.session + 1)) (now O.start) image) O.start
+            (D.state devices) }
         requires unfailed { (D.state devices).faults.writes ≡ O.start.faults.writes }
         requires goes_on { GoOn O.start (D.state devices) }
-        ensures { result ≡ record { devices = devices; layout = loaded.layout; session = loaded.session + 1; base = loaded.records; files = []; durable = 0; halted = None; trace = []; acks = [] } }
+        ensures { result ≡ record {
+          devices = devices;
+          layout = loaded.layout;
+          session = loaded.session + 1;
+          base = loaded.records;
+          files = [];
+          durable = 0;
+          halted = None;
+          trace = [];
+          acks = [];
+        } }
     {
         RecordLog {
             alloc,
@@ -120,16 +134,20 @@ impl<D: Devices, O: Opening> RecordLog<D, O> {
         ensures acks { result.acks ≡ self.acks }
         ensures halted { result.halted ≡ self.halted }
         ensures legal { IsLegal O.forest result.trace }
-        ensures exact { EachEntry (IsExact O.forest self.base self.layout.journal (halt_or_none result.halted)) result.trace }
+        ensures exact { EachEntry (IsExact O.forest self.base self.layout.journal
+            (halt_or_none result.halted)) result.trace }
         ensures failed { is_some result.halted ≡ has_failed result.trace }
         ensures only { IsOnlyFailure result.halted O.start.faults (D.state result.devices).faults }
         ensures halts { Halts result.halted O.start (D.state result.devices) result.trace }
         ensures no_commit { NoCommitAfterHalt O.forest result.trace }
         ensures causes { HaveCauses O.start.faults (D.state result.devices).faults result.trace }
-        ensures acknowledged { AreAcks O.start.moment (D.state result.devices).moment result.trace result.acks }
-        ensures survives { D.tells → Survives (mounted_as self.layout (self.base, O.forest)) O.start (D.state result.devices) result.trace result.acks }
+        ensures acknowledged { AreAcks O.start.moment (D.state result.devices).moment result.trace
+            result.acks }
+        ensures survives { D.tells → Survives (mounted_as self.layout (self.base, O.forest)) O.start
+            (D.state result.devices) result.trace result.acks }
         ensures goes_on { GoOn O.start (D.state result.devices) }
-        ensures past { D.tells → (m : ℕ) → m ≤ O.start.moment → (D.state result.devices).disks m ≡ O.start.disks m }
+        ensures past { D.tells → (m : ℕ) → m ≤ O.start.moment → (D.state result.devices).disks m
+            ≡ O.start.disks m }
     {
         Finished {
             devices: self.devices,
@@ -146,15 +164,20 @@ impl<D: Devices, O: Opening> RecordLog<D, O> {
     /// isn't written yet and flushes after it; where a call of a device fails, the session has halted.
     pub fn call(&mut self, op: Op) -> Result<Reply, AllocError>
         requires { IsFlat op }
-        ensures answered { IfOk result (λ reply. Answers D.state O.forest op self.old self.new reply) }
-        ensures err { OnErr result (self.new ≡ record self.old { devices = self.new.devices; durable = self.new.durable }) }
-        ensures faults { OnErr result ((D.state self.new.devices).faults ≡ (D.state self.old.devices).faults) }
+        ensures answered { IfOk result (λ reply. Answers D.state O.forest op self.old self.new
+            reply) }
+        ensures err { OnErr result (self.new ≡ record self.old
+            { devices = self.new.devices; durable = self.new.durable }) }
+        ensures faults { OnErr result ((D.state self.new.devices).faults
+            ≡ (D.state self.old.devices).faults) }
         ensures base { self.new.base ≡ self.old.base }
         ensures layout { self.new.layout ≡ self.old.layout }
         ensures rises { self.old.durable ≤ self.new.durable }
-        ensures untouched { op ≢ Op.Sync → self.new ≡ record self.old { files = self.new.files; trace = self.new.trace } }
+        ensures untouched { op ≢ Op.Sync → self.new ≡ record self.old
+            { files = self.new.files; trace = self.new.trace } }
         ensures sizes { (D.state self.new.devices).sizes ≡ (D.state self.old.devices).sizes }
-        ensures durable { D.tells → EachCrashNow (HoldsDurable O.forest self.new) (D.state self.new.devices) }
+        ensures durable { D.tells → EachCrashNow (HoldsDurable O.forest self.new)
+            (D.state self.new.devices) }
         ensures kept { D.tells → KeepsDurable D.state self.old self.new }
     {
         let answered = self.answer(op);
@@ -171,13 +194,17 @@ impl<D: Devices, O: Opening> RecordLog<D, O> {
 
     fn answer(&mut self, op: Op) -> Result<Reply, AllocError>
         requires { IsFlat op }
-        ensures answered { IfOk result (λ reply. Answers D.state O.forest op self.old self.new reply) }
-        ensures err { OnErr result (self.new ≡ record self.old { devices = self.new.devices; durable = self.new.durable }) }
-        ensures faults { OnErr result ((D.state self.new.devices).faults ≡ (D.state self.old.devices).faults) }
+        ensures answered { IfOk result (λ reply. Answers D.state O.forest op self.old self.new
+            reply) }
+        ensures err { OnErr result (self.new ≡ record self.old
+            { devices = self.new.devices; durable = self.new.durable }) }
+        ensures faults { OnErr result ((D.state self.new.devices).faults
+            ≡ (D.state self.old.devices).faults) }
         ensures base { self.new.base ≡ self.old.base }
         ensures layout { self.new.layout ≡ self.old.layout }
         ensures rises { self.old.durable ≤ self.new.durable }
-        ensures untouched { op ≢ Op.Sync → self.new ≡ record self.old { files = self.new.files; trace = self.new.trace } }
+        ensures untouched { op ≢ Op.Sync → self.new ≡ record self.old
+            { files = self.new.files; trace = self.new.trace } }
         ensures sizes { (D.state self.new.devices).sizes ≡ (D.state self.old.devices).sizes }
         ensures kept { D.tells → KeepsDurable D.state self.old self.new }
     {
@@ -197,7 +224,8 @@ impl<D: Devices, O: Opening> RecordLog<D, O> {
     // Whether the log has as many records, there or to come, as it has places.
     fn is_full(&self) -> bool
         ensures full { result ≡ is_full O.forest self.now }
-        ensures full_of_files { result ≡ (self.now.base + length self.now.files == self.now.layout.journal) }
+        ensures full_of_files { result ≡ (self.now.base + length self.now.files ==
+            self.now.layout.journal) }
         ensures room { self.now.base + length self.now.files ≤ self.now.layout.journal }
     {
         self.base as usize + self.files.len() == self.layout.journal as usize
@@ -205,9 +233,13 @@ impl<D: Devices, O: Opening> RecordLog<D, O> {
 
     fn make_file(&mut self, op: Op, name: Bytes) -> Result<Reply, AllocError>
         requires { op ≡ Op.Mkfile (in_main name) }
-        ensures answered { IfOk result (λ reply. Answers D.state O.forest op self.old self.new reply) }
+        ensures answered { IfOk result (λ reply. Answers D.state O.forest op self.old self.new
+            reply) }
         ensures err { OnErr result (self.new ≡ self.old) }
-        ensures others { self.new ≡ record self.old { files = self.new.files; trace = self.new.trace } }
+        ensures others { self.new ≡ record self.old {
+          files = self.new.files;
+          trace = self.new.trace;
+        } }
     {
         if let Some(halt) = self.halted {
             return self.refuse_file(op, &name, halted_reply(halt));
@@ -225,9 +257,12 @@ impl<D: Devices, O: Opening> RecordLog<D, O> {
         requires failure { may_fail op otherwise ≡ true }
         requires counted { synced_count otherwise ≡ None }
         requires working { is_device_fault otherwise ≡ false }
-        requires exact { (forest : Forest) → file_reply self.old.halted (is_full O.forest self.old) (in_main name.now) forest ≡ refusal_or otherwise (in_main name.now) forest }
-        ensures reply { IfOk result (λ reply. reply ≡ refusal_or otherwise (in_main name.now) (after_all O.forest self.old.trace)) }
-        ensures entry { IfOk result (λ reply. self.new ≡ record self.old { trace = self.old.trace ++ record { client = 0; op = op; reply = reply } ∷ [] }) }
+        requires exact { (forest : Forest) → file_reply self.old.halted (is_full O.forest self.old)
+            (in_main name.now) forest ≡ refusal_or otherwise (in_main name.now) forest }
+        ensures reply { IfOk result (λ reply. reply ≡ refusal_or otherwise (in_main name.now)
+            (after_all O.forest self.old.trace)) }
+        ensures entry { IfOk result (λ reply. self.new ≡ record self.old
+            { trace = self.old.trace ++ record { client = 0; op = op; reply = reply } ∷ [] }) }
         ensures err { OnErr result (self.new ≡ self.old) }
     {
         let reply = refusal_or(&self.forest, &op, otherwise);
@@ -240,10 +275,15 @@ impl<D: Devices, O: Opening> RecordLog<D, O> {
         requires halted { self.old.halted ≡ None }
         requires full { is_full O.forest self.old ≡ false }
         requires room { self.old.base + length self.old.files < self.old.layout.journal }
-        ensures reply { IfOk result (λ reply. reply ≡ reply_of 0 op 0 (after_all O.forest self.old.trace)) }
-        ensures entry { IfOk result (λ reply. self.new.trace ≡ self.old.trace ++ record { client = 0; op = op; reply = reply } ∷ []) }
+        ensures reply { IfOk result (λ reply. reply ≡ reply_of 0 op 0
+            (after_all O.forest self.old.trace)) }
+        ensures entry { IfOk result (λ reply. self.new.trace ≡ self.old.trace ++ record
+            { client = 0; op = op; reply = reply } ∷ []) }
         ensures err { OnErr result (self.new ≡ self.old) }
-        ensures others { self.new ≡ record self.old { files = self.new.files; trace = self.new.trace } }
+        ensures others { self.new ≡ record self.old {
+          files = self.new.files;
+          trace = self.new.trace;
+        } }
     {
         self.trace.reserve(1)?;
         self.files.reserve(1)?;
@@ -265,8 +305,10 @@ impl<D: Devices, O: Opening> RecordLog<D, O> {
 
     fn list(&mut self, op: Op) -> Result<Reply, AllocError>
         requires { IsListing op }
-        ensures reply { IfOk result (λ reply. reply ≡ reply_of 0 op 0 (after_all O.forest self.old.trace)) }
-        ensures entry { IfOk result (λ reply. self.new ≡ record self.old { trace = self.old.trace ++ record { client = 0; op = op; reply = reply } ∷ [] }) }
+        ensures reply { IfOk result (λ reply. reply ≡ reply_of 0 op 0
+            (after_all O.forest self.old.trace)) }
+        ensures entry { IfOk result (λ reply. self.new ≡ record self.old
+            { trace = self.old.trace ++ record { client = 0; op = op; reply = reply } ∷ [] }) }
         ensures err { OnErr result (self.new ≡ self.old) }
     {
         let reply = self.forest.apply(0, &op)?;
@@ -274,9 +316,12 @@ impl<D: Devices, O: Opening> RecordLog<D, O> {
     }
 
     fn sync(&mut self) -> Result<Reply, AllocError>
-        ensures answered { IfOk result (λ reply. Answers D.state O.forest Op.Sync self.old self.new reply) }
-        ensures err { OnErr result (self.new ≡ record self.old { devices = self.new.devices; durable = self.new.durable }) }
-        ensures faults { OnErr result ((D.state self.new.devices).faults ≡ (D.state self.old.devices).faults) }
+        ensures answered { IfOk result (λ reply. Answers D.state O.forest Op.Sync self.old self.new
+            reply) }
+        ensures err { OnErr result (self.new ≡ record self.old
+            { devices = self.new.devices; durable = self.new.durable }) }
+        ensures faults { OnErr result ((D.state self.new.devices).faults
+            ≡ (D.state self.old.devices).faults) }
         ensures rises { self.old.durable ≤ self.new.durable }
         ensures sizes { (D.state self.new.devices).sizes ≡ (D.state self.old.devices).sizes }
         ensures base { self.new.base ≡ self.old.base }
@@ -293,7 +338,14 @@ impl<D: Devices, O: Opening> RecordLog<D, O> {
     fn stay_halted(&mut self, halt: Halt) -> Result<Reply, AllocError>
         requires { self.old.halted ≡ Some halt }
         ensures reply { IfOk result (λ reply. reply ≡ Reply.Halted halt.dev halt.tick) }
-        ensures entry { OnOk result (self.new ≡ record self.old { trace = self.old.trace ++ record { client = 0; op = Op.Sync; reply = Reply.Halted halt.dev halt.tick } ∷ [] }) }
+        ensures entry { OnOk result (self.new ≡ record self.old {
+          trace = self.old.trace ++ record {
+            client = 0;
+            op = Op.Sync;
+            reply = Reply.Halted
+                halt.dev halt.tick;
+          } ∷ [];
+        }) }
         ensures err { OnErr result (self.new ≡ self.old) }
         ensures others { self.new ≡ record self.old { trace = self.new.trace } }
     {
@@ -308,9 +360,12 @@ impl<D: Devices, O: Opening> RecordLog<D, O> {
     // Writes each record that isn't written yet, and acknowledges all commits.
     fn sync_all(&mut self) -> Result<Reply, AllocError>
         requires { self.old.halted ≡ None }
-        ensures answered { IfOk result (λ reply. Answers D.state O.forest Op.Sync self.old self.new reply) }
-        ensures err { OnErr result (self.new ≡ record self.old { devices = self.new.devices; durable = self.new.durable }) }
-        ensures faults { OnErr result ((D.state self.new.devices).faults ≡ (D.state self.old.devices).faults) }
+        ensures answered { IfOk result (λ reply. Answers D.state O.forest Op.Sync self.old self.new
+            reply) }
+        ensures err { OnErr result (self.new ≡ record self.old
+            { devices = self.new.devices; durable = self.new.durable }) }
+        ensures faults { OnErr result ((D.state self.new.devices).faults
+            ≡ (D.state self.old.devices).faults) }
         ensures rises { self.old.durable ≤ self.new.durable }
         ensures sizes { (D.state self.new.devices).sizes ≡ (D.state self.old.devices).sizes }
         ensures base { self.new.base ≡ self.old.base }
@@ -386,7 +441,8 @@ fn keep_entry(
     reply: Reply,
 ) -> Result<Reply, AllocError>
     ensures reply { IfOk result (λ handed. handed ≡ reply) }
-    ensures entry { OnOk result (trace.new.items ≡ trace.old.items ++ record { client = 0; op = op; reply = reply } ∷ []) }
+    ensures entry { OnOk result (trace.new.items ≡ trace.old.items ++ record
+        { client = 0; op = op; reply = reply } ∷ []) }
     ensures err { OnErr result (trace.new.items ≡ trace.old.items) }
 {
     let handed = reply.copy(alloc)?;
@@ -401,7 +457,8 @@ fn keep_entry(
 // Adds an entry where there is room for it.
 fn put_entry(trace: &mut Vec<Entry>, op: Op, reply: Reply)
     requires { vec_len trace.old < vec_capacity trace.old }
-    ensures { trace.new.items ≡ trace.old.items ++ record { client = 0; op = op; reply = reply } ∷ [] }
+    ensures { trace.new.items ≡ trace.old.items ++ record { client = 0; op = op; reply = reply } ∷
+        [] }
 {
     let entry = Entry {
         client: 0,

@@ -73,7 +73,8 @@ fn session_from<D: Devices + Drop, O: Opening>(
     requires opening { loaded.forest ≡ O.forest }
     requires fits { is_layout_of (D.state devices).sizes loaded.layout ≡ true }
     requires room { loaded.records ≤ loaded.layout.journal }
-    requires named { D.tells → session_in loaded.layout (as_read (now (D.state devices))) ≡ Some loaded.session }
+    requires named { D.tells → session_in loaded.layout (as_read (now (D.state devices))) ≡ Some
+        loaded.session }
     requires start { O.start ≡ D.state devices }
 {
     let mut devices = devices;

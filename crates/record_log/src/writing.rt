@@ -16,8 +16,10 @@ use vol_types::Layout;
 
 // Flushes every device.
 fn flush_all<D: Devices>(devices: &mut D) -> Result<(), DiskFault>
-    ensures crashes { D.tells → EachCrash (λ _ _ image. IsCrashImage (now (D.state devices.old)) image) (D.state devices.old) (D.state devices.new) }
-    ensures cause { (D.state devices.new).faults ≡ after_writes (failed_device result) (D.state devices.old).faults }
+    ensures crashes { D.tells → EachCrash (λ _ _ image. IsCrashImage (now (D.state devices.old))
+        image) (D.state devices.old) (D.state devices.new) }
+    ensures cause { (D.state devices.new).faults ≡ after_writes (failed_device result)
+        (D.state devices.old).faults }
     ensures device { NamesOneOf (length (D.state devices.old).sizes) result }
     ensures goes_on { GoOn (D.state devices.old) (D.state devices.new) }
 {
@@ -38,11 +40,15 @@ pub fn write_record<D: Devices>(
     requires fits { is_layout_of (D.state devices.old).sizes layout.now ≡ true }
     requires place { place < layout.now.journal }
     requires name { length file.now.name < 256 }
-    ensures cause { (D.state devices.new).faults ≡ after_writes (failed_device result) (D.state devices.old).faults }
+    ensures cause { (D.state devices.new).faults ≡ after_writes (failed_device result)
+        (D.state devices.old).faults }
     ensures device { IfSome (failed_device result) (λ dev. dev < length (D.state devices.old).sizes) }
     ensures goes_on { GoOn (D.state devices.old) (D.state devices.new) }
-    ensures held { D.tells → OnOk result (EachCrashNow (HoldRecord layout.now session place (Some file.now)) (D.state devices.new)) }
-    ensures crashes { D.tells → EachCrash (λ _ _ image. IsCrashImageBut (IsLogPlace layout.now place) (now (D.state devices.old)) image) (D.state devices.old) (D.state devices.new) }
+    ensures held { D.tells → OnOk result (EachCrashNow
+        (HoldRecord layout.now session place (Some file.now)) (D.state devices.new)) }
+    ensures crashes { D.tells → EachCrash (λ _ _ image. IsCrashImageBut
+        (IsLogPlace layout.now place) (now (D.state devices.old)) image) (D.state devices.old)
+        (D.state devices.new) }
 {
     let mut block = vec![in alloc; 0; 4096]?;
     seal_record(alloc, &layout.id, session, place, file, &mut block)?;
@@ -68,13 +74,19 @@ pub fn write_files<D: Devices>(
     ensures ok { OnOk result (durable.new ≡ length files.now) }
     ensures rises { durable.old ≤ durable.new }
     ensures most { durable.new ≤ length files.now }
-    ensures cause { (D.state devices.new).faults ≡ after_writes (failed_device result) (D.state devices.old).faults }
+    ensures cause { (D.state devices.new).faults ≡ after_writes (failed_device result)
+        (D.state devices.old).faults }
     ensures device { IfSome (failed_device result) (λ dev. dev < length (D.state devices.old).sizes) }
     ensures goes_on { GoOn (D.state devices.old) (D.state devices.new) }
 
     // What a crash leaves meanwhile: at first what the session had written by then, whatever it started with.
-    ensures kept { D.tells → EachCrash (λ _ _ image. IsCrashImageBut (IsFrom layout.now (base + durable.old)) (now (D.state devices.old)) image) (D.state devices.old) (D.state devices.new) }
-    ensures written { D.tells → (start : List Disk) → EachCrashNow (HasWritten layout.now session start base durable.old files.now) (D.state devices.old) → Writes layout.now session start base durable.old durable.new files.now (D.state devices.old) (D.state devices.new) }
+    ensures kept { D.tells → EachCrash (λ _ _ image. IsCrashImageBut
+        (IsFrom layout.now (base + durable.old)) (now (D.state devices.old)) image)
+        (D.state devices.old) (D.state devices.new) }
+    ensures written { D.tells → (start : List Disk) → EachCrashNow
+        (HasWritten layout.now session start base durable.old files.now) (D.state devices.old)
+        → Writes layout.now session start base durable.old durable.new files.now
+        (D.state devices.old) (D.state devices.new) }
 {
     while *durable < files.len() {
         write_record(

@@ -12,10 +12,12 @@ pub fn one_operation()
 
 /// Lines have at most one script.
 pub fn one_script()
-    ensures { (lines : List (List ℕ)) (a b : List Line) → IsScript lines a → IsScript lines b → a ≡ b }
+    ensures { (lines : List (List ℕ)) (a b : List Line) → IsScript lines a → IsScript lines b
+        → a ≡ b }
 {}
 
 /// Lines that have a script have no bad line.
 pub fn one_reading()
-    ensures { (lines : List (List ℕ)) (script : List Line) (number : ℕ) (cause : LineFault) → IsScript lines script → IsFirstBad lines number cause → ⊥ }
+    ensures { (lines : List (List ℕ)) (script : List Line) (number : ℕ) (cause : LineFault)
+        → IsScript lines script → IsFirstBad lines number cause → ⊥ }
 {}

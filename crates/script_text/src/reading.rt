@@ -35,7 +35,7 @@ pub enum LineFault {
 pub enum ScriptFault {
     /// The first line that can't be run, by its number, and why.
     Bad { line: u32, cause: LineFault },
-    /// Memory was wanting.
+    /// Out of memory.
     NoMemory,
 }
 

@@ -78,7 +78,8 @@ fn word_of(cause: Cause) -> &'static str
 
 // Adds a listing of names.
 fn push_listing(text: &mut String, names: &[FlaggedName]) -> Result<(), AllocError>
-    ensures { OnOk result (string_bytes text.new ≡ string_bytes text.old ++ codes "list" ++ flat_map listed_name names.now) }
+    ensures { OnOk result (string_bytes text.new ≡ string_bytes text.old ++ codes "list" ++ flat_map
+        listed_name names.now) }
 {
     text.push_str("list")?;
     for entry in names {

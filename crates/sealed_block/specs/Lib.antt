@@ -1,3 +1,4 @@
 pub mod Blocks
 pub mod Opening
 pub mod Records
+pub mod Parts

@@ -80,7 +80,7 @@ pub record HasOtherDigest (blocks : List (List ℕ)) : Type 0 where
   pub parts : AreAllParts blocks first
   pub differs : sha256 (flat_map payload_in blocks) ≢ first.whole
 
--- This is the first fault of the blocks as parts of one record. Want of memory isn't one.
+-- This is the first fault of the blocks as parts of one record. Running out of memory isn't one.
 abbrev pub IsFirstFault : List (List ℕ) → JoinFault → Type 0
 IsFirstFault blocks (NotSealed p) = ArePartsBelow blocks p × (p < length blocks) × (opened (block_at blocks p) ≡ None)
 IsFirstFault blocks (Foreign p) = ArePartsBelow blocks p × (((p < length blocks) × IsForeign blocks p) ⊎ IsMissing blocks p)

@@ -15,7 +15,8 @@ use vol_types::BLOCK_SIZE;
 pub fn unseal(block: &[u8]) -> Option<Head>
     ensures head { result ≡ opened block.now }
     ensures open { IfSome result (λ head. Opens block.now head (payload_in block.now)) }
-    ensures shut { IfNone result ((head : AHead) (payload : List ℕ) → Opens block.now head payload → ⊥) }
+    ensures shut { IfNone result ((head : AHead) (payload : List ℕ) → Opens block.now head payload
+        → ⊥) }
 {
     if block.len() != BLOCK_SIZE {
         return None;

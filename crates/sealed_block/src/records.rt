@@ -21,7 +21,7 @@ pub enum JoinFault {
     Foreign(u16),
     /// The joined payloads have another digest than the heads name.
     Digest,
-    /// Memory was wanting.
+    /// Out of memory.
     NoMemory,
 }
 
@@ -42,10 +42,13 @@ pub fn join_parts(alloc: Global, blocks: &[u8]) -> Result<Bytes, JoinFault>
     requires some { 0 < length blocks.now }
     requires whole { length blocks.now % 4096 ≡ 0 }
     ensures joined { IfOk result (IsRecord (blocks_of blocks.now)) }
-    ensures fault { IfErr result (λ fault. fault ≢ NoMemory → IsFirstFault (blocks_of blocks.now) fault) }
+    ensures fault { IfErr result (λ fault. fault ≢ NoMemory → IsFirstFault (blocks_of blocks.now)
+        fault) }
     // Each record is joined, and each first fault reported, unless memory runs out.
-    ensures each_record { (payload : List ℕ) → IsRecord (blocks_of blocks.now) payload → IsUnlessNoMemory result (Ok payload) }
-    ensures each_fault { (fault : AFault) → IsFirstFault (blocks_of blocks.now) fault → IsUnlessNoMemory result (Err fault) }
+    ensures each_record { (payload : List ℕ) → IsRecord (blocks_of blocks.now) payload
+        → IsUnlessNoMemory result (Ok payload) }
+    ensures each_fault { (fault : AFault) → IsFirstFault (blocks_of blocks.now) fault
+        → IsUnlessNoMemory result (Err fault) }
 {
     let (parts, _) = blocks.as_chunks::<BLOCK_SIZE>();
     join_blocks(alloc, parts)
@@ -100,7 +103,9 @@ fn open_part(first: &Head, part: usize, block: &[u8]) -> Option<Head>
 
 // The head of a part, where the block opened with one that continues the first.
 fn check_part(first: &Head, part: u16, head: Option<Head>) -> Result<Head, JoinFault>
-    ensures sealed { MatchOption head (result ≡ Err (NotSealed part)) (λ h. (Continues first.now part h × (result ≡ Ok h)) ⊎ ((Continues first.now part h → ⊥) × (result ≡ Err (Foreign part)))) }
+    ensures sealed { MatchOption head (result ≡ Err (NotSealed part))
+        (λ h. (Continues first.now part h × (result ≡ Ok h))
+        ⊎ ((Continues first.now part h → ⊥) × (result ≡ Err (Foreign part)))) }
 {
     let Some(head) = head else {
         return Err(JoinFault::NotSealed(part));

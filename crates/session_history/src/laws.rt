@@ -9,5 +9,8 @@ ghost use Rattle.session_history.specs.Fits.{Fits, IsOperation, LineReply, entry
 /// The replies to lines without a barrier fit the history of their entries in order, followed by that of the final sync,
 /// where this one acknowledges all commits. So they do where one client runs one phase.
 pub fn one_phase_fits()
-    ensures { (opening : Forest) (lines : List LineReply) (last : Reply) (history : History) → All IsOperation lines → history ≡ filter_map entry_of lines ++ last_entry last → ((count : ℕ) → synced_count last ≡ Some count → count ≡ commit_count opening history) → Fits opening lines last history }
+    ensures { (opening : Forest) (lines : List LineReply) (last : Reply) (history : History)
+        → All IsOperation lines → history ≡ filter_map entry_of lines ++ last_entry last
+        → ((count : ℕ) → synced_count last ≡ Some count → count ≡ commit_count opening history)
+        → Fits opening lines last history }
 {}

@@ -39,3 +39,8 @@ IsRun arguments sizes = task_of (length sizes) arguments ≡ Some Run
 -- the arguments ask for a format with this layout, of the devices with these sizes
 abbrev pub IsFormat : List (List ℕ) → List ℕ → Layout → Type 0
 IsFormat arguments sizes layout = task_of (length sizes) arguments ≡ Some (Format layout)
+
+-- Some arguments ask for this task, on devices of these sizes.
+pub record IsAsked (sizes : List ℕ) (task : Task) : Type 0 where
+  pub arguments : List (List ℕ)
+  pub asked : task_of (length sizes) arguments ≡ Some task

@@ -61,13 +61,14 @@ pub fn status_of(end: EarlyEnd) -> u8
 }
 
 /// Prints the line that says so. It takes no memory.
-pub fn print_early_end<K: Sink, D: Devices>(
+pub fn print_early_end<K: Sink<D>, D: Devices>(
     end: EarlyEnd,
     sink: &mut K,
     devices: &D,
 ) -> Result<(), Failed>
     ensures ok { K.tells → OnOk result (K.held sink.new ≡ K.held sink.old ++ early_line end) }
-    ensures failed { K.tells → OnErr result (GivesPrefix (early_line end) (K.held sink.old) (K.held sink.new)) }
+    ensures failed { K.tells → OnErr result (GivesPrefix (early_line end) (K.held sink.old)
+        (K.held sink.new)) }
     ensures cause { CountsFaults result (K.faults sink.old) (K.faults sink.new) }
 {
     match end {
@@ -118,15 +119,17 @@ fn bad_end(cause: LineFault) -> &'static [u8]
 }
 
 // Gives a number between two texts.
-fn give_number<K: Sink, D: Devices>(
+fn give_number<K: Sink<D>, D: Devices>(
     sink: &mut K,
     devices: &D,
     before: &[u8],
     number: u32,
     after: &[u8],
 ) -> Result<(), Failed>
-    ensures ok { K.tells → OnOk result (K.held sink.new ≡ K.held sink.old ++ (before.now ++ decimal number ++ after.now)) }
-    ensures failed { K.tells → OnErr result (GivesPrefix (before.now ++ decimal number ++ after.now) (K.held sink.old) (K.held sink.new)) }
+    ensures ok { K.tells → OnOk result (K.held sink.new ≡ K.held
+        sink.old ++ (before.now ++ decimal number ++ after.now)) }
+    ensures failed { K.tells → OnErr result (GivesPrefix (before.now ++ decimal number ++ after.now)
+        (K.held sink.old) (K.held sink.new)) }
     ensures cause { CountsFaults result (K.faults sink.old) (K.faults sink.new) }
 {
     give_all(sink, before, devices)?;

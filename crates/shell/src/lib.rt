@@ -14,5 +14,5 @@ mod task;
 
 pub use early_end::{EarlyEnd, Refusal};
 pub use ended::Ended;
-pub use run::run_words;
+pub use run::{run_task, run_words};
 pub use task::{Task, read_task};

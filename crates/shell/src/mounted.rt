@@ -23,16 +23,23 @@ use std::alloc::Global;
 pub fn mount<D: Devices>(alloc: Global, devices: &mut D) -> Result<Loaded, EarlyEnd>
     ensures found { D.tells → let image = as_read (now (D.state devices.old)) in
         IfOk result (λ loaded. (SomeFailed (D.state devices.old).faults (D.state devices.new).faults → AreMirrored loaded.layout image) → mounts image ≡ Ok (volume_of loaded)) }
-    ensures mountable { D.tells → IfOk result (λ loaded. IsMountable (as_read (now (D.state devices.old))) loaded.layout loaded.session) }
+    ensures mountable { D.tells → IfOk result (λ loaded. IsMountable
+        (as_read (now (D.state devices.old))) loaded.layout loaded.session) }
     ensures unspent { IfOk result (λ loaded. loaded.session < last_session) }
-    ensures fits { IfOk result (λ loaded. is_layout_of (D.state devices.new).sizes loaded.layout ≡ true) }
+    ensures fits { IfOk result (λ loaded. is_layout_of (D.state devices.new).sizes loaded.layout
+        ≡ true) }
     ensures room { IfOk result (λ loaded. loaded.records ≤ loaded.layout.journal) }
-    ensures numbered { D.tells → IfOk result (λ loaded. EachCrashNow (NamesSession loaded.layout (loaded.session + 1)) (D.state devices.new)) }
-    ensures begun { D.tells → IfOk result (λ loaded. EachCrash (λ _ _ image. IsCrashImageBut (IsSessionPlace loaded.layout (loaded.session + 1)) (now (D.state devices.old)) image) (D.state devices.old) (D.state devices.new)) }
-    ensures unfailed { OnOk result ((D.state devices.new).faults.writes ≡ (D.state devices.old).faults.writes) }
+    ensures numbered { D.tells → IfOk result (λ loaded. EachCrashNow
+        (NamesSession loaded.layout (loaded.session + 1)) (D.state devices.new)) }
+    ensures begun { D.tells → IfOk result (λ loaded. EachCrash
+        (λ _ _ image. IsCrashImageBut (IsSessionPlace loaded.layout (loaded.session + 1))
+        (now (D.state devices.old)) image) (D.state devices.old) (D.state devices.new)) }
+    ensures unfailed { OnOk result ((D.state devices.new).faults.writes
+        ≡ (D.state devices.old).faults.writes) }
     ensures cause { IfErr result (MountCause D.tells (D.state devices.old) (D.state devices.new)) }
     ensures unmounted { OnlyReadUnmounted D.tells (D.state devices.old) (D.state devices.new) }
-    ensures survives { D.tells → (volume : Mounted) → Survives volume (D.state devices.old) (D.state devices.new) [] [] }
+    ensures survives { D.tells → (volume : Mounted) → Survives volume (D.state devices.old)
+        (D.state devices.new) [] [] }
     ensures goes_on { GoOn (D.state devices.old) (D.state devices.new) }
 {
     reading_is_survived();

@@ -31,7 +31,13 @@ pub struct Page {
 impl Page {
     /// An empty page. It takes no memory.
     pub fn new(alloc: Global) -> Self
-        ensures { result ≡ record { alloc = alloc; lines = []; is_cut = false; has_failed = false; tally = record { lacks_memory = false; has_failed = false; synced = 0 } } }
+        ensures { result ≡ record {
+          alloc = alloc;
+          lines = [];
+          is_cut = false;
+          has_failed = false;
+          tally = record { lacks_memory = false; has_failed = false; synced = 0 };
+        } }
     {
         Page {
             alloc,
@@ -75,11 +81,13 @@ impl Page {
 }
 
 /// Gives the lines that have gathered to the sink, unless printing has ended.
-pub fn give_lines<K: Sink, D: Devices>(page: &mut Page, sink: &mut K, devices: &D)
-    ensures prints { (start : K) (text : List ℕ) → Prints K.tells K.held K.faults start text page.old sink.old → Prints K.tells K.held K.faults start text page.new sink.new }
+pub fn give_lines<K: Sink<D>, D: Devices>(page: &mut Page, sink: &mut K, devices: &D)
+    ensures prints { (start : K) (text : List ℕ) → Prints K.tells K.held K.faults start text
+        page.old sink.old → Prints K.tells K.held K.faults start text page.new sink.new }
     ensures given { page.new.lines ≡ [] }
     ensures cut { page.new.is_cut ≡ page.old.is_cut }
-    ensures gains { K.tells → GainsBy K.held K.given_at sink.old sink.new (D.state devices.now).moment }
+    ensures gains { K.tells → GainsBy K.held K.given_at sink.old sink.new
+        (D.state devices.now).moment }
     ensures tally { page.new.tally ≡ page.old.tally }
     ensures ended { has_ended page.old ≡ true → has_ended page.new ≡ true }
     ensures same { has_ended page.old ≡ true → sink.new ≡ sink.old }
@@ -94,7 +102,7 @@ pub fn give_lines<K: Sink, D: Devices>(page: &mut Page, sink: &mut K, devices: &
 
 /// Notes a reply, and prints its line. The lines that have gathered are given to the sink where they are many, and where
 /// the reply acknowledges commits: before the next operation begins.
-pub fn print_reply<K: Sink, D: Devices>(
+pub fn print_reply<K: Sink<D>, D: Devices>(
     page: &mut Page,
     sink: &mut K,
     devices: &D,
@@ -102,8 +110,11 @@ pub fn print_reply<K: Sink, D: Devices>(
     line: u32,
     reply: &Reply,
 )
-    ensures prints { (start : K) (text : List ℕ) → Prints K.tells K.held K.faults start text page.old sink.old → Prints K.tells K.held K.faults start (text ++ reply_line_of client line reply.now) page.new sink.new }
-    ensures gains { K.tells → GainsBy K.held K.given_at sink.old sink.new (D.state devices.now).moment }
+    ensures prints { (start : K) (text : List ℕ) → Prints K.tells K.held K.faults start text
+        page.old sink.old → Prints K.tells K.held K.faults start
+        (text ++ reply_line_of client line reply.now) page.new sink.new }
+    ensures gains { K.tells → GainsBy K.held K.given_at sink.old sink.new
+        (D.state devices.now).moment }
     ensures tally { page.new.tally ≡ tally_with page.old.tally reply.now }
     ensures made { acknowledges reply.now ≡ true → has_ended page.new ≡ false → page.new.lines ≡ [] }
     ensures ended { has_ended page.old ≡ true → has_ended page.new ≡ true }
@@ -114,7 +125,7 @@ pub fn print_reply<K: Sink, D: Devices>(
 }
 
 // Prints the line of a reply.
-fn print_line<K: Sink, D: Devices>(
+fn print_line<K: Sink<D>, D: Devices>(
     page: &mut Page,
     sink: &mut K,
     devices: &D,
@@ -122,8 +133,11 @@ fn print_line<K: Sink, D: Devices>(
     line: u32,
     reply: &Reply,
 )
-    ensures prints { (start : K) (text : List ℕ) → Prints K.tells K.held K.faults start text page.old sink.old → Prints K.tells K.held K.faults start (text ++ reply_line_of client line reply.now) page.new sink.new }
-    ensures gains { K.tells → GainsBy K.held K.given_at sink.old sink.new (D.state devices.now).moment }
+    ensures prints { (start : K) (text : List ℕ) → Prints K.tells K.held K.faults start text
+        page.old sink.old → Prints K.tells K.held K.faults start
+        (text ++ reply_line_of client line reply.now) page.new sink.new }
+    ensures gains { K.tells → GainsBy K.held K.given_at sink.old sink.new
+        (D.state devices.now).moment }
     ensures tally { page.new.tally ≡ page.old.tally }
     ensures made { acknowledges reply.now ≡ true → has_ended page.new ≡ false → page.new.lines ≡ [] }
     ensures ended { has_ended page.old ≡ true → has_ended page.new ≡ true }
@@ -150,10 +164,13 @@ fn are_due(gathered: usize, reply: &Reply) -> bool
 }
 
 // Ends printing at a line that is out of memory: the lines before it are given.
-fn cut<K: Sink, D: Devices>(page: &mut Page, sink: &mut K, devices: &D)
+fn cut<K: Sink<D>, D: Devices>(page: &mut Page, sink: &mut K, devices: &D)
     requires { has_ended page.old ≡ false }
-    ensures prints { (start : K) (text line : List ℕ) → 0 < length line → Prints K.tells K.held K.faults start text page.old sink.old → Prints K.tells K.held K.faults start (text ++ line) page.new sink.new }
-    ensures gains { K.tells → GainsBy K.held K.given_at sink.old sink.new (D.state devices.now).moment }
+    ensures prints { (start : K) (text line : List ℕ) → 0 < length line
+        → Prints K.tells K.held K.faults start text page.old sink.old
+        → Prints K.tells K.held K.faults start (text ++ line) page.new sink.new }
+    ensures gains { K.tells → GainsBy K.held K.given_at sink.old sink.new
+        (D.state devices.now).moment }
     ensures tally { page.new.tally ≡ page.old.tally }
     ensures ended { has_ended page.new ≡ true }
 {
@@ -162,10 +179,13 @@ fn cut<K: Sink, D: Devices>(page: &mut Page, sink: &mut K, devices: &D)
 }
 
 /// Prints the last line: how many commits the run made, and the greatest number of them that was acknowledged.
-pub fn print_end<K: Sink, D: Devices>(page: &mut Page, sink: &mut K, devices: &D, commits: u64)
-    ensures prints { (start : K) (text : List ℕ) → Prints K.tells K.held K.faults start text page.old sink.old → Prints K.tells K.held K.faults start (text ++ end_line_of commits page.old.tally.synced) page.new sink.new }
+pub fn print_end<K: Sink<D>, D: Devices>(page: &mut Page, sink: &mut K, devices: &D, commits: u64)
+    ensures prints { (start : K) (text : List ℕ) → Prints K.tells K.held K.faults start text
+        page.old sink.old → Prints K.tells K.held K.faults start
+        (text ++ end_line_of commits page.old.tally.synced) page.new sink.new }
     ensures given { has_ended page.new ≡ false → page.new.lines ≡ [] }
-    ensures gains { K.tells → GainsBy K.held K.given_at sink.old sink.new (D.state devices.now).moment }
+    ensures gains { K.tells → GainsBy K.held K.given_at sink.old sink.new
+        (D.state devices.now).moment }
     ensures tally { page.new.tally ≡ page.old.tally }
     ensures same { has_ended page.old ≡ true → sink.new ≡ sink.old }
 {

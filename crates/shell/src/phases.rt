@@ -17,7 +17,7 @@ use text_io::Sink;
 use vol_types::Duplicate;
 
 /// Runs the lines of a script, and prints their replies.
-pub fn run_lines<K: Sink, D: Devices, O: Opening, G: Gate>(
+pub fn run_lines<K: Sink<D>, D: Devices, O: Opening, G: Gate>(
     log: &mut RecordLog<D, O>,
     script: &[Line],
     gate: &G,
@@ -25,7 +25,8 @@ pub fn run_lines<K: Sink, D: Devices, O: Opening, G: Gate>(
     sink: &mut K,
 )
     requires { AreFlat script.now }
-    ensures { RunsLines D.state D.tells K.tells K.held K.given_at K.faults script.now log.old log.new page.old page.new sink.old sink.new }
+    ensures { RunsLines D.state D.tells K.tells K.held K.given_at K.faults script.now log.old
+        log.new page.old page.new sink.old sink.new }
 {
     for line in script {
         run_line(log, line, gate, page, sink);
@@ -33,7 +34,7 @@ pub fn run_lines<K: Sink, D: Devices, O: Opening, G: Gate>(
 }
 
 // Runs a line; a barrier does nothing.
-fn run_line<K: Sink, D: Devices, O: Opening, G: Gate>(
+fn run_line<K: Sink<D>, D: Devices, O: Opening, G: Gate>(
     log: &mut RecordLog<D, O>,
     line: &Line,
     gate: &G,
@@ -41,7 +42,8 @@ fn run_line<K: Sink, D: Devices, O: Opening, G: Gate>(
     sink: &mut K,
 )
     requires { IsFlatLine line.now }
-    ensures { RunsLines D.state D.tells K.tells K.held K.given_at K.faults (line.now ∷ []) log.old log.new page.old page.new sink.old sink.new }
+    ensures { RunsLines D.state D.tells K.tells K.held K.given_at K.faults (line.now ∷ []) log.old
+        log.new page.old page.new sink.old sink.new }
 {
     if let Some(op) = &line.op {
         gate.at(line.client, BEFORE_COMMIT);
@@ -49,7 +51,7 @@ fn run_line<K: Sink, D: Devices, O: Opening, G: Gate>(
     }
 }
 
-fn answer<K: Sink, D: Devices, O: Opening>(
+fn answer<K: Sink<D>, D: Devices, O: Opening>(
     log: &mut RecordLog<D, O>,
     line: &Line,
     op: &Op,
@@ -59,7 +61,8 @@ fn answer<K: Sink, D: Devices, O: Opening>(
     requires flat { IsFlat op.now }
     requires op { line.now.op ≡ Some op.now }
     requires client { line.now.client ≡ 0 }
-    ensures { RunsLines D.state D.tells K.tells K.held K.given_at K.faults (line.now ∷ []) log.old log.new page.old page.new sink.old sink.new }
+    ensures { RunsLines D.state D.tells K.tells K.held K.given_at K.faults (line.now ∷ []) log.old
+        log.new page.old page.new sink.old sink.new }
 {
     match ask(page.alloc, log, op) {
         Ok(reply) => print_reply(page, sink, log.devices(), line.client, line.line, &reply),
@@ -81,7 +84,9 @@ fn ask<D: Devices, O: Opening>(
     op: &Op,
 ) -> Result<Reply, AllocError>
     requires { IsFlat op.now }
-    ensures answered { IfOk result (λ reply. AddsEntries D.state D.tells log.old log.new (cons_option (entry_if_any 0 op.now reply) []) (cons_option (ack_by (D.state log.new.devices).moment reply) [])) }
+    ensures answered { IfOk result (λ reply. AddsEntries D.state D.tells log.old log.new
+        (cons_option (entry_if_any 0 op.now reply) [])
+        (cons_option (ack_by (D.state log.new.devices).moment reply) [])) }
     ensures err { OnErr result (AddsEntries D.state D.tells log.old log.new [] []) }
 {
     let op = op.copy(alloc)?;
@@ -100,12 +105,13 @@ pub fn final_sync<D: Devices, O: Opening>(log: &mut RecordLog<D, O>, page: &mut 
 
 /// Gives the lines that have gathered to the sink, makes every commit durable, and prints the last line. The status of the
 /// run: 5 where the sink failed, else 7 where it was out of memory, else 6 where a device failed, else 0.
-pub fn end_run<K: Sink, D: Devices, O: Opening>(
+pub fn end_run<K: Sink<D>, D: Devices, O: Opening>(
     log: &mut RecordLog<D, O>,
     page: &mut Page,
     sink: &mut K,
 ) -> u8
-    ensures { RunsEnd O.forest D.state D.tells K.tells K.held K.given_at K.faults log.old log.new page.old sink.old sink.new result }
+    ensures { RunsEnd O.forest D.state D.tells K.tells K.held K.given_at K.faults log.old log.new
+        page.old sink.old sink.new result }
 {
     give_lines(page, sink, log.devices());
     final_sync(log, page);

@@ -43,24 +43,33 @@ pub fn prepare<S: Source, D: Devices>(
 ) -> Result<Plan, EarlyEnd>
     ensures found { D.tells → let image = as_read (now (D.state devices.old)) in
         IfOk result (λ plan. (SomeFailed (D.state devices.old).faults (D.state devices.new).faults → AreMirrored plan.loaded.layout image) → mounts image ≡ Ok (volume_of plan.loaded)) }
-    ensures mountable { D.tells → IfOk result (λ plan. IsMountable (as_read (now (D.state devices.old))) plan.loaded.layout plan.loaded.session) }
+    ensures mountable { D.tells → IfOk result (λ plan. IsMountable
+        (as_read (now (D.state devices.old))) plan.loaded.layout plan.loaded.session) }
     ensures unspent { IfOk result (λ plan. plan.loaded.session < last_session) }
-    ensures fits { IfOk result (λ plan. is_layout_of (D.state devices.new).sizes plan.loaded.layout ≡ true) }
+    ensures fits { IfOk result (λ plan. is_layout_of (D.state devices.new).sizes plan.loaded.layout
+        ≡ true) }
     ensures room { IfOk result (λ plan. plan.loaded.records ≤ plan.loaded.layout.journal) }
-    ensures numbered { D.tells → IfOk result (λ plan. EachCrashNow (NamesSession plan.loaded.layout (plan.loaded.session + 1)) (D.state devices.new)) }
-    ensures begun { D.tells → IfOk result (λ plan. EachCrash (λ _ _ image. IsCrashImageBut (IsSessionPlace plan.loaded.layout (plan.loaded.session + 1)) (now (D.state devices.old)) image) (D.state devices.old) (D.state devices.new)) }
-    ensures unfailed { OnOk result ((D.state devices.new).faults.writes ≡ (D.state devices.old).faults.writes) }
+    ensures numbered { D.tells → IfOk result (λ plan. EachCrashNow
+        (NamesSession plan.loaded.layout (plan.loaded.session + 1)) (D.state devices.new)) }
+    ensures begun { D.tells → IfOk result (λ plan. EachCrash
+        (λ _ _ image. IsCrashImageBut (IsSessionPlace plan.loaded.layout
+        (plan.loaded.session + 1)) (now (D.state devices.old)) image) (D.state devices.old)
+        (D.state devices.new)) }
+    ensures unfailed { OnOk result ((D.state devices.new).faults.writes
+        ≡ (D.state devices.old).faults.writes) }
     ensures flat { IfOk result (λ plan. AreFlat plan.script) }
     ensures gave { IfOk result (λ plan. GaveScript S.tells (S.left source.old) plan.script) }
     ensures still { OnOk result (S.faults source.new ≡ S.faults source.old) }
     ensures unmounted { OnlyReadUnmounted D.tells (D.state devices.old) (D.state devices.new) }
-    ensures survives { D.tells → (volume : Mounted) → Survives volume (D.state devices.old) (D.state devices.new) [] [] }
+    ensures survives { D.tells → (volume : Mounted) → Survives volume (D.state devices.old)
+        (D.state devices.new) [] [] }
     ensures goes_on { GoOn (D.state devices.old) (D.state devices.new) }
 
     // Why a run ends, whatever its arguments are, and what it has touched by then.
     ensures cause { (arguments : List (List ℕ)) → IsRun arguments (D.state devices.old).sizes →
         IfErr result (EarlyCause S.tells D.tells arguments (S.left source.old) (D.state devices.old) (D.state devices.new) devices.old devices.new) }
-    ensures source { IfErr result (λ end. SourceFailed end (S.faults source.old) (S.faults source.new)) }
+    ensures source { IfErr result (λ end. SourceFailed end (S.faults source.old)
+        (S.faults source.new)) }
 {
     reading_is_survived();
     let script = read_text(alloc, source)?;
@@ -72,7 +81,8 @@ pub fn prepare<S: Source, D: Devices>(
 fn take_text<S: Source>(alloc: Global, source: &mut S) -> Result<Bytes, EarlyEnd>
     ensures taken { IfOk result (IsTaken S.tells (S.left source.old)) }
     ensures still { OnOk result (S.faults source.new ≡ S.faults source.old) }
-    ensures source { IfErr result (λ end. SourceFailed end (S.faults source.old) (S.faults source.new)) }
+    ensures source { IfErr result (λ end. SourceFailed end (S.faults source.old)
+        (S.faults source.new)) }
     ensures early { IfErr result (TextCause S.tells (S.left source.old)) }
 {
     Ok(take_all(alloc, source, SCRIPT_LIMIT)?)
@@ -83,7 +93,8 @@ fn read_text<S: Source>(alloc: Global, source: &mut S) -> Result<Script, EarlyEn
     ensures flat { IfOk result AreFlat }
     ensures gave { IfOk result (GaveScript S.tells (S.left source.old)) }
     ensures still { OnOk result (S.faults source.new ≡ S.faults source.old) }
-    ensures source { IfErr result (λ end. SourceFailed end (S.faults source.old) (S.faults source.new)) }
+    ensures source { IfErr result (λ end. SourceFailed end (S.faults source.old)
+        (S.faults source.new)) }
     ensures early { IfErr result (TextCause S.tells (S.left source.old)) }
 {
     let text = take_text(alloc, source)?;

@@ -17,7 +17,7 @@ ghost use Rattle.record_log.specs.Exact.{IsExact};
 ghost use Rattle.record_log.specs.Survives.{Survives};
 ghost use Rattle.record_log.specs.Log.{halt_or_none};
 ghost use Rattle.shell.specs.Outcome.{early_line, early_status, formatted_line};
-ghost use Rattle.shell.specs.Tasks.{IsRun};
+ghost use Rattle.shell.specs.Tasks.{IsAsked, IsRun, task_of};
 ghost use Rattle.shell.specs.Flat.{AreFlat};
 ghost use Rattle.shell.specs.Headline.{Headline};
 ghost use Rattle.shell.specs.Mounts.{ComesAfter, last_session};
@@ -47,8 +47,8 @@ use vol_types::{Bytes, Layout};
 /// doesn't touch the source. The status is 0 where all went well, 1 for other arguments, or a layout that no volume may have, 2
 /// for a script with a line that is no operation or of more than 16 MiB, 3 where the volume isn't mounted, 4 where the source
 /// failed, 5 where the sink failed, 6 where a device failed, and 7 where it was out of memory.
-pub fn run_words<R, S: Source, K: Sink, D: Devices + Send, G: Gate + Sync>(
-    _rt: &R,
+pub fn run_words<R, S: Source, K: Sink<D>, D: Devices + Send, G: Gate + Sync>(
+    rt: &R,
     alloc: Global,
     words: &[RcStr],
     source: &mut S,
@@ -56,22 +56,86 @@ pub fn run_words<R, S: Source, K: Sink, D: Devices + Send, G: Gate + Sync>(
     devices: D,
     gate: &G,
 ) -> Ended<D>
-    ensures { Headline S.tells K.tells D.tells K.held K.given_at (record { arguments = map rc_str_bytes words.now; streams = record { left = S.left source.old; held = K.held sink.old; held_after = K.held sink.new }; faults = record { source = S.faults source.old; source_after = S.faults source.new; sink = K.faults sink.old; sink_after = K.faults sink.new }; sink = sink.old; sink_after = sink.new; devices = devices; devices_after = result.devices; state = D.state devices; state_after = D.state result.devices; status = result.status; early_end = result.early_end; trace = result.trace; acks = result.acks; shorts = result.shorts }) }
+    ensures { Headline S.tells K.tells D.tells K.held K.given_at
+        (record {
+          arguments = map rc_str_bytes words.now;
+          streams = record { left = S.left source.old; held = K.held sink.old; held_after = K.held sink.new };
+          faults = record {
+            source = S.faults source.old;
+            source_after = S.faults source.new;
+            sink = K.faults sink.old;
+            sink_after = K.faults sink.new;
+          };
+          sink = sink.old;
+          sink_after = sink.new;
+          devices = devices;
+          devices_after = result.devices;
+          state = D.state devices;
+          state_after = D.state result.devices;
+          status = result.status;
+          early_end = result.early_end;
+          trace = result.trace;
+          acks = result.acks;
+          shorts = result.shorts;
+        }) }
 {
     reading_is_survived();
     match read_task(alloc, words, devices.count()) {
-        Ok(Task::Run) => run_script::<S, K, D, G, Brand>(alloc, source, sink, devices, gate),
-        Ok(Task::Format(layout)) => match formatted_line(alloc, &layout) {
+        Ok(task) => run_task(rt, alloc, task, source, sink, devices, gate),
+        Err(fault) => end_early(alloc, EarlyEnd::from(fault), sink, devices),
+    }
+}
+
+/// Does a task that arguments asked for, as `run_words` does where these are its arguments. So whoever has judged them, by
+/// `read_task`, before it opened the devices, doesn't read them again.
+pub fn run_task<R, S: Source, K: Sink<D>, D: Devices + Send, G: Gate + Sync>(
+    _rt: &R,
+    alloc: Global,
+    task: Task,
+    source: &mut S,
+    sink: &mut K,
+    devices: D,
+    gate: &G,
+) -> Ended<D>
+    requires { IsAsked (D.state devices).sizes task }
+    ensures { (arguments : List (List ℕ))
+        → task_of (length (D.state devices).sizes) arguments ≡ Some task
+        → Headline S.tells K.tells D.tells K.held K.given_at
+        (record {
+          arguments = arguments;
+          streams = record { left = S.left source.old; held = K.held sink.old; held_after = K.held sink.new };
+          faults = record {
+            source = S.faults source.old;
+            source_after = S.faults source.new;
+            sink = K.faults sink.old;
+            sink_after = K.faults sink.new;
+          };
+          sink = sink.old;
+          sink_after = sink.new;
+          devices = devices;
+          devices_after = result.devices;
+          state = D.state devices;
+          state_after = D.state result.devices;
+          status = result.status;
+          early_end = result.early_end;
+          trace = result.trace;
+          acks = result.acks;
+          shorts = result.shorts;
+        }) }
+{
+    reading_is_survived();
+    match task {
+        Task::Run => run_script::<S, K, D, G, Brand>(alloc, source, sink, devices, gate),
+        Task::Format(layout) => match formatted_line(alloc, &layout) {
             Ok(line) => format_devices(alloc, &layout, &line, sink, devices),
             Err(_) => end_early(alloc, EarlyEnd::OutOfMemory, sink, devices),
         },
-        Err(fault) => end_early(alloc, EarlyEnd::from(fault), sink, devices),
     }
 }
 
 // Nothing was run or formatted.
 #[tactic(auto, using(crate::proofs::EarlyEnds::given_prefix))]
-fn end_early<K: Sink, D: Devices>(
+fn end_early<K: Sink<D>, D: Devices>(
     alloc: Global,
     end: EarlyEnd,
     sink: &mut K,
@@ -80,7 +144,9 @@ fn end_early<K: Sink, D: Devices>(
     ensures devices { result.devices ≡ devices }
     ensures early { result.early_end ≡ Some end }
     ensures shorts { result.shorts ≡ [] }
-    ensures ends { EndsEarly K.tells (early_line end) (early_status end) (K.held sink.old) (K.held sink.new) (K.faults sink.old) (K.faults sink.new) result.status result.trace result.acks }
+    ensures ends { EndsEarly K.tells (early_line end) (early_status end) (K.held sink.old)
+        (K.held sink.new) (K.faults sink.old) (K.faults sink.new) result.status result.trace
+        result.acks }
 {
     let status = status_of(end);
     let is_printed = print_early_end(end, sink, &devices).is_ok();
@@ -95,7 +161,7 @@ fn end_early<K: Sink, D: Devices>(
 }
 
 // The devices were formatted.
-fn end_formatted<K: Sink, D: Devices>(
+fn end_formatted<K: Sink<D>, D: Devices>(
     alloc: Global,
     line: &Bytes,
     sink: &mut K,
@@ -104,7 +170,8 @@ fn end_formatted<K: Sink, D: Devices>(
     ensures devices { result.devices ≡ devices }
     ensures early { result.early_end ≡ None }
     ensures shorts { result.shorts ≡ [] }
-    ensures ends { EndsEarly K.tells line.now 0 (K.held sink.old) (K.held sink.new) (K.faults sink.old) (K.faults sink.new) result.status result.trace result.acks }
+    ensures ends { EndsEarly K.tells line.now 0 (K.held sink.old) (K.held sink.new)
+        (K.faults sink.old) (K.faults sink.new) result.status result.trace result.acks }
 {
     let is_printed = give_all(sink, line.as_slice(), &devices).is_ok();
     Ended {
@@ -118,7 +185,7 @@ fn end_formatted<K: Sink, D: Devices>(
 }
 
 // Formats the devices, and says so.
-fn format_devices<K: Sink, D: Devices>(
+fn format_devices<K: Sink<D>, D: Devices>(
     alloc: Global,
     layout: &Layout,
     line: &Bytes,
@@ -128,7 +195,9 @@ fn format_devices<K: Sink, D: Devices>(
     requires layout { is_layout layout.now ≡ true }
     requires count { length layout.now.blocks ≡ length (D.state devices).sizes }
     requires line { line.now ≡ formatted_line layout.now }
-    ensures formats { Formats K.tells D.tells layout.now (D.state devices) (D.state result.devices) (K.held sink.old) (K.held sink.new) (K.faults sink.old) (K.faults sink.new) result.status result.early_end result.trace result.acks }
+    ensures formats { Formats K.tells D.tells layout.now (D.state devices) (D.state result.devices)
+        (K.held sink.old) (K.held sink.new) (K.faults sink.old) (K.faults sink.new) result.status
+        result.early_end result.trace result.acks }
     ensures shorts { result.shorts ≡ [] }
 {
     let mut devices = devices;
@@ -139,7 +208,7 @@ fn format_devices<K: Sink, D: Devices>(
 }
 
 // Runs the script of the source. `B` stands for what the devices show when the run begins.
-fn run_script<S: Source, K: Sink, D: Devices, G: Gate, B: Opening>(
+fn run_script<S: Source, K: Sink<D>, D: Devices, G: Gate, B: Opening>(
     alloc: Global,
     source: &mut S,
     sink: &mut K,
@@ -147,7 +216,29 @@ fn run_script<S: Source, K: Sink, D: Devices, G: Gate, B: Opening>(
     gate: &G,
 ) -> Ended<D>
     requires { B.start ≡ D.state devices }
-    ensures { (arguments : List (List ℕ)) → IsRun arguments (D.state devices).sizes → Headline S.tells K.tells D.tells K.held K.given_at (record { arguments = arguments; streams = record { left = S.left source.old; held = K.held sink.old; held_after = K.held sink.new }; faults = record { source = S.faults source.old; source_after = S.faults source.new; sink = K.faults sink.old; sink_after = K.faults sink.new }; sink = sink.old; sink_after = sink.new; devices = devices; devices_after = result.devices; state = D.state devices; state_after = D.state result.devices; status = result.status; early_end = result.early_end; trace = result.trace; acks = result.acks; shorts = result.shorts }) }
+    ensures { (arguments : List (List ℕ)) → IsRun arguments (D.state devices).sizes
+        → Headline S.tells K.tells D.tells K.held K.given_at
+        (record {
+          arguments = arguments;
+          streams = record { left = S.left source.old; held = K.held sink.old; held_after = K.held sink.new };
+          faults = record {
+            source = S.faults source.old;
+            source_after = S.faults source.new;
+            sink = K.faults sink.old;
+            sink_after = K.faults sink.new;
+          };
+          sink = sink.old;
+          sink_after = sink.new;
+          devices = devices;
+          devices_after = result.devices;
+          state = D.state devices;
+          state_after = D.state result.devices;
+          status = result.status;
+          early_end = result.early_end;
+          trace = result.trace;
+          acks = result.acks;
+          shorts = result.shorts;
+        }) }
 {
     let mut devices = devices;
     match prepare(alloc, source, &mut devices) {
@@ -157,7 +248,7 @@ fn run_script<S: Source, K: Sink, D: Devices, G: Gate, B: Opening>(
 }
 
 // Runs each line, and then a sync. What holds of the session holds from the moments on when its volume wasn't loaded yet.
-fn run_plan<K: Sink, D: Devices, G: Gate, O: Opening>(
+fn run_plan<K: Sink<D>, D: Devices, G: Gate, O: Opening>(
     alloc: Global,
     plan: Plan,
     sink: &mut K,
@@ -168,19 +259,28 @@ fn run_plan<K: Sink, D: Devices, G: Gate, O: Opening>(
     requires fits { is_layout_of (D.state devices).sizes plan.loaded.layout ≡ true }
     requires room { plan.loaded.records ≤ plan.loaded.layout.journal }
     requires unspent { plan.loaded.session < last_session }
-    requires named { D.tells → session_in plan.loaded.layout (as_read (now O.start)) ≡ Some plan.loaded.session }
-    requires numbered { D.tells → EachCrashNow (NamesSession plan.loaded.layout (plan.loaded.session + 1)) (D.state devices) }
-    requires begun { D.tells → EachCrash (λ _ _ image. IsCrashImageBut (IsSessionPlace plan.loaded.layout (plan.loaded.session + 1)) (now O.start) image) O.start (D.state devices) }
+    requires named { D.tells → session_in plan.loaded.layout (as_read (now O.start)) ≡ Some
+        plan.loaded.session }
+    requires numbered { D.tells → EachCrashNow (NamesSession plan.loaded.layout
+        (plan.loaded.session + 1)) (D.state devices) }
+    requires begun { D.tells → EachCrash (λ _ _ image. IsCrashImageBut
+        (IsSessionPlace plan.loaded.layout (plan.loaded.session + 1)) (now O.start) image) O.start
+        (D.state devices) }
     requires unfailed { (D.state devices).faults.writes ≡ O.start.faults.writes }
     requires goes_on { GoOn O.start (D.state devices) }
     requires flat { AreFlat plan.script }
     ensures legal { IsLegal O.forest result.trace }
-    ensures ran { RunsScript O.forest K.tells D.tells K.held K.given_at K.faults plan.script sink.old sink.new result.status result.trace result.acks (D.state result.devices).moment }
-    ensures halts { (halt : Option Halt) × Halts halt O.start (D.state result.devices) result.trace × EachEntry (IsExact O.forest plan.loaded.records plan.loaded.layout.journal (halt_or_none halt)) result.trace }
+    ensures ran { RunsScript O.forest K.tells D.tells K.held K.given_at K.faults plan.script
+        sink.old sink.new result.status result.trace result.acks (D.state result.devices).moment }
+    ensures halts { (halt : Option Halt) × Halts halt O.start (D.state result.devices) result.trace
+        × EachEntry (IsExact O.forest plan.loaded.records plan.loaded.layout.journal
+        (halt_or_none halt)) result.trace }
     ensures no_commit { NoCommitAfterHalt O.forest result.trace }
     ensures faults { HaveCauses O.start.faults (D.state result.devices).faults result.trace }
-    ensures acknowledged { AreAcks O.start.moment (D.state result.devices).moment result.trace result.acks }
-    ensures survives { D.tells → Survives (mounted_as plan.loaded.layout (plan.loaded.records, O.forest)) O.start (D.state result.devices) result.trace result.acks }
+    ensures acknowledged { AreAcks O.start.moment (D.state result.devices).moment result.trace
+        result.acks }
+    ensures survives { D.tells → Survives (mounted_as plan.loaded.layout
+        (plan.loaded.records, O.forest)) O.start (D.state result.devices) result.trace result.acks }
     ensures after { ComesAfter D.tells (D.state devices) (D.state result.devices) }
     ensures early { result.early_end ≡ None }
     ensures shorts { result.shorts ≡ [] }

@@ -21,7 +21,8 @@ pub enum Task {
 /// grammar, or that no volume may lie on so many devices as they ask.
 pub fn read_task(alloc: Global, arguments: &[RcStr], devices: u8) -> Result<Task, WordsFault>
     ensures ok { IfOk result (λ task. task_of devices (map rc_str_bytes arguments.now) ≡ Some task) }
-    ensures usage { IfErr result (λ fault. fault ≡ WordsFault.Usage → task_of devices (map rc_str_bytes arguments.now) ≡ None) }
+    ensures usage { IfErr result (λ fault. fault ≡ WordsFault.Usage
+        → task_of devices (map rc_str_bytes arguments.now) ≡ None) }
 {
     match read_words(alloc, arguments)? {
         Request::Run => Ok(Task::Run),
@@ -33,7 +34,8 @@ pub fn read_task(alloc: Global, arguments: &[RcStr], devices: u8) -> Result<Task
 fn read_layout(alloc: Global, asked: &FormatRequest, devices: u8) -> Result<Layout, WordsFault>
     ensures ok { IfOk result (λ layout. layout ≡ layout_asked devices asked.now) }
     ensures fits { IfOk result (λ layout. is_layout layout ≡ true) }
-    ensures usage { IfErr result (λ fault. fault ≡ WordsFault.Usage → is_layout (layout_asked devices asked.now) ≡ false) }
+    ensures usage { IfErr result (λ fault. fault ≡ WordsFault.Usage
+        → is_layout (layout_asked devices asked.now) ≡ false) }
 {
     if !is_in_range(asked) {
         return Err(WordsFault::Usage);

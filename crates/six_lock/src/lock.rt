@@ -49,7 +49,8 @@ impl Six {
     /// A lock as `new` makes it, whose sequence goes on from a number: for a node whose lock was forgotten while nobody
     /// held it.
     pub fn from_sequence(alloc: Global, count: u8, sequence: u64) -> Result<Self, AllocError>
-        ensures { IfOk result (λ lock. IsFree lock × (actors lock ≡ count) × (lock.sequence ≡ sequence)) }
+        ensures { IfOk result (λ lock. IsFree lock × (actors lock ≡ count)
+            × (lock.sequence ≡ sequence)) }
     {
         Ok(Six {
             shared: vec![in alloc; false; count as usize]?,
@@ -92,7 +93,8 @@ impl Six {
     pub fn exclusive(&mut self, actor: u8) -> Ask
         requires { Holds self.old actor Intent }
         ensures answer { Asks self.old actor Exclusive result self.new }
-        ensures reader { (holder : ℕ) → result ≡ Ask.Held holder → IsOther self.old actor Shared holder }
+        ensures reader { (holder : ℕ) → result ≡ Ask.Held holder → IsOther self.old actor Shared
+            holder }
     {
         match self.other_reader(actor) {
             Some(holder) => Ask::Held(holder),
@@ -185,7 +187,8 @@ impl Six {
     /// Another actor that holds any mode, if there is one. The cost grows with the number of actors.
     pub fn other_holder(&self, actor: u8) -> Option<u8>
         ensures some { IfSome result (λ holder. (holder ≢ actor) × HoldsSome self.now holder) }
-        ensures none { IfNone result ((holder : ℕ) (mode : Mode) → IsOther self.now actor mode holder → ⊥) }
+        ensures none { IfNone result ((holder : ℕ) (mode : Mode) → IsOther self.now actor mode
+            holder → ⊥) }
     {
         match self.other_owner(actor) {
             Some(holder) => Some(holder),
@@ -215,8 +218,10 @@ impl Six {
 // Another place than the actor's whose flag is set.
 fn other_flag(flags: &[bool], actor: u8) -> Option<u8>
     requires { length flags.now < 2 ^ 8 }
-    ensures some { IfSome result (λ place. (place ≢ actor) × (slice_get flags.now place ≡ Some true)) }
-    ensures none { IfNone result ((place : ℕ) → slice_get flags.now place ≡ Some true → place ≡ actor) }
+    ensures some { IfSome result (λ place. (place ≢ actor)
+        × (slice_get flags.now place ≡ Some true)) }
+    ensures none { IfNone result ((place : ℕ) → slice_get flags.now place ≡ Some true
+        → place ≡ actor) }
 {
     for (place, flag) in flags.iter().enumerate() {
         if *flag && place != actor as usize {

@@ -27,7 +27,8 @@ pub(crate) fn changes_of(
 ) -> Result<BTreeMap<u32, Change>, AllocError>
     requires fitting { All IsFitting updates.now }
     requires rises { IsMap nat_cmp snaps.now.entries }
-    ensures { IfOk result (λ changes. Leads snaps.now.entries (snaps_after snaps.now.entries updates.now) changes.entries) }
+    ensures { IfOk result (λ changes. Leads snaps.now.entries
+        (snaps_after snaps.now.entries updates.now) changes.entries) }
 {
     let mut changes = BTreeMap::new(alloc);
     for update in updates.as_slice() {
@@ -70,7 +71,8 @@ pub(crate) fn will_stand(
     requires tree { IsSnapTree snaps.now.entries }
     requires index { IsIndex snaps.now.entries pairs.now.keys }
     requires small { AreSmall snaps.now.entries }
-    ensures { (new : Snaps) → IsMap nat_cmp new → Leads snaps.now.entries new changes.now.entries → result ≡ are_trees new }
+    ensures { (new : Snaps) → IsMap nat_cmp new → Leads snaps.now.entries new changes.now.entries
+        → result ≡ are_trees new }
 {
     let mut next = last(changes);
     while let Some(id) = next {
@@ -90,8 +92,11 @@ fn will_fit(
     id: u32,
 ) -> bool
     requires index { IsIndex snaps.now.entries pairs.now.keys }
-    ensures fits { result ≡ true → (new : Snaps) → Leads snaps.now.entries new changes.now.entries → ChangeFits new pairs.now.keys changes.now.entries id (value_at nat_cmp id changes.now.entries) }
-    ensures breaks { result ≡ false → (new : Snaps) → Leads snaps.now.entries new changes.now.entries → are_trees new ≡ false }
+    ensures fits { result ≡ true → (new : Snaps) → Leads snaps.now.entries new changes.now.entries
+        → ChangeFits new pairs.now.keys changes.now.entries id
+        (value_at nat_cmp id changes.now.entries) }
+    ensures breaks { result ≡ false → (new : Snaps) → Leads snaps.now.entries new
+        changes.now.entries → are_trees new ≡ false }
 {
     let Some(change) = changes.get(&id) else {
         return true;
@@ -124,7 +129,8 @@ fn will_join(
     id: u32,
     snap: Snap,
 ) -> bool
-    ensures { (new : Snaps) → Leads snaps.now.entries new changes.now.entries → result ≡ is_joined new id snap }
+    ensures { (new : Snaps) → Leads snaps.now.entries new changes.now.entries
+        → result ≡ is_joined new id snap }
 {
     will_be_there(snaps, changes, snap.parent)
         && (snap.parent == 0 || id < snap.parent)
@@ -134,14 +140,16 @@ fn will_join(
 
 // Whether a number is 0, which stands for no id, or an id that is there once the changes are made.
 fn will_be_there(snaps: &BTreeMap<u32, Snap>, changes: &BTreeMap<u32, Change>, id: u32) -> bool
-    ensures { (new : Snaps) → Leads snaps.now.entries new changes.now.entries → result ≡ is_there new id }
+    ensures { (new : Snaps) → Leads snaps.now.entries new changes.now.entries
+        → result ≡ is_there new id }
 {
     id == 0 || will_have(snaps, changes, id)
 }
 
 // Whether an id is there once the changes are made.
 fn will_have(snaps: &BTreeMap<u32, Snap>, changes: &BTreeMap<u32, Change>, id: u32) -> bool
-    ensures { (new : Snaps) → Leads snaps.now.entries new changes.now.entries → result ≡ is_some (value_at nat_cmp id new) }
+    ensures { (new : Snaps) → Leads snaps.now.entries new changes.now.entries
+        → result ≡ is_some (value_at nat_cmp id new) }
 {
     match changes.get(&id) {
         Some(change) => change.new.is_some(),

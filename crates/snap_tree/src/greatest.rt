@@ -21,7 +21,8 @@ pub(crate) fn last<V>(map: &BTreeMap<u32, V>) -> Option<u32>
 pub(crate) fn last_below<V>(map: &BTreeMap<u32, V>, bound: u32) -> Option<u32>
     ensures within { IfSome result (λ last. last < bound) }
     ensures there { IfSome result (λ last. IsSome (value_at nat_cmp last map.now.entries)) }
-    ensures greatest { (id : ℕ) → id < bound → IsPast result id → ¬ IsSome (value_at nat_cmp id map.now.entries) }
+    ensures greatest { (id : ℕ) → id < bound → IsPast result id
+        → ¬ IsSome (value_at nat_cmp id map.now.entries) }
 {
     match map.range(..bound).next_back() {
         None => None,

@@ -46,7 +46,8 @@ fn link_above(links: &BTreeMap<u32, Links>, id: u32, level: usize) -> u32
 fn links_of(snaps: &BTreeMap<u32, Snap>, links: &BTreeMap<u32, Links>, id: u32) -> Links
     requires tree { IsSnapTree snaps.now.entries }
     requires there { IsSome (value_at nat_cmp id snaps.now.entries) }
-    requires above { (other : ℕ) → id < other → IsSome (value_at nat_cmp other snaps.now.entries) → HasLinks snaps.now.entries links.now.entries other }
+    requires above { (other : ℕ) → id < other → IsSome (value_at nat_cmp other snaps.now.entries)
+        → HasLinks snaps.now.entries links.now.entries other }
     ensures lead { AreLinks (chain_of snaps.now.entries id) result.above }
     ensures fits { id + length (chain_of snaps.now.entries id) ≤ 2 ^ 32 }
 {
@@ -80,7 +81,9 @@ pub(crate) fn link_stale(
     stale: &BTreeSet<u32>,
 )
     requires tree { IsSnapTree snaps.now.entries }
-    requires fresh { (id : ℕ) → has_id stale.now.keys id ≡ false → IsSome (value_at nat_cmp id snaps.now.entries) → HasLinks snaps.now.entries links.old.entries id }
+    requires fresh { (id : ℕ) → has_id stale.now.keys id ≡ false
+        → IsSome (value_at nat_cmp id snaps.now.entries)
+        → HasLinks snaps.now.entries links.old.entries id }
     requires ids { HaveSameIds snaps.now.entries links.old.entries }
     ensures linked { AllHaveLinks snaps.now.entries links.new.entries }
     ensures ids { HaveSameIds snaps.now.entries links.new.entries }
@@ -95,11 +98,16 @@ pub(crate) fn link_stale(
 // Makes the links of an id that may be missing, where all greater ones have theirs.
 fn link_one(snaps: &BTreeMap<u32, Snap>, links: &mut BTreeMap<u32, Links>, id: u32)
     requires tree { IsSnapTree snaps.now.entries }
-    requires above { (other : ℕ) → id < other → IsSome (value_at nat_cmp other snaps.now.entries) → HasLinks snaps.now.entries links.old.entries other }
-    requires roomy { IsSome (value_at nat_cmp id snaps.now.entries) → IsSome (value_at nat_cmp id links.old.entries) }
-    ensures here { IsSome (value_at nat_cmp id snaps.now.entries) → HasLinks snaps.now.entries links.new.entries id }
-    ensures others { (other : ℕ) → ¬ (other ≡ id) → value_at nat_cmp other links.new.entries ≡ value_at nat_cmp other links.old.entries }
-    ensures ids { (other : ℕ) → is_some (value_at nat_cmp other links.new.entries) ≡ is_some (value_at nat_cmp other links.old.entries) }
+    requires above { (other : ℕ) → id < other → IsSome (value_at nat_cmp other snaps.now.entries)
+        → HasLinks snaps.now.entries links.old.entries other }
+    requires roomy { IsSome (value_at nat_cmp id snaps.now.entries)
+        → IsSome (value_at nat_cmp id links.old.entries) }
+    ensures here { IsSome (value_at nat_cmp id snaps.now.entries)
+        → HasLinks snaps.now.entries links.new.entries id }
+    ensures others { (other : ℕ) → ¬ (other ≡ id) → value_at nat_cmp other links.new.entries
+        ≡ value_at nat_cmp other links.old.entries }
+    ensures ids { (other : ℕ) → is_some (value_at nat_cmp other links.new.entries) ≡ is_some
+        (value_at nat_cmp other links.old.entries) }
 {
     if snaps.contains_key(&id) {
         let own = links_of(snaps, links, id);
@@ -112,8 +120,10 @@ fn link_one(snaps: &BTreeMap<u32, Snap>, links: &mut BTreeMap<u32, Links>, id: u
 /// Makes room for the links of an id.
 pub(crate) fn make_room(links: &mut BTreeMap<u32, Links>, id: u32) -> Result<(), AllocError>
     ensures ok { OnOk result (IsSome (value_at nat_cmp id links.new.entries)) }
-    ensures kept { (other : ℕ) → IsSome (value_at nat_cmp other links.old.entries) → value_at nat_cmp other links.new.entries ≡ value_at nat_cmp other links.old.entries }
-    ensures others { (other : ℕ) → ¬ (other ≡ id) → value_at nat_cmp other links.new.entries ≡ value_at nat_cmp other links.old.entries }
+    ensures kept { (other : ℕ) → IsSome (value_at nat_cmp other links.old.entries)
+        → value_at nat_cmp other links.new.entries ≡ value_at nat_cmp other links.old.entries }
+    ensures others { (other : ℕ) → ¬ (other ≡ id) → value_at nat_cmp other links.new.entries
+        ≡ value_at nat_cmp other links.old.entries }
 {
     if !links.contains_key(&id) {
         links.insert(id, Links { above: [0; 32] })?;

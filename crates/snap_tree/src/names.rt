@@ -40,9 +40,13 @@ pub(crate) fn names_of(alloc: Global, snaps: &BTreeMap<u32, Snap>) -> Result<Nam
 
 /// Notes that the record of an id names those that it names. Where memory is out, some may be noted.
 pub(crate) fn note_names(pairs: &mut Names, id: u32, snap: Snap) -> Result<(), AllocError>
-    ensures ok { OnOk result ((named : ℕ) → names named (Some snap) ≡ true → has_pair pairs.new.keys named id ≡ true) }
-    ensures kept { (named namer : ℕ) → has_pair pairs.old.keys named namer ≡ true → has_pair pairs.new.keys named namer ≡ true }
-    ensures only { (named namer : ℕ) → has_pair pairs.new.keys named namer ≡ true → (has_pair pairs.old.keys named namer ≡ true) ⊎ ((namer ≡ id) × (names named (Some snap) ≡ true)) }
+    ensures ok { OnOk result ((named : ℕ) → names named (Some snap) ≡ true
+        → has_pair pairs.new.keys named id ≡ true) }
+    ensures kept { (named namer : ℕ) → has_pair pairs.old.keys named namer ≡ true
+        → has_pair pairs.new.keys named namer ≡ true }
+    ensures only { (named namer : ℕ) → has_pair pairs.new.keys named namer ≡ true
+        → (has_pair pairs.old.keys named namer ≡ true)
+        ⊎ ((namer ≡ id) × (names named (Some snap) ≡ true)) }
 {
     note_name(pairs, snap.parent, id)?;
     note_name(pairs, snap.first_child, id)?;
@@ -52,8 +56,11 @@ pub(crate) fn note_names(pairs: &mut Names, id: u32, snap: Snap) -> Result<(), A
 // Notes that an id names another, if this isn't 0.
 fn note_name(pairs: &mut Names, named: u32, namer: u32) -> Result<(), AllocError>
     ensures ok { OnOk result (¬ (named ≡ 0) → has_pair pairs.new.keys named namer ≡ true) }
-    ensures kept { (other by : ℕ) → has_pair pairs.old.keys other by ≡ true → has_pair pairs.new.keys other by ≡ true }
-    ensures only { (other by : ℕ) → has_pair pairs.new.keys other by ≡ true → (has_pair pairs.old.keys other by ≡ true) ⊎ ((by ≡ namer) × (other ≡ named) × ¬ (named ≡ 0)) }
+    ensures kept { (other by : ℕ) → has_pair pairs.old.keys other by ≡ true
+        → has_pair pairs.new.keys other by ≡ true }
+    ensures only { (other by : ℕ) → has_pair pairs.new.keys other by ≡ true
+        → (has_pair pairs.old.keys other by ≡ true)
+        ⊎ ((by ≡ namer) × (other ≡ named) × ¬ (named ≡ 0)) }
 {
     if named != 0 {
         pairs.insert((named, namer))?;
@@ -63,7 +70,9 @@ fn note_name(pairs: &mut Names, named: u32, namer: u32) -> Result<(), AllocError
 
 /// Drops what one record of an id names and another, which it has instead, doesn't.
 pub(crate) fn drop_names(pairs: &mut Names, id: u32, gone: Option<Snap>, stays: Option<Snap>)
-    ensures { (named namer : ℕ) → has_pair pairs.new.keys named namer ≡ (has_pair pairs.old.keys named namer && not (namer == id && names named gone && not (names named stays))) }
+    ensures { (named namer : ℕ) → has_pair pairs.new.keys named namer
+        ≡ (has_pair pairs.old.keys named namer && not
+        (namer == id && names named gone && not (names named stays))) }
 {
     let Some(snap) = gone else { return };
     drop_name(pairs, snap.parent, id, stays);
@@ -73,7 +82,9 @@ pub(crate) fn drop_names(pairs: &mut Names, id: u32, gone: Option<Snap>, stays: 
 
 // Drops that an id names another, if its record doesn't name this.
 fn drop_name(pairs: &mut Names, named: u32, namer: u32, stays: Option<Snap>)
-    ensures { (other by : ℕ) → has_pair pairs.new.keys other by ≡ (has_pair pairs.old.keys other by && not (by == namer && not (other == 0) && named == other && not (names other stays))) }
+    ensures { (other by : ℕ) → has_pair pairs.new.keys other by
+        ≡ (has_pair pairs.old.keys other by && not
+        (by == namer && not (other == 0) && named == other && not (names other stays))) }
 {
     if named != 0 && !does_name(stays, named) {
         pairs.remove(&(named, namer));
@@ -84,7 +95,8 @@ fn drop_name(pairs: &mut Names, named: u32, namer: u32, stays: Option<Snap>)
 pub(crate) fn namer_up_to(pairs: &Names, named: u32, bound: u32) -> Option<u32>
     ensures within { IfSome result (λ namer. namer ≤ bound) }
     ensures there { IfSome result (λ namer. has_pair pairs.now.keys named namer ≡ true) }
-    ensures greatest { (namer : ℕ) → namer ≤ bound → IsPast result namer → ¬ (has_pair pairs.now.keys named namer ≡ true) }
+    ensures greatest { (namer : ℕ) → namer ≤ bound → IsPast result namer
+        → ¬ (has_pair pairs.now.keys named namer ≡ true) }
 {
     match pairs.range((named, 0)..=(named, bound)).next_back() {
         None => None,
@@ -96,7 +108,8 @@ pub(crate) fn namer_up_to(pairs: &Names, named: u32, bound: u32) -> Option<u32>
 pub(crate) fn namer_below(pairs: &Names, named: u32, bound: u32) -> Option<u32>
     ensures within { IfSome result (λ namer. namer < bound) }
     ensures there { IfSome result (λ namer. has_pair pairs.now.keys named namer ≡ true) }
-    ensures greatest { (namer : ℕ) → namer < bound → IsPast result namer → ¬ (has_pair pairs.now.keys named namer ≡ true) }
+    ensures greatest { (namer : ℕ) → namer < bound → IsPast result namer
+        → ¬ (has_pair pairs.now.keys named namer ≡ true) }
 {
     if bound == 0 {
         return None;

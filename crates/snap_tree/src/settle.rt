@@ -30,12 +30,15 @@ pub(crate) fn make_changes(
     requires ids { HaveSameIds snaps.old.entries links.old.entries }
     requires live { live.old ≡ live_leaves snaps.old.entries }
     requires tells { Tells snaps.old.entries changes.now.entries }
-    ensures ok { OnOk result ((new : Snaps) → IsMap nat_cmp new → Leads snaps.old.entries new changes.now.entries → snaps.new.entries ≡ new) }
+    ensures ok { OnOk result ((new : Snaps) → IsMap nat_cmp new
+        → Leads snaps.old.entries new changes.now.entries → snaps.new.entries ≡ new) }
     ensures err { OnErr result (snaps.new.entries ≡ snaps.old.entries) }
     ensures index { IsIndex snaps.new.entries pairs.new.keys }
     ensures live { live.new ≡ live_leaves snaps.new.entries }
     ensures ids { HaveSameIds snaps.new.entries links.new.entries }
-    ensures links { (id : ℕ) → IsSome (value_at nat_cmp id snaps.new.entries) → IsSome (value_at nat_cmp id links.old.entries) → value_at nat_cmp id links.new.entries ≡ value_at nat_cmp id links.old.entries }
+    ensures links { (id : ℕ) → IsSome (value_at nat_cmp id snaps.new.entries)
+        → IsSome (value_at nat_cmp id links.old.entries) → value_at nat_cmp id links.new.entries
+        ≡ value_at nat_cmp id links.old.entries }
 {
     match enter(snaps, links, pairs, live, changes) {
         Ok(()) => {
@@ -60,8 +63,10 @@ fn enter(
     requires rises { IsMap nat_cmp snaps.old.entries }
     requires live { live.old ≡ live_leaves snaps.old.entries }
     requires tells { Tells snaps.old.entries changes.now.entries }
-    ensures entered { IsEntered changes.now.entries snaps.old.entries snaps.new.entries pairs.old.keys pairs.new.keys links.old.entries links.new.entries }
-    ensures room { OnOk result ((id : ℕ) → HasRoom snaps.new.entries pairs.new.keys links.new.entries id (given (value_at nat_cmp id changes.now.entries))) }
+    ensures entered { IsEntered changes.now.entries snaps.old.entries snaps.new.entries
+        pairs.old.keys pairs.new.keys links.old.entries links.new.entries }
+    ensures room { OnOk result ((id : ℕ) → HasRoom snaps.new.entries pairs.new.keys
+        links.new.entries id (given (value_at nat_cmp id changes.now.entries))) }
     ensures live { live.new ≡ live_leaves snaps.new.entries }
 {
     let mut next = last(changes);
@@ -83,9 +88,12 @@ fn enter_one(
 ) -> Result<(), AllocError>
     requires rises { IsMap nat_cmp snaps.old.entries }
     requires live { live.old ≡ live_leaves snaps.old.entries }
-    requires there { (change : AChange) → value_at nat_cmp id changes.now.entries ≡ Some change → IsSome change.old → IsSome (value_at nat_cmp id snaps.old.entries) }
-    ensures entered { IsEntered changes.now.entries snaps.old.entries snaps.new.entries pairs.old.keys pairs.new.keys links.old.entries links.new.entries }
-    ensures room { OnOk result (HasRoom snaps.new.entries pairs.new.keys links.new.entries id (given (value_at nat_cmp id changes.now.entries))) }
+    requires there { (change : AChange) → value_at nat_cmp id changes.now.entries ≡ Some change
+        → IsSome change.old → IsSome (value_at nat_cmp id snaps.old.entries) }
+    ensures entered { IsEntered changes.now.entries snaps.old.entries snaps.new.entries
+        pairs.old.keys pairs.new.keys links.old.entries links.new.entries }
+    ensures room { OnOk result (HasRoom snaps.new.entries pairs.new.keys links.new.entries id
+        (given (value_at nat_cmp id changes.now.entries))) }
     ensures live { live.new ≡ live_leaves snaps.new.entries }
 {
     let Some(change) = changes.get(&id) else {
@@ -111,10 +119,13 @@ fn settle(
 )
     requires rises { IsMap nat_cmp snaps.old.entries }
     requires live { live.old ≡ live_leaves snaps.old.entries }
-    requires ready { (id : ℕ) → IsReady forth snaps.old.entries id (value_at nat_cmp id changes.now.entries) }
+    requires ready { (id : ℕ) → IsReady forth snaps.old.entries id
+        (value_at nat_cmp id changes.now.entries) }
     ensures rises { IsMap nat_cmp snaps.new.entries }
     ensures live { live.new ≡ live_leaves snaps.new.entries }
-    ensures settled { (id : ℕ) → SettledAt forth snaps.old.entries snaps.new.entries pairs.old.keys pairs.new.keys links.old.entries links.new.entries id (value_at nat_cmp id changes.now.entries) }
+    ensures settled { (id : ℕ) → SettledAt forth snaps.old.entries snaps.new.entries pairs.old.keys
+        pairs.new.keys links.old.entries links.new.entries id
+        (value_at nat_cmp id changes.now.entries) }
 {
     let mut next = last(changes);
     while let Some(id) = next {
@@ -138,10 +149,15 @@ fn settle_one(
     requires ready { IsReady forth snaps.old.entries id (value_at nat_cmp id changes.now.entries) }
     ensures rises { IsMap nat_cmp snaps.new.entries }
     ensures live { live.new ≡ live_leaves snaps.new.entries }
-    ensures settled { SettledAt forth snaps.old.entries snaps.new.entries pairs.old.keys pairs.new.keys links.old.entries links.new.entries id (value_at nat_cmp id changes.now.entries) }
-    ensures others { (other : ℕ) → ¬ (other ≡ id) → value_at nat_cmp other snaps.new.entries ≡ value_at nat_cmp other snaps.old.entries }
-    ensures pairs { (named other : ℕ) → ¬ (other ≡ id) → has_pair pairs.new.keys named other ≡ has_pair pairs.old.keys named other }
-    ensures links { (other : ℕ) → ¬ (other ≡ id) → value_at nat_cmp other links.new.entries ≡ value_at nat_cmp other links.old.entries }
+    ensures settled { SettledAt forth snaps.old.entries snaps.new.entries pairs.old.keys
+        pairs.new.keys links.old.entries links.new.entries id
+        (value_at nat_cmp id changes.now.entries) }
+    ensures others { (other : ℕ) → ¬ (other ≡ id) → value_at nat_cmp other snaps.new.entries
+        ≡ value_at nat_cmp other snaps.old.entries }
+    ensures pairs { (named other : ℕ) → ¬ (other ≡ id) → has_pair pairs.new.keys named other
+        ≡ has_pair pairs.old.keys named other }
+    ensures links { (other : ℕ) → ¬ (other ≡ id) → value_at nat_cmp other links.new.entries
+        ≡ value_at nat_cmp other links.old.entries }
 {
     let Some(change) = changes.get(&id) else {
         return;

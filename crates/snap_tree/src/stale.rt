@@ -24,7 +24,8 @@ pub(crate) fn stale_of(
     requires index { IsIndex snaps.now.entries pairs.now.keys }
     requires small { AreSmall snaps.now.entries }
     ensures moved { IfOk result (λ stale. HasMoved changes.now.entries stale.keys) }
-    ensures few { IfOk result (λ stale. (id : ℕ) → has_id stale.keys id ≡ true → IsBelowMoved snaps.now.entries changes.now.entries stale.keys id) }
+    ensures few { IfOk result (λ stale. (id : ℕ) → has_id stale.keys id ≡ true
+        → IsBelowMoved snaps.now.entries changes.now.entries stale.keys id) }
     ensures closed { IfOk result (λ stale. (id : ℕ) → HasChildren snaps.now.entries stale.keys id) }
 {
     let mut stale = moved_ids(alloc, changes)?;
@@ -39,7 +40,8 @@ pub(crate) fn stale_of(
 // The ids that changes make new, or give another parent.
 fn moved_ids(alloc: Global, changes: &BTreeMap<u32, Change>) -> Result<BTreeSet<u32>, AllocError>
     ensures all { IfOk result (λ ids. HasMoved changes.now.entries ids.keys) }
-    ensures only { IfOk result (λ ids. (id : ℕ) → has_id ids.keys id ≡ true → is_moved (value_at nat_cmp id changes.now.entries) ≡ true) }
+    ensures only { IfOk result (λ ids. (id : ℕ) → has_id ids.keys id ≡ true
+        → is_moved (value_at nat_cmp id changes.now.entries) ≡ true) }
 {
     let mut ids = BTreeSet::new(alloc);
     let mut next = last(changes);
@@ -82,9 +84,11 @@ fn add_children(
 ) -> Result<(), AllocError>
     requires index { IsIndex snaps.now.entries pairs.now.keys }
     requires small { AreSmall snaps.now.entries }
-    ensures ok { OnOk result ((id : ℕ) → IsChildOf snaps.now.entries parent id → has_id ids.new.keys id ≡ true) }
+    ensures ok { OnOk result ((id : ℕ) → IsChildOf snaps.now.entries parent id
+        → has_id ids.new.keys id ≡ true) }
     ensures kept { (id : ℕ) → has_id ids.old.keys id ≡ true → has_id ids.new.keys id ≡ true }
-    ensures only { (id : ℕ) → has_id ids.new.keys id ≡ true → (has_id ids.old.keys id ≡ true) ⊎ IsChildOf snaps.now.entries parent id }
+    ensures only { (id : ℕ) → has_id ids.new.keys id ≡ true → (has_id ids.old.keys id ≡ true)
+        ⊎ IsChildOf snaps.now.entries parent id }
 {
     let mut next = namer_up_to(pairs, parent, u32::MAX);
     while let Some(id) = next {
@@ -103,7 +107,8 @@ fn add_child(
 ) -> Result<(), AllocError>
     ensures ok { OnOk result (IsChildOf snaps.now.entries parent id → has_id ids.new.keys id ≡ true) }
     ensures kept { (other : ℕ) → has_id ids.old.keys other ≡ true → has_id ids.new.keys other ≡ true }
-    ensures only { (other : ℕ) → has_id ids.new.keys other ≡ true → (has_id ids.old.keys other ≡ true) ⊎ IsChildOf snaps.now.entries parent other }
+    ensures only { (other : ℕ) → has_id ids.new.keys other ≡ true
+        → (has_id ids.old.keys other ≡ true) ⊎ IsChildOf snaps.now.entries parent other }
 {
     if is_child(snaps, parent, id) {
         ids.insert(id)?;

@@ -124,11 +124,21 @@ impl SnapTree {
         self.snaps.iter()
     }
 
+    /// The ids make trees, and each fits 32 bits. It costs nothing, and says so to a caller that needs it.
+    pub fn ids_fit(&self)
+        ensures trees { IsSnapTree self.now }
+        ensures fits { (id : ℕ) → IsSome (value_at nat_cmp id self.now) → id < 2 ^ 32 }
+    {
+        let _ = &self.links;
+    }
+
     /// The parent of an id; none where the id is a root or missing.
     pub fn parent(&self, id: u32) -> Option<u32>
         ensures value { result ≡ parent_of self.now id }
-        ensures chain { IsSome (value_at nat_cmp id self.now) → chain_of self.now id ≡ id ∷ chain_of_maybe self.now result }
-        ensures above { IfSome result (λ parent. (id < parent) × IsSome (value_at nat_cmp parent self.now)) }
+        ensures chain { IsSome (value_at nat_cmp id self.now)
+            → chain_of self.now id ≡ id ∷ chain_of_maybe self.now result }
+        ensures above { IfSome result (λ parent. (id < parent)
+            × IsSome (value_at nat_cmp parent self.now)) }
     {
         if !self.snaps.contains_key(&id) {
             return None;

@@ -48,7 +48,8 @@ impl<R: Read> Source for StdSource<R> {
         ensures cause { CountsFaults result self.old.faults self.new.faults }
 
         // Where std's contract of the reader knows the bytes that it has left, these come.
-        ensures read { ReadConsumes (R.remaining (reader_of self.old)) (R.remaining (reader_of self.new)) result into.new }
+        ensures read { ReadConsumes (R.remaining (reader_of self.old))
+            (R.remaining (reader_of self.new)) result into.new }
     {
         match self.inner.read(into) {
             Ok(n) => Ok(n),
@@ -69,12 +70,12 @@ pub struct StdSink<W> {
 }
 
 impl<W: Write> StdSink<W> {
-    ghost use Rattle.text_io.specs.Adapters.{writer_of};
+    ghost use Rattle.text_io.specs.Adapters.{faults_of, writer_of};
 
     /// A sink over this writer.
     pub fn new(inner: W) -> Self
         ensures inner { writer_of result ≡ inner }
-        ensures faults { ⟦<StdSink<W> as Sink>⟧.faults result ≡ 0 }
+        ensures faults { faults_of result ≡ 0 }
     {
         StdSink { inner, faults: 0 }
     }
@@ -87,8 +88,8 @@ impl<W: Write> StdSink<W> {
     }
 }
 
-impl<W: Write> Sink for StdSink<W> {
-    ghost use Rattle.text_io.specs.Adapters.{writer_of};
+impl<W: Write, D: Devices> Sink<D> for StdSink<W> {
+    ghost use Rattle.text_io.specs.Adapters.{faults_of, writer_of};
 
     ghost tells = { ⊥ };
 
@@ -96,15 +97,16 @@ impl<W: Write> Sink for StdSink<W> {
 
     ghost given_at = { λ _. [] };
 
-    ghost faults = { λ sink. sink.faults };
+    ghost faults = { faults_of };
 
-    fn give<D: Devices>(&mut self, from: &[u8], _devices: &D) -> Result<usize, Failed>
+    fn give(&mut self, from: &[u8], _devices: &D) -> Result<usize, Failed>
         ensures count { IfOk result (λ n. n ≤ length from.now) }
         ensures progress { IfOk result (λ n. 0 < length from.now → 1 ≤ n) }
         ensures cause { CountsFaults result self.old.faults self.new.faults }
 
         // Where std's contract of the writer knows the bytes that it holds, these are added.
-        ensures written { WriteAppends (W.contents (writer_of self.old)) (W.contents (writer_of self.new)) result from.now }
+        ensures written { WriteAppends (W.contents (writer_of self.old))
+            (W.contents (writer_of self.new)) result from.now }
     {
         match self.inner.write(from) {
             Ok(n) if n > 0 || from.is_empty() => Ok(n),

@@ -32,7 +32,8 @@ impl Model for MemSource {
 impl MemSource {
     /// A source of these bytes. The calls with the numbers in `failing`, from 0, fail.
     pub fn new(alloc: Global, bytes: &[u8], failing: &[u64]) -> Result<Self, AllocError>
-        ensures { IfOk result (λ source. source ≡ record { left = bytes.now; calls = no_calls failing.now }) }
+        ensures { IfOk result (λ source. source ≡ record
+            { left = bytes.now; calls = no_calls failing.now }) }
     {
         Ok(MemSource {
             bytes: bytes.to_vec(alloc)?,
@@ -89,7 +90,8 @@ impl Source for MemSource {
         ensures cause { CountsFaults result self.old.calls.failed self.new.calls.failed }
 
         ensures planned { IsErr result ↔ IsToFail self.old.calls }
-        ensures amount { IfOk result (λ n. n ≡ min self.old.calls.most (min (length into.old) (length self.old.left))) }
+        ensures amount { IfOk result (λ n. n ≡ min self.old.calls.most
+            (min (length into.old) (length self.old.left))) }
         ensures call { CountsCall result self.old.calls self.new.calls }
     {
         self.calls.begin()?;
@@ -101,8 +103,8 @@ impl Source for MemSource {
     }
 }
 
-/// A sink in memory. It tells which bytes it holds. A call fails where it is to, and where memory for the bytes is
-/// wanting, which can't be while they fit the room that `reserve` made. Either failure is counted.
+/// A sink in memory. It tells which bytes it holds. A call fails where it is to, and where there is no memory for
+/// the bytes, which can't be while they fit the room that `reserve` made. Either failure is counted.
 #[derive(Drop)]
 pub struct MemSink {
     bytes: Vec<u8>,
@@ -191,7 +193,11 @@ impl MemSink {
         ensures enough { bytes ≤ self.old.room → IsOk result }
         ensures less { self.old.room ≤ self.new.room }
         ensures cause { CountsFaults result self.old.calls.failed self.new.calls.failed }
-        ensures others { self.new ≡ record self.old { room = self.new.room; calls = record self.old.calls { failed = self.new.calls.failed } } }
+        ensures others { self.new ≡ record self.old {
+          room = self.new.room;
+          calls = record
+              self.old.calls { failed = self.new.calls.failed };
+        } }
     {
         match self.reserve(bytes) {
             Ok(()) => Ok(()),
@@ -200,7 +206,7 @@ impl MemSink {
     }
 }
 
-impl Sink for MemSink {
+impl<D: Devices> Sink<D> for MemSink {
     ghost tells = { Unit {0} };
 
     ghost held = { λ sink. sink.held };
@@ -209,18 +215,21 @@ impl Sink for MemSink {
 
     ghost faults = { λ sink. sink.calls.failed };
 
-    fn give<D: Devices>(&mut self, from: &[u8], devices: &D) -> Result<usize, Failed>
+    fn give(&mut self, from: &[u8], devices: &D) -> Result<usize, Failed>
         ensures count { IfOk result (λ n. n ≤ length from.now) }
         ensures progress { IfOk result (λ n. 0 < length from.now → 1 ≤ n) }
         ensures bytes { IfOk result (λ n. self.new.held ≡ self.old.held ++ take n from.now) }
         ensures failed { OnErr result (self.new.held ≡ self.old.held) }
-        ensures moment { AreGivenAt (D.state devices.now).moment self.old.held self.new.held self.old.given_at self.new.given_at }
+        ensures moment { AreGivenAt (D.state devices.now).moment self.old.held self.new.held
+            self.old.given_at self.new.given_at }
         ensures cause { CountsFaults result self.old.calls.failed self.new.calls.failed }
 
         ensures planned { IsToFail self.old.calls → IsErr result }
-        ensures unplanned { ¬ IsToFail self.old.calls → min self.old.calls.most (length from.now) ≤ self.old.room → IsOk result }
+        ensures unplanned { ¬ IsToFail self.old.calls → min self.old.calls.most
+            (length from.now) ≤ self.old.room → IsOk result }
         ensures amount { IfOk result (λ n. n ≡ min self.old.calls.most (length from.now)) }
-        ensures room { MatchResult result (λ n. self.old.room ≤ self.new.room + n) (λ _. self.old.room ≤ self.new.room) }
+        ensures room { MatchResult result (λ n. self.old.room ≤ self.new.room + n)
+            (λ _. self.old.room ≤ self.new.room) }
         ensures call { CountsCall result self.old.calls self.new.calls }
     {
         self.calls.begin()?;

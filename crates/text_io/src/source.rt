@@ -33,7 +33,7 @@ pub enum TakeFault {
     ReadFault,
     /// There were more bytes than the limit.
     TooLong,
-    /// Memory was wanting.
+    /// Out of memory.
     NoMemory,
 }
 
@@ -65,11 +65,14 @@ pub fn take_all<S: Source>(alloc: Global, source: &mut S, limit: usize) -> Resul
     ensures size { IfOk result (λ bytes. length bytes ≤ limit) }
 
     // TooLong comes only where more bytes were left than the limit, and then so many and one were taken.
-    ensures too_long { S.tells → IsErrOf result TakeFault.TooLong → limit < length (S.left source.old) }
-    ensures one_more { S.tells → IsErrOf result TakeFault.TooLong → S.left source.new ≡ drop (limit + 1) (S.left source.old) }
+    ensures too_long { S.tells → IsErrOf result TakeFault.TooLong
+        → limit < length (S.left source.old) }
+    ensures one_more { S.tells → IsErrOf result TakeFault.TooLong
+        → S.left source.new ≡ drop (limit + 1) (S.left source.old) }
 
     // ReadFault comes exactly where a call failed.
-    ensures read_fault { IsErrOf result TakeFault.ReadFault → RoseBy 1 (S.faults source.old) (S.faults source.new) }
+    ensures read_fault { IsErrOf result TakeFault.ReadFault → RoseBy 1 (S.faults source.old)
+        (S.faults source.new) }
     ensures no_fault { result ≢ Err TakeFault.ReadFault → S.faults source.new ≡ S.faults source.old }
     ensures later { S.faults source.old ≤ S.faults source.new }
 
@@ -106,11 +109,13 @@ fn take_piece<S: Source>(
     ensures piece { 0 < length piece.new.items }
     ensures count { IfOk result (λ n. n ≤ most) }
     ensures size { IfOk result (λ n. length bytes.new ≡ length bytes.old + n) }
-    ensures moved { S.tells → OnOk result (MovesOver bytes.old (S.left source.old) bytes.new (S.left source.new)) }
+    ensures moved { S.tells → OnOk result (MovesOver bytes.old (S.left source.old) bytes.new
+        (S.left source.new)) }
     ensures end { S.tells → IfOk result (λ n. n ≡ 0 → S.left source.old ≡ []) }
     ensures failed { S.tells → OnErr result (TakesUpTo most (S.left source.old) (S.left source.new)) }
     ensures not_too_long { result ≢ Err TakeFault.TooLong }
-    ensures read_fault { IsErrOf result TakeFault.ReadFault → RoseBy 1 (S.faults source.old) (S.faults source.new) }
+    ensures read_fault { IsErrOf result TakeFault.ReadFault → RoseBy 1 (S.faults source.old)
+        (S.faults source.new) }
     ensures no_fault { result ≢ Err TakeFault.ReadFault → S.faults source.new ≡ S.faults source.old }
     ensures later { S.faults source.old ≤ S.faults source.new }
 {

@@ -12,7 +12,7 @@ use Rattle.tree_keys.specs.Counts.{AreCounted, leaf_bytes}
 use Rattle.tree_keys.specs.Cuts.{Cut, IsCut, end_of, is_end, leaf_entries, start_of, with_entries}
 use Rattle.tree_keys.specs.LeafLaws.{IsCut-put_at, leaf_bytes-put_at, leaf_bytes-untouched}
 use Rattle.tree_keys.specs.OrderLaws.{at_turned, same_from_at}
-use Rattle.tree_keys.proofs.Looks.{is_end-keys}
+use Rattle.tree_keys.specs.LeafLaws.{is_end-keys}
 use Rattle.vol_types.specs.KeyMaps.{Entries}
 use Rattle.vol_types.specs.MapLaws.{value_at-with_value}
 use Rattle.vol_types.specs.Maps.{put_at, value_at, with_value}

@@ -36,15 +36,6 @@ from-range pos entries = filter_agree (λ e. is_le (pos_cmp pos e.0) && true) (�
 pub after-range : {X : Type 0} (pos : Pos) (entries : List (Pos × X)) → filter (λ e. is_lt (pos_cmp pos e.0) && true) entries ≡ filter (λ e. is_lt (pos_cmp pos e.0)) entries
 after-range pos entries = filter_agree (λ e. is_lt (pos_cmp pos e.0) && true) (λ e. is_lt (pos_cmp pos e.0)) (λ e. and_true (is_lt (pos_cmp pos e.0))) entries
 
--- a map of leaves, or any other, has an entry where a leaf ends, or a key is
-pub is_end-keys : {X : Type 0} (pos : Pos) (leaves : List (Pos × X)) → is_end pos (keys_of leaves) ≡ is_some (value_at pos_cmp pos leaves)
-is_end-keys pos [] = refl
-is_end-keys pos (e ∷ leaves) = by (is_at (pos_cmp pos) e.0) (is_end-keys pos leaves)
-  where
-    by : (b : Bool) → is_end pos (keys_of leaves) ≡ is_some (value_at pos_cmp pos leaves) → (b || is_end pos (keys_of leaves)) ≡ is_some (cond b (Some e.1) (value_at pos_cmp pos leaves))
-    by true later = refl
-    by false later = later
-
 module _ (pos : Pos) where
   -- the first leaf whose end isn't before a position is the one that covers it
   pub first_leaf : (leaves rest : List (Pos × ℕ)) (first : Pos × ℕ) → filter (λ e. is_le (pos_cmp pos e.0)) leaves ≡ first ∷ rest → (first.0 ≡ end_of pos (keys_of leaves)) × (value_at pos_cmp first.0 leaves ≡ Some first.1)

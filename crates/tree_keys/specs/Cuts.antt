@@ -8,6 +8,7 @@ use Rattle.std.specs.List.Sorted.{IsStrictlySortedBy}
 use Rattle.std.specs.Map.{keys_of, values_of}
 use Rattle.std.specs.Option.{option_and_then, option_or}
 use Rattle.std.specs.Ordering.{is_le, is_lt}
+use Rattle.std.specs.Set.{remove_key}
 use Rattle.vol_types.specs.KeyMaps.{Entries, entries_within}
 use Rattle.vol_types.specs.Maps.{IsMap}
 use Rattle.vol_types.specs.Positions.{pos_cmp, next_pos, least_pos, greatest_pos}
@@ -62,3 +63,7 @@ with_entries cut entries = record { entries = entries; ends = cut.ends }
 -- the same entries, with the leaf that covers a position cut there
 abbrev pub cut_at : Pos → Cut → Cut
 cut_at pos cut = record { entries = cut.entries; ends = insert_key pos_cmp cut.ends pos }
+
+-- the same entries, with the leaf that ends at a position joined with the next one
+abbrev pub joined_at : Pos → Cut → Cut
+joined_at pos cut = record { entries = cut.entries; ends = remove_key (is_at (pos_cmp pos)) cut.ends }

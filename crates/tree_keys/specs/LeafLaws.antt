@@ -1,9 +1,10 @@
 -- Which leaf covers a position, and what its entries are, also after a change.
 use Rattle.std.proofs.Common.{◌≡◌, ◌+◌, Bool, true, false, cond, ◌&&◌, ◌||◌, Option, Some, None, List, [], ◌∷◌, refl, sym, ap, ◌∙◌, subst, arith}
-use Rattle.std.specs.Prelude.{IfSome, unwrap_or}
+use Rattle.std.specs.Prelude.{IfSome, is_some, unwrap_or}
 use Rattle.std.specs.BTreeMap.{is_at}
 use Rattle.std.specs.List.{AllByRecursion, filter}
 use Rattle.std.specs.List.Sorted.{IsStrictlySortedBy}
+use Rattle.std.specs.Map.{keys_of}
 use Rattle.std.specs.Option.{option_and_then, option_or}
 use Rattle.std.specs.Ordering.{is_eq, is_le, is_lt, ordering_reverse}
 use Rattle.std.specs.declared.cmp.Ordering.{Ordering}
@@ -13,7 +14,7 @@ use Rattle.std.proofs.lemmas.List.Elements.{recursion_from_All}
 use Rattle.std.proofs.lemmas.Map.Keys.{sorted_head, sorted_tail}
 use Rattle.node_mem.specs.CountLaws.{keys-put_at, length-put_at, values-put_at}
 use Rattle.node_mem.specs.Counts.{length_of}
-use Rattle.node_mem.specs.NextLaws.{after_test, has_follower}
+use Rattle.vol_types.specs.FollowerLaws.{after_test, has_follower, not_greatest}
 use Rattle.node_mem.specs.RangeLaws.{same_part}
 use Rattle.tree_keys.specs.Counts.{leaf_bytes}
 use Rattle.tree_keys.specs.Cuts.{AreEnds, Cut, IsCut, end_before, end_of, is_end, leaf_entries, start_of, with_entries}
@@ -29,6 +30,15 @@ use Rattle.vol_types.specs.Sets.{set_length_of}
 use Rattle.vol_types.specs.Widths.{PosFits}
 use Rattle.vol_types.specs.declared.positions.Pos.{Pos}
 use Rattle.vol_types.specs.declared.values.Value.{Value}
+
+-- A map with leaves as its keys, or nodes that are such, has an entry where a leaf ends.
+pub is_end-keys : {X : Type 0} (pos : Pos) (leaves : List (Pos × X)) → is_end pos (keys_of leaves) ≡ is_some (value_at pos_cmp pos leaves)
+is_end-keys pos [] = refl
+is_end-keys pos (e ∷ leaves) = by (is_at (pos_cmp pos) e.0) (is_end-keys pos leaves)
+  where
+    by : (b : Bool) → is_end pos (keys_of leaves) ≡ is_some (value_at pos_cmp pos leaves) → (b || is_end pos (keys_of leaves)) ≡ is_some (cond b (Some e.1) (value_at pos_cmp pos leaves))
+    by true later = refl
+    by false later = later
 
 -- What holds of all positions of a list holds of each.
 pub at_end : (P : Pos → Type 0) (end : Pos) (ends : List Pos) → AllByRecursion P ends → is_end end ends ≡ true → P end
@@ -163,7 +173,7 @@ start_test pos end None fits ends before = OrderLaws.least_le pos fits
 start_test pos end (Some b) fits ends before = by (next_pos b) refl
   where
     by : (o : Option Pos) → next_pos b ≡ o → is_le (pos_cmp (unwrap_or o least_pos) pos) ≡ is_lt (pos_cmp b pos)
-    by None is = absurd (has_follower b end before.0 ends before.1 is)
+    by None is = absurd (has_follower b before.0 (not_greatest b end before.0 ends before.1) is)
     by (Some next) is = after_test b next before.0 is pos fits
 
 -- A position is in the range of a leaf exactly where that leaf covers it.

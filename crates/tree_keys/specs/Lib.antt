@@ -2,6 +2,7 @@ pub mod Changes
 pub mod Counts
 pub mod CutLaws
 pub mod Cuts
+pub mod JoinAtLaws
 pub mod JoinLaws
 pub mod LeafLaws
 pub mod OrderLaws

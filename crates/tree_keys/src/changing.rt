@@ -30,8 +30,12 @@ impl TreeKeys {
         requires { All (λ change. IsKeyValue (C.key change).value) changes.now }
         ensures rises { IfOk result (λ plan. IsMap pos_cmp plan.last.entries) }
         ensures in_range { IfOk result (λ plan. All IsKeyValue (values_of plan.last.entries)) }
-        ensures last { IfOk result (λ plan. (pos : APos) → unwrap_or (value_at pos_cmp pos plan.last.entries) (value_at pos_cmp pos self.now.entries) ≡ value_at pos_cmp pos (with_keys (map C.key changes.now) self.now.entries)) }
-        ensures before { IfOk result (λ plan. plan.before ≡ values_before (map C.key changes.now) self.now.entries) }
+        ensures last { IfOk result (λ plan. (pos : APos)
+            → unwrap_or (value_at pos_cmp pos plan.last.entries)
+            (value_at pos_cmp pos self.now.entries) ≡ value_at pos_cmp pos
+            (with_keys (map C.key changes.now) self.now.entries)) }
+        ensures before { IfOk result (λ plan. plan.before ≡ values_before (map C.key changes.now)
+            self.now.entries) }
     {
         let _ = &self.keys;
         let mut last = BTreeMap::new(alloc);
@@ -52,7 +56,8 @@ impl TreeKeys {
         pos: &Pos,
         earlier: Option<Option<Value>>,
     ) -> Result<Option<Value>, AllocError>
-        ensures { IfOk result (λ value. value ≡ unwrap_or earlier (value_at pos_cmp pos.now self.now.entries)) }
+        ensures { IfOk result (λ value. value ≡ unwrap_or earlier
+            (value_at pos_cmp pos.now self.now.entries)) }
     {
         match earlier {
             None => copy_borrowed(alloc, self.get(pos)),
@@ -66,7 +71,8 @@ impl TreeKeys {
         alloc: Global,
         last: &BTreeMap<Pos, Option<Value>>,
     ) -> Result<Vec<Pos>, AllocError>
-        ensures { IfOk result (λ fresh. fresh.items ≡ fresh_positions last.now.entries self.now.entries) }
+        ensures { IfOk result (λ fresh. fresh.items ≡ fresh_positions last.now.entries
+            self.now.entries) }
     {
         let mut fresh = Vec::new(alloc);
         for (pos, value) in last.iter() {
@@ -78,7 +84,8 @@ impl TreeKeys {
     }
 
     fn is_fresh(&self, pos: &Pos, value: &Option<Value>) -> bool
-        ensures { result ≡ (is_some value.now && is_none (value_at pos_cmp pos.now self.now.entries)) }
+        ensures { result ≡ (is_some value.now && is_none
+            (value_at pos_cmp pos.now self.now.entries)) }
     {
         value.is_some() && self.get(pos).is_none()
     }
@@ -86,7 +93,8 @@ impl TreeKeys {
     /// Takes the memory for values at positions that have none: it puts a whiteout at each.
     pub(crate) fn place(&mut self, positions: &[Pos]) -> Result<(), AllocError>
         requires { All (λ pos. value_at pos_cmp pos self.old.entries ≡ None) positions.now }
-        ensures ok { OnOk result (self.new ≡ with_entries self.old (with_keys (keys_with (Some White) positions.now) self.old.entries)) }
+        ensures ok { OnOk result (self.new ≡ with_entries self.old
+            (with_keys (keys_with (Some White) positions.now) self.old.entries)) }
         ensures err { OnErr result (self.new ≡ self.old) }
     {
         let _ = &self.keys;
@@ -101,7 +109,8 @@ impl TreeKeys {
 
     /// Takes away what is at each of the positions.
     pub(crate) fn clear(&mut self, positions: &[Pos])
-        ensures { self.new ≡ with_entries self.old (with_keys (keys_with None positions.now) self.old.entries) }
+        ensures { self.new ≡ with_entries self.old (with_keys (keys_with None positions.now)
+            self.old.entries) }
     {
         for pos in positions {
             self.clear_one(pos);
@@ -109,7 +118,8 @@ impl TreeKeys {
     }
 
     fn place_one(&mut self, pos: &Pos) -> Result<(), AllocError>
-        ensures ok { OnOk result (self.new ≡ with_entries self.old (put_at pos_cmp pos.now (Some White) self.old.entries)) }
+        ensures ok { OnOk result (self.new ≡ with_entries self.old
+            (put_at pos_cmp pos.now (Some White) self.old.entries)) }
         ensures err { OnErr result (self.new ≡ self.old) }
     {
         self.put(pos, Some(Value::White))?;
@@ -137,8 +147,10 @@ impl TreeKeys {
     pub(crate) fn fill(&mut self, last: BTreeMap<Pos, Option<Value>>)
         requires rises { IsMap pos_cmp last.entries }
         requires in_range { All IsKeyValue (values_of last.entries) }
-        requires placed { (pos : APos) (value : AValue) → value_at pos_cmp pos last.entries ≡ Some (Some value) → IsSome (value_at pos_cmp pos self.old.entries) }
-        ensures { self.new ≡ with_entries self.old (with_keys (keys_of_changed last.entries) self.old.entries) }
+        requires placed { (pos : APos) (value : AValue) → value_at pos_cmp pos last.entries ≡ Some
+            (Some value) → IsSome (value_at pos_cmp pos self.old.entries) }
+        ensures { self.new ≡ with_entries self.old (with_keys (keys_of_changed last.entries)
+            self.old.entries) }
     {
         let _ = &self.keys;
         for (pos, value) in last {

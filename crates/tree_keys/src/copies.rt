@@ -35,7 +35,11 @@ pub(crate) fn copy_range(
     requires rises { IsMap pos_cmp values }
     requires covered { All (IsWithin least.now greatest.now) (keys_of values) }
     requires in_range { All IsValue (values_of values) }
-    ensures { IfOk result (λ node. node ≡ record { least = least.now; greatest = greatest.now; entries = values.entry }) }
+    ensures { IfOk result (λ node. node ≡ record {
+      least = least.now;
+      greatest = greatest.now;
+      entries = values.entry;
+    }) }
 {
     let mut node = NodeMem::new(alloc, least, greatest)?;
     for (pos, value) in values {
@@ -48,7 +52,11 @@ pub(crate) fn copy_range(
 fn put_copy(alloc: Global, node: &mut NodeMem, pos: &Pos, value: &Value) -> Result<(), AllocError>
     requires covered { IsWithin node.old.least node.old.greatest pos.now }
     requires in_range { IsValue value.now }
-    ensures { OnOk result (node.new ≡ record { least = node.old.least; greatest = node.old.greatest; entries = put_at pos_cmp pos.now (Some value.now) node.old.entries }) }
+    ensures { OnOk result (node.new ≡ record {
+      least = node.old.least;
+      greatest = node.old.greatest;
+      entries = put_at pos_cmp pos.now (Some value.now) node.old.entries;
+    }) }
 {
     node.put(pos, Some(value.copy(alloc)?))?;
     Ok(())

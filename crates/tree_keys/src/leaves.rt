@@ -6,13 +6,9 @@ ghost use Rattle.vol_types.specs.Maps.{value_at, with_value};
 ghost use Rattle.vol_types.specs.Positions.{pos_cmp};
 ghost use Rattle.vol_types.specs.Ranges.{IsValue};
 
-use node_mem::wide;
 use std::alloc::{AllocError, Global};
 use std::collections::{BTreeMap, btree_map};
-use vol_types::{Pos, Value, key_length};
-
-/// How many bytes a set takes before its keys.
-pub(crate) const SET_HEAD: u128 = 56;
+use vol_types::{Pos, Value, key_length, wide};
 
 /// The end of the leaf that covers a position, and its bytes.
 pub(crate) fn leaf_at(leaves: &BTreeMap<Pos, u128>, pos: &Pos) -> (Pos, u128)

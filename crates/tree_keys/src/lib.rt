@@ -3,15 +3,15 @@
 #![tactic(auto)]
 
 ghost use Rattle.std.specs.Map.Iter.{deref_pair};
-ghost use Rattle.std.specs.Prelude.{◌≡◌, ◌==◌, ◌∷◌, [], length, false, if◌then◌else◌, option_copied, option_map, map, ◌↔◌, All, IfSome, Some, None, IsSome, IfOk, OnOk, OnErr};
+ghost use Rattle.std.specs.Prelude.{◌≡◌, ◌==◌, ◌∷◌, [], length, false, if◌then◌else◌, option_copied, option_map, map, ◌↔◌, true, All, IfSome, Some, None, IsSome, IfOk, OnOk, OnErr};
 ghost use Rattle.node_mem.specs.Nodes.{entries_after, entries_up_to, first_of, last_of, middle_of, with_keys};
 ghost use Rattle.tree_keys.specs.Changes.{values_before};
 ghost use Rattle.tree_keys.specs.Counts.{leaf_size};
-ghost use Rattle.tree_keys.specs.Cuts.{IsCut, cut_at, end_of, is_end, leaf_entries, start_of, with_entries};
+ghost use Rattle.tree_keys.specs.Cuts.{IsCut, cut_at, end_of, is_end, joined_at, leaf_entries, start_of, with_entries};
 ghost use Rattle.tree_keys.specs.Sizes.{sizes_after};
 ghost use Rattle.vol_types.specs.KeyMaps.{entries_within, first_from};
 ghost use Rattle.vol_types.specs.Maps.{value_at, put_at};
-ghost use Rattle.vol_types.specs.Positions.{greatest_pos, pos_cmp};
+ghost use Rattle.vol_types.specs.Positions.{IsBefore, greatest_pos, pos_cmp};
 ghost use Rattle.vol_types.specs.Ranges.{IsKeyValue};
 
 mod changing;
@@ -24,23 +24,23 @@ mod sizing;
 
 use crate::changing::Plan;
 use crate::copies::{copy_range, count_values, position_at, within};
-use crate::leaves::{SET_HEAD, clamped, copy_leaves, leaf_at, set_bytes, start_of, total};
+use crate::leaves::{clamped, copy_leaves, leaf_at, set_bytes, start_of, total};
 use crate::making::{are_ends, are_in_range, count_leaves};
 use crate::sizing::{bytes_after, listed};
 pub use laws::{
-    changes_are_made, changes_stay_in_leaves, cuts_part_leaves, leaves_are_joined,
+    changes_are_made, changes_stay_in_leaves, cuts_part_leaves, joins_undo_cuts, leaves_are_joined,
     leaves_cover_positions,
 };
 use node_mem::entries::exchange;
 use node_mem::lengths::length;
-use node_mem::{Change, NodeMem, wide};
+use node_mem::{Change, NodeMem};
 pub use planned::LastValues;
 pub use sizing::LeafSize;
 use std::alloc::{AllocError, Global};
 use std::collections::{BTreeMap, btree_map};
 use std::marker::Model;
 use std::ops::Bound;
-use vol_types::{Duplicate, Listing, Pos, Value, copy_map};
+use vol_types::{Duplicate, Listing, Pos, SET_HEAD, Value, copy_map, wide};
 
 /// The values of a btree, each at its position, in order, and the leaves that they are cut into. A leaf is named by its
 /// end, the greatest position that it covers. Each call that looks for a position or a leaf, puts or removes takes steps
@@ -84,8 +84,10 @@ impl TreeKeys {
         keys: BTreeMap<Pos, Value>,
         ends: &[Pos],
     ) -> Result<Option<TreeKeys>, AllocError>
-        ensures made { IfOk result (λ made. IfSome made (λ made. made ≡ record { entries = keys.entries; ends = ends.now })) }
-        ensures exact { IfOk result (λ made. IsSome made ↔ IsCut (record { entries = keys.entries; ends = ends.now })) }
+        ensures made { IfOk result (λ made. IfSome made
+            (λ made. made ≡ record { entries = keys.entries; ends = ends.now })) }
+        ensures exact { IfOk result (λ made. IsSome made
+            ↔ IsCut (record { entries = keys.entries; ends = ends.now })) }
     {
         if !are_in_range(&keys) {
             return Ok(None);
@@ -188,7 +190,8 @@ impl TreeKeys {
     /// How many bytes the leaf with this end takes on disk as one set, or 2^32 - 1 where they are more, or none where no
     /// leaf has this end.
     pub fn size(&self, end: &Pos) -> Option<u32>
-        ensures { result ≡ (if is_end end.now self.now.ends then Some (leaf_size end.now self.now) else None) }
+        ensures { result ≡ (if is_end end.now self.now.ends then Some (leaf_size end.now self.now)
+            else None) }
     {
         match self.leaves.get(end) {
             None => None,
@@ -199,7 +202,12 @@ impl TreeKeys {
     /// A copy of the leaf with this end, as a node of the positions that it covers. It goes over its values, and takes
     /// memory for each.
     pub fn leaf(&self, alloc: Global, end: &Pos) -> Result<NodeMem, AllocError>
-        ensures { IfOk result (λ node. node ≡ record { least = start_of end.now self.now.ends; greatest = end.now; entries = leaf_entries end.now self.now }) }
+        ensures { IfOk result (λ node. node ≡ record {
+          least = start_of end.now self.now.ends;
+          greatest = end.now;
+          entries = leaf_entries
+              end.now self.now;
+        }) }
     {
         let start = self.start_of(end);
         copy_range(alloc, &start, end, within(&self.keys, &start, end))
@@ -242,7 +250,8 @@ impl TreeKeys {
     pub fn put(&mut self, pos: &Pos, value: Option<Value>) -> Result<Option<Value>, AllocError>
         requires { IsKeyValue value }
         ensures before { IfOk result (λ before. before ≡ value_at pos_cmp pos.now self.old.entries) }
-        ensures ok { OnOk result (self.new ≡ with_entries self.old (put_at pos_cmp pos.now value self.old.entries)) }
+        ensures ok { OnOk result (self.new ≡ with_entries self.old
+            (put_at pos_cmp pos.now value self.old.entries)) }
         // After an `Err` all is as before. It comes only where a value is put at a position that has none.
         ensures err { OnErr result (self.new ≡ self.old) }
         ensures put { OnErr result (IsSome value) }
@@ -266,7 +275,8 @@ impl TreeKeys {
     /// Takes the value at a position away, and gives it. It takes no memory.
     pub fn remove(&mut self, pos: &Pos) -> Option<Value>
         ensures before { result ≡ value_at pos_cmp pos.now self.old.entries }
-        ensures after { self.new ≡ with_entries self.old (put_at pos_cmp pos.now None self.old.entries) }
+        ensures after { self.new ≡ with_entries self.old
+            (put_at pos_cmp pos.now None self.old.entries) }
     {
         let pos = wide(pos);
         let (end, bytes) = leaf_at(&self.leaves, &pos);
@@ -283,8 +293,10 @@ impl TreeKeys {
         changes: &[C],
     ) -> Result<Listing<Option<Value>>, AllocError>
         requires { All (λ change. IsKeyValue (C.key change).value) changes.now }
-        ensures ok { OnOk result (self.new ≡ with_entries self.old (with_keys (map C.key changes.now) self.old.entries)) }
-        ensures before { IfOk result (λ before. before ≡ values_before (map C.key changes.now) self.old.entries) }
+        ensures ok { OnOk result (self.new ≡ with_entries self.old
+            (with_keys (map C.key changes.now) self.old.entries)) }
+        ensures before { IfOk result (λ before. before ≡ values_before (map C.key changes.now)
+            self.old.entries) }
         // After an `Err` all is as before.
         ensures err { OnErr result (self.new ≡ self.old) }
     {
@@ -313,6 +325,24 @@ impl TreeKeys {
         self.leaves.insert(at, SET_HEAD + first)?;
         set_bytes(&mut self.leaves, end, bytes - first);
         Ok(())
+    }
+
+    /// Joins the leaf that ends at a position, which isn't the last one, with the next, as if it had never been cut there.
+    /// No value moves. It takes no memory.
+    pub fn join(&mut self, at: &Pos)
+        requires end { is_end at.now self.old.ends ≡ true }
+        requires inner { IsBefore at.now greatest_pos }
+        ensures { self.new ≡ joined_at at.now self.old }
+    {
+        // So few keys of so few bytes each fit 128 bits together.
+        let count = self.keys.len();
+        prove!(count < 1 << 63);
+        let at = wide(at);
+        let Some(first) = self.leaves.remove(&at) else {
+            unreachable!()
+        };
+        let (end, bytes) = leaf_at(&self.leaves, &at);
+        set_bytes(&mut self.leaves, end, bytes + first - SET_HEAD);
     }
 }
 

@@ -8,11 +8,10 @@ ghost use Rattle.vol_types.specs.Ranges.{IsAbove, IsValue, Rise};
 ghost use Rattle.vol_types.specs.Widths.{PosFits};
 
 use crate::copies::within;
-use crate::leaves::{SET_HEAD, start_of, total};
-use node_mem::wide;
+use crate::leaves::{start_of, total};
 use std::alloc::{AllocError, Global};
 use std::collections::BTreeMap;
-use vol_types::{Pos, Value};
+use vol_types::{Pos, SET_HEAD, Value, wide};
 
 /// Whether all values are in range. It goes over all of them.
 pub(crate) fn are_in_range(keys: &BTreeMap<Pos, Value>) -> bool
@@ -92,7 +91,8 @@ pub(crate) fn count_leaves(
 ) -> Result<BTreeMap<Pos, u128>, AllocError>
     requires { IsCut (record { entries = keys.now.entries; ends = ends.now }) }
     ensures ends { IfOk result (λ leaves. keys_of leaves.entries ≡ ends.now) }
-    ensures counted { IfOk result (λ leaves. AreCounted (record { entries = keys.now.entries; ends = ends.now }) leaves.entries) }
+    ensures counted { IfOk result (λ leaves. AreCounted
+        (record { entries = keys.now.entries; ends = ends.now }) leaves.entries) }
 {
     // So few keys of so few bytes each fit 128 bits together.
     let count = keys.len();

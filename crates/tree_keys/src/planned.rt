@@ -51,7 +51,8 @@ impl LastValues {
         keys: &TreeKeys,
         pos: &Pos,
     ) -> Result<Option<Value>, AllocError>
-        ensures { IfOk result (λ value. value ≡ unwrap_or (value_at pos_cmp pos.now self.now) (value_at pos_cmp pos.now keys.now.entries)) }
+        ensures { IfOk result (λ value. value ≡ unwrap_or (value_at pos_cmp pos.now self.now)
+            (value_at pos_cmp pos.now keys.now.entries)) }
     {
         match self.last.get(pos) {
             None => copy_borrowed(alloc, keys.get(pos)),
@@ -69,8 +70,10 @@ impl LastValues {
         value: Option<&Value>,
     ) -> Result<Option<Value>, AllocError>
         requires { IsKeyValue (option_copied value) }
-        ensures ok { OnOk result (self.new ≡ with_value pos_cmp pos.now (option_copied value.entry) self.old) }
-        ensures before { IfOk result (λ before. before ≡ unwrap_or (value_at pos_cmp pos.now self.old) (value_at pos_cmp pos.now keys.now.entries)) }
+        ensures ok { OnOk result (self.new ≡ with_value pos_cmp pos.now (option_copied value.entry)
+            self.old) }
+        ensures before { IfOk result (λ before. before ≡ unwrap_or
+            (value_at pos_cmp pos.now self.old) (value_at pos_cmp pos.now keys.now.entries)) }
         ensures err { OnErr result (self.new ≡ self.old) }
     {
         let before = self.value_at(alloc, keys, pos)?;
@@ -98,7 +101,8 @@ impl TreeKeys {
     /// positions. An `Err` is out of memory, and changes nothing.
     pub fn take_room(&mut self, alloc: Global, values: &LastValues) -> Result<Vec<Pos>, AllocError>
         ensures ok { OnOk result (self.new ≡ placed values.now self.old) }
-        ensures positions { IfOk result (λ fresh. fresh.items ≡ fresh_positions values.now self.old.entries) }
+        ensures positions { IfOk result (λ fresh. fresh.items ≡ fresh_positions values.now
+            self.old.entries) }
         ensures err { OnErr result (self.new ≡ self.old) }
     {
         let fresh = self.fresh(alloc, &values.last)?;
@@ -108,7 +112,8 @@ impl TreeKeys {
 
     /// Takes away what is at each of the positions. It takes no memory.
     pub fn give_room_back(&mut self, positions: &[Pos])
-        ensures { self.new ≡ with_entries self.old (with_keys (keys_with None positions.now) self.old.entries) }
+        ensures { self.new ≡ with_entries self.old (with_keys (keys_with None positions.now)
+            self.old.entries) }
     {
         self.clear(positions);
     }
@@ -116,7 +121,8 @@ impl TreeKeys {
     /// Makes the changes whose memory was taken: each position gets its last value, or loses the one that it has. It takes
     /// no memory, and costs a logarithm of the number of values for each position.
     pub fn make(&mut self, values: LastValues)
-        requires { (pos : APos) (value : AValue) → value_at pos_cmp pos values ≡ Some (Some value) → IsSome (value_at pos_cmp pos self.old.entries) }
+        requires { (pos : APos) (value : AValue) → value_at pos_cmp pos values ≡ Some (Some value)
+            → IsSome (value_at pos_cmp pos self.old.entries) }
         ensures made { self.new ≡ made values self.old }
         ensures sound { IsCut self.new }
     {

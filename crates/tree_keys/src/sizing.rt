@@ -8,11 +8,11 @@ ghost use Rattle.vol_types.specs.Positions.{pos_cmp};
 ghost use Rattle.vol_types.specs.Ranges.{IsKeyValue};
 
 use crate::leaves::{clamped, leaf_at};
+use node_mem::Change;
 use node_mem::lengths::{borrowed_length, length_so_far};
-use node_mem::{Change, wide};
 use std::alloc::{AllocError, Global};
 use std::collections::BTreeMap;
-use vol_types::{Listing, Pos, Value};
+use vol_types::{Listing, Pos, Value, wide};
 
 /// The end of a leaf, and how many bytes it takes on disk as one set, or 2^32 - 1 where they are more.
 #[derive(Clone, Copy, Debug, PartialEq, Eq)]
@@ -29,9 +29,15 @@ pub(crate) fn bytes_after<C: Change>(
     changes: &[C],
 ) -> Result<BTreeMap<Pos, u128>, AllocError>
     requires cut { IsCut (record { entries = keys.now.entries; ends = keys_of leaves.now.entries }) }
-    requires counted { AreCounted (record { entries = keys.now.entries; ends = keys_of leaves.now.entries }) leaves.now.entries }
+    requires counted { AreCounted (record {
+      entries = keys.now.entries;
+      ends = keys_of
+          leaves.now.entries;
+    }) leaves.now.entries }
     requires in_range { All (λ change. IsKeyValue (C.key change).value) changes.now }
-    ensures { IfOk result (λ sizes. IsSized (record { entries = keys.now.entries; ends = keys_of leaves.now.entries }) (map C.key changes.now) sizes.entries) }
+    ensures { IfOk result (λ sizes. IsSized (record
+        { entries = keys.now.entries; ends = keys_of leaves.now.entries }) (map C.key changes.now)
+        sizes.entries) }
 {
     // So few keys of so few bytes each fit 128 bits together.
     let (count, more) = (keys.len(), changes.len());
@@ -66,7 +72,8 @@ pub(crate) fn listed(
     alloc: Global,
     sizes: &BTreeMap<Pos, u128>,
 ) -> Result<Listing<LeafSize>, AllocError>
-    ensures { IfOk result (λ list. list ≡ map (λ entry. record { end = entry.0; size = min entry.1 (2 ^ 32 - 1) }) sizes.now.entries) }
+    ensures { IfOk result (λ list. list ≡ map (λ entry. record
+        { end = entry.0; size = min entry.1 (2 ^ 32 - 1) }) sizes.now.entries) }
 {
     let mut list = Listing::new(alloc);
     for (end, bytes) in sizes.iter() {

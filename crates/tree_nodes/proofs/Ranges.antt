@@ -44,15 +44,3 @@ pub within-range : (first last : Pos) (nodes : Level) → filter (λ node. is_le
 within-range first last nodes =
     filter_agree (λ node. is_le (pos_cmp first node.0) && not (is_lt (pos_cmp last node.0))) (λ node. is_within first last node.0)
     (λ node. ap (λ b. is_le (pos_cmp first node.0) && b) (ap (λ o. not (is_lt o)) (pos_total.antisymm last node.0) ∙ turned_le (pos_cmp node.0 last))) nodes
-
--- the last of a list that was pushed to
-last_pushed : {X : Type 0} (xs : List X) (x : X) → slice_get (xs ++ x ∷ []) (length (xs ++ x ∷ []) - 1) ≡ Some x
-last_pushed xs x =
-    let at : length (xs ++ x ∷ []) - 1 ≡ length xs = omega (arith, length-append xs (x ∷ [])) in
-    ap (λ i. slice_get (xs ++ x ∷ []) i) at
-    ∙ slice_get_read (xs ++ x ∷ []) (length (xs ++ x ∷ [])) (length xs) x refl (omega (arith, length-append xs (x ∷ []))) (sym (get_or-append_seam xs x [] x))
-
--- the item that is taken from the end is the last one
-pub last_taken : {A X : Type 0} (shows : A → X) (values rest : List X) (taken : Option A) → TakesLast shows values taken rest → option_map shows taken ≡ slice_get values (length values - 1)
-last_taken shows values rest None none = sym (ap (λ xs. slice_get xs (length xs - 1)) none.0)
-last_taken shows values rest (Some x) some = sym (ap (λ xs. slice_get xs (length xs - 1)) some ∙ last_pushed rest (shows x))

@@ -20,7 +20,7 @@ use Rattle.vol_types.specs.Widths.{PosFits}
 use Rattle.vol_types.specs.declared.pointers.NodePtr.{NodePtr}
 use Rattle.vol_types.specs.declared.positions.Pos.{Pos}
 use Rattle.tree_nodes.specs.CoverLaws.{IsFitBefore, above-head, before-covered, before-fits, before-node, before_le, first_passes, last-step, least-le, least-same, lt_less, turned}
-use Rattle.tree_nodes.specs.Followers.{follows-test, has_follower, least-first, not_greatest}
+use Rattle.vol_types.specs.FollowerLaws.{follows-test, has_follower, least-first, not_greatest}
 use Rattle.tree_nodes.specs.Levels.{Level, Covers, EndsAt, IsNested, IsRow, Tile, children_of, first_of, follower_of, last_of, least_of, node_at, nodes_before, nodes_from}
 use Rattle.tree_nodes.specs.RowLaws.{at_end, each_end, kept-ends, same_at}
 

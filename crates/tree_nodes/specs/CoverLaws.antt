@@ -19,7 +19,7 @@ use Rattle.vol_types.specs.Positions.{pos_cmp, IsBefore, IsWithin, greatest_pos}
 use Rattle.vol_types.specs.Widths.{PosFits}
 use Rattle.vol_types.specs.declared.pointers.NodePtr.{NodePtr}
 use Rattle.vol_types.specs.declared.positions.Pos.{Pos}
-use Rattle.tree_nodes.specs.Followers.{follows-test, greatest-last, least-first, not_greatest}
+use Rattle.vol_types.specs.FollowerLaws.{follows-test, greatest-last, least-first, not_greatest}
 use Rattle.tree_nodes.specs.Levels.{Level, Covers, EndsAt, IsRow, first_of, follower_of, last_of, least_of, node_at, nodes_before, nodes_from}
 use Rattle.tree_nodes.specs.RowLaws.{at_end, same_at}
 

@@ -1,6 +1,5 @@
 pub mod ChildLaws
 pub mod CoverLaws
-pub mod Followers
 pub mod Levels
 pub mod RangeLaws
 pub mod RowLaws

@@ -20,7 +20,7 @@ use Rattle.vol_types.specs.Widths.{PosFits}
 use Rattle.vol_types.specs.declared.pointers.NodePtr.{NodePtr}
 use Rattle.vol_types.specs.declared.positions.Pos.{Pos}
 use Rattle.tree_nodes.specs.CoverLaws.{before-covered, covered-once, last-step, least-same, parted}
-use Rattle.tree_nodes.specs.Followers.{has_follower, not_greatest}
+use Rattle.vol_types.specs.FollowerLaws.{has_follower, not_greatest}
 use Rattle.tree_nodes.specs.Levels.{Level, Covers, EndsAt, IsRow, follower_of, halved, last_of, least_of, nodes_before, nodes_from}
 use Rattle.tree_nodes.specs.RowLaws.{at_end, ends-stay, kept-ends, same_at}
 

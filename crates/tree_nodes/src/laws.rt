@@ -9,7 +9,8 @@ ghost use Rattle.tree_nodes.specs.Levels.{Level, Levels, Covers, EndsAt, IsNeste
 
 /// Each position is covered by exactly one node of a level, which is the one that is found for it.
 pub fn positions_are_covered()
-    ensures some { (nodes : Level) (pos : APos) → EndsAt nodes greatest_pos → PosFits pos → IsSome (node_at pos nodes) }
+    ensures some { (nodes : Level) (pos : APos) → EndsAt nodes greatest_pos → PosFits pos
+        → IsSome (node_at pos nodes) }
     ensures covers { (nodes : Level) (pos : APos) (node : APos × ANodePtr) → IsRow nodes → PosFits pos
         → node_at pos nodes ≡ Some node
         → Covers nodes node.0 pos × (value_at pos_cmp node.0 nodes ≡ Some node.1) }

@@ -8,12 +8,11 @@ ghost use Rattle.vol_types.specs.Positions.{pos_cmp, is_within, IsBefore};
 ghost use Rattle.tree_nodes.specs.Levels.{EndsAt, IsLevel, IsNested, IsNodeOf, IsRow, children_of, halved, least_of, node_at};
 
 use crate::shape::is_node_of;
-use crate::wide::{follower, wide};
 use std::alloc::{AllocError, Global};
 use std::collections::{BTreeMap, btree_map};
 use std::marker::Model;
 use std::ops::Bound;
-use vol_types::{Duplicate, NodePtr, Pos, copy_map};
+use vol_types::{Duplicate, NodePtr, Pos, copy_map, follower, wide};
 
 /// Nodes of one level, each at the greatest position that it covers. Each look costs a logarithm of their number.
 #[derive(Drop)]
@@ -76,7 +75,8 @@ impl LevelNodes {
     ) -> Result<NodePtr, AllocError>
         requires there { EndsAt self.old greatest.now }
         requires before { IsBefore at.now greatest.now }
-        ensures before { IfOk result (λ before. value_at pos_cmp greatest.now self.old ≡ Some before) }
+        ensures before { IfOk result (λ before. value_at pos_cmp greatest.now self.old ≡ Some
+            before) }
         ensures ok { OnOk result (self.new ≡ halved greatest.now at.now first second self.old) }
         ensures err { OnErr result (self.new ≡ self.old) }
     {
@@ -190,7 +190,8 @@ fn ends_at(nodes: &BTreeMap<Pos, NodePtr>, at: &Pos) -> bool
 
 // Whether each node ends where one of the others does.
 fn all_end_in(nodes: &BTreeMap<Pos, NodePtr>, others: &BTreeMap<Pos, NodePtr>) -> bool
-    ensures { result ≡ list_all (λ at. is_some (value_at pos_cmp at others.now.entries)) (keys_of nodes.now.entries) }
+    ensures { result ≡ list_all (λ at. is_some (value_at pos_cmp at others.now.entries))
+        (keys_of nodes.now.entries) }
 {
     nodes.keys().all(|at| ends_at(others, at))
 }

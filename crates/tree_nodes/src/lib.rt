@@ -9,7 +9,6 @@ mod laws;
 mod level;
 mod shape;
 mod tree;
-mod wide;
 
 pub use laws::{changes_leave_trees, children_tile, positions_are_covered, ranges_are_divided};
 pub use level::LevelNodes;

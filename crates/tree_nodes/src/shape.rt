@@ -1,9 +1,8 @@
 ghost use Rattle.std.specs.Prelude.{◌≡◌, ℕ, ◌+◌, ◌-◌, ◌<◌, ◌↔◌, IsTrue, All, length};
-ghost use Rattle.vol_types.specs.Ranges.{IsBucket, IsNode};
 ghost use Rattle.tree_nodes.specs.Levels.{IsLevel, IsNested, IsNodeOf, IsTree, level_of};
 
 use crate::LevelNodes;
-use vol_types::{BUCKET_BLOCKS, NodePtr, Place};
+use vol_types::NodePtr;
 
 /// Whether levels are those of a btree. It looks at each node.
 pub(crate) fn is_tree(levels: &[LevelNodes]) -> bool
@@ -30,7 +29,8 @@ fn has_one_root(levels: &[LevelNodes]) -> bool
 
 // Whether each level has the nodes of one with its number.
 fn are_levels(levels: &[LevelNodes]) -> bool
-    ensures { IsTrue result ↔ ((level : ℕ) → level < length levels.now → IsLevel level (level_of levels.now level)) }
+    ensures { IsTrue result ↔ ((level : ℕ) → level < length levels.now
+        → IsLevel level (level_of levels.now level)) }
 {
     for level in 0..levels.len() {
         if !levels[level].is_level(level) {
@@ -42,7 +42,8 @@ fn are_levels(levels: &[LevelNodes]) -> bool
 
 // Whether each node ends where one of the level below does.
 fn are_nested(levels: &[LevelNodes]) -> bool
-    ensures { IsTrue result ↔ ((level : ℕ) → IsNested (level_of levels.now (level + 1)) (level_of levels.now level)) }
+    ensures { IsTrue result ↔ ((level : ℕ) → IsNested (level_of levels.now (level + 1))
+        (level_of levels.now level)) }
 {
     for level in 1..levels.len() {
         if !levels[level].is_nested_in(&levels[level - 1]) {
@@ -59,29 +60,5 @@ pub(crate) fn is_node_of(node: &NodePtr, level: usize) -> bool
     if usize::from(node.level) != level {
         return false;
     }
-    is_node(node)
-}
-
-fn is_node(node: &NodePtr) -> bool
-    ensures { IsTrue result ↔ IsNode node.now }
-{
-    if node.level > 7 {
-        return false;
-    }
-    if node.places.is_empty() || node.places.len() > 3 {
-        return false;
-    }
-    are_buckets(node.places.as_slice())
-}
-
-fn are_buckets(places: &[Place]) -> bool
-    ensures { IsTrue result ↔ All IsBucket places.now }
-{
-    places.iter().all(|place| is_bucket(place))
-}
-
-fn is_bucket(place: &Place) -> bool
-    ensures { IsTrue result ↔ IsBucket place.now }
-{
-    place.dev < 8 && place.block % BUCKET_BLOCKS == 0
+    node.is_in_range()
 }

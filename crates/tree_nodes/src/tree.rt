@@ -7,11 +7,10 @@ ghost use Rattle.tree_nodes.specs.Levels.{Covers, EndsAt, IsLevel, IsNodeOf, IsT
 
 use crate::LevelNodes;
 use crate::shape::is_tree;
-use crate::wide::wide;
 use std::alloc::{AllocError, Global};
 use std::collections::btree_map;
 use std::marker::Model;
-use vol_types::{Duplicate, Listing, NodePtr, Pos};
+use vol_types::{Duplicate, Listing, NodePtr, Pos, wide};
 
 /// Levels that aren't those of a btree.
 #[derive(Clone, Copy, Debug, PartialEq, Eq)]
@@ -125,7 +124,8 @@ impl TreeNodes {
     pub fn children(&self, level: u8, greatest: &Pos) -> btree_map::Range<'_, Pos, NodePtr>
         requires above { 0 < level }
         requires there { level < length self.now }
-        ensures { result ≡ children_of greatest.now (level_of self.now level) (level_of self.now (level - 1)) }
+        ensures { result ≡ children_of greatest.now (level_of self.now level)
+            (level_of self.now (level - 1)) }
     {
         let Some(nodes) = self.level(level) else {
             unreachable!()
@@ -162,8 +162,10 @@ impl TreeNodes {
         requires child { 0 < level → EndsAt (level_of self.old (level - 1)) at.now }
         requires first { IsNodeOf level first }
         requires second { IsNodeOf level second }
-        ensures before { IfOk result (λ before. value_at pos_cmp greatest.now (level_of self.old level) ≡ Some before) }
-        ensures ok { OnOk result (self.new ≡ divided level greatest.now at.now first second self.old) }
+        ensures before { IfOk result (λ before. value_at pos_cmp greatest.now
+            (level_of self.old level) ≡ Some before) }
+        ensures ok { OnOk result (self.new ≡ divided level greatest.now at.now first second
+            self.old) }
         ensures err { OnErr result (self.new ≡ self.old) }
     {
         let at = wide(at);
@@ -181,11 +183,13 @@ impl TreeNodes {
         root: NodePtr,
     ) -> Result<NodePtr, AllocError>
         requires before { IsBefore at.now greatest_pos }
-        requires child { 1 < length self.old → EndsAt (level_of self.old (length self.old - 2)) at.now }
+        requires child { 1 < length self.old → EndsAt (level_of self.old (length self.old - 2))
+            at.now }
         requires first { IsNodeOf (length self.old - 1) first }
         requires second { IsNodeOf (length self.old - 1) second }
         requires root { IsNodeOf (length self.old) root }
-        ensures before { IfOk result (λ before. level_of self.old (length self.old - 1) ≡ (greatest_pos, before) ∷ []) }
+        ensures before { IfOk result (λ before. level_of self.old (length self.old - 1)
+            ≡ (greatest_pos, before) ∷ []) }
         ensures ok { OnOk result (self.new
             ≡ under_root root (divided (length self.old - 1) greatest_pos at.now first second self.old)) }
         ensures err { OnErr result (self.new ≡ self.old) }
@@ -256,8 +260,10 @@ fn divide_node(
 ) -> Result<NodePtr, AllocError>
     requires there { EndsAt (level_of levels.old.items level) greatest.now }
     requires before { IsBefore at.now greatest.now }
-    ensures before { IfOk result (λ before. value_at pos_cmp greatest.now (level_of levels.old.items level) ≡ Some before) }
-    ensures ok { OnOk result (levels.new.items ≡ divided level greatest.now at.now first second levels.old.items) }
+    ensures before { IfOk result (λ before. value_at pos_cmp greatest.now
+        (level_of levels.old.items level) ≡ Some before) }
+    ensures ok { OnOk result (levels.new.items ≡ divided level greatest.now at.now first second
+        levels.old.items) }
     ensures err { OnErr result (levels.new.items ≡ levels.old.items) }
     ensures room { vec_capacity levels.new ≡ vec_capacity levels.old }
 {

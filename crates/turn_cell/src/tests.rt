@@ -79,7 +79,8 @@ fn draw<R: Wait>(
 ) -> Done
     requires { IsPassOf cell.now pass }
     ensures cell { IsPassOf cell.now result.pass }
-    ensures same { ((view result.pass).actor ≡ (view pass).actor) × ((view result.pass).ledger ≡ (view pass).ledger) }
+    ensures same { ((view result.pass).actor ≡ (view pass).actor)
+        × ((view result.pass).ledger ≡ (view pass).ledger) }
 {
     let mut numbers = Vec::new(alloc);
     for _ in 0..count {
@@ -130,11 +131,14 @@ fn draw_beside<R: Threads + Wait + Sync>(
         rt,
         || -> Done
             requires { IsSync R.row × IsPassOf cell.now other }
-            ensures { IsPassOf cell.entry.now result.pass × ((view result.pass).actor ≡ (view other).actor) }
+            ensures { IsPassOf cell.entry.now result.pass
+                × ((view result.pass).actor ≡ (view other).actor) }
         { draw(rt, alloc, cell, other, count) },
         || -> (Pass<Counter>, Option<Vec<Vec<u64>>>)
-            requires { IsSync R.row × IsPassOf cell.now first × ((view first).actor ≡ 0) × IsReady (next + 1) actors (view first) × (next < actors) × (actors ≤ 16) }
-            ensures { IsPassOf cell.entry.now result.0 × ((view result.0).actor ≡ 0) × IsBack (view first) (view result.0) }
+            requires { IsSync R.row × IsPassOf cell.now first × ((view first).actor ≡ 0)
+                × IsReady (next + 1) actors (view first) × (next < actors) × (actors ≤ 16) }
+            ensures { IsPassOf cell.entry.now result.0 × ((view result.0).actor ≡ 0)
+                × IsBack (view first) (view result.0) }
         { draw_beside(rt, alloc, cell, first, next + 1, actors, count) },
     );
     cell.join(&mut first, done.pass);

@@ -1,8 +1,10 @@
 pub mod Btrees
 pub mod CopyLaws
 pub mod Faults
+pub mod FollowerLaws
 pub mod KeyMapLaws
 pub mod KeyMaps
+pub mod LastLaws
 pub mod LayoutLaws
 pub mod Layouts
 pub mod LengthLaws

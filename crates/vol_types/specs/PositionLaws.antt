@@ -1,5 +1,5 @@
 -- The order of positions is total, tells any two positions apart, and is that of their numbers.
-use Rattle.std.proofs.Common.{◌≡◌, ℕ, ◌+◌, ◌-◌, ◌*◌, ◌^◌, ◌<◌, Bool, true, false, cond, Some, None, refl, sym, ap, ◌∙◌, arith}
+use Rattle.std.proofs.Common.{◌≡◌, ℕ, ◌+◌, ◌-◌, ◌*◌, ◌^◌, ◌<◌, ◌≤◌, Bool, true, false, cond, Some, None, refl, sym, ap, ◌∙◌, arith}
 use Rattle.std.specs.Prelude.{◌≢◌, ◌↔◌, ◌&&◌, MatchOption, nat_lt}
 use Rattle.std.specs.Cmp.{IsTotalOrder, nat_cmp_is}
 use Rattle.std.specs.Ordering.{nat_cmp, ordering_then, is_le, is_lt, is_eq}
@@ -7,6 +7,7 @@ use Rattle.std.specs.declared.cmp.Ordering.{Ordering}
 use Rattle.std.specs.declared.cmp.Ordering.TheVariants.{Less, Equal, Greater}
 use Rattle.std.proofs.lemmas.Bool.{ltb-true, ltb-false, true≢false}
 use Rattle.std.proofs.lemmas.Cmp.{on_total, then_total, nat_cmp_total, ranked}
+use Rattle.std.proofs.lemmas.Nat.{row_fits}
 use Rattle.std.proofs.lemmas.Map.Lookups.{CmpEqualImpliesEq, exact_pairs, exact_unsigned}
 use Rattle.vol_types.specs.declared.positions.Pos.{Pos}
 use Rattle.vol_types.specs.Positions.{pos_cmp, greatest_pos, next_pos, pos_number, is_within, IsWithin, IsNext}
@@ -23,39 +24,38 @@ pos_exact p q alike =
 pub pos_total : IsTotalOrder pos_cmp
 pos_total = then_total (on_total (λ p. p.inode) nat_cmp_total) (then_total (on_total (λ p. p.offset) nat_cmp_total) (on_total (λ p. p.snapshot) nat_cmp_total))
 
--- offsets, and then snapshots
-lower_number : (a b x y : ℕ) → x < 2 ^ 32 → y < 2 ^ 32 → ordering_then (nat_cmp a b) (nat_cmp x y) ≡ nat_cmp (a * 2 ^ 32 + x) (b * 2 ^ 32 + y)
-lower_number a b x y x_fits y_fits = by (nat_cmp a b) refl
-  where
-    by : (r : Ordering) → r ≡ nat_cmp a b → ordering_then r (nat_cmp x y) ≡ nat_cmp (a * 2 ^ 32 + x) (b * 2 ^ 32 + y)
-    by Less is = nat_cmp_is (a * 2 ^ 32 + x) (b * 2 ^ 32 + y) Less (omega (arith, x_fits, ranked a b Less is))
-    by Equal is = same (nat_cmp x y) refl (ranked a b Equal is)
-      where
-        same : (r : Ordering) → r ≡ nat_cmp x y → a ≡ b → r ≡ nat_cmp (a * 2 ^ 32 + x) (b * 2 ^ 32 + y)
-        same Less it eq = nat_cmp_is (a * 2 ^ 32 + x) (b * 2 ^ 32 + y) Less (omega (arith, eq, ranked x y Less it))
-        same Equal it eq = nat_cmp_is (a * 2 ^ 32 + x) (b * 2 ^ 32 + y) Equal (omega (arith, eq, ranked x y Equal it))
-        same Greater it eq = nat_cmp_is (a * 2 ^ 32 + x) (b * 2 ^ 32 + y) Greater (omega (arith, eq, ranked x y Greater it))
-    by Greater is = nat_cmp_is (a * 2 ^ 32 + x) (b * 2 ^ 32 + y) Greater (omega (arith, y_fits, ranked a b Greater is))
+-- products in the order of their first factors, with what is below the second factor added to each
+below_product : (low high width x y : ℕ) → low + width ≤ high → x < width → low + x < high + y
+below_product low high width x y le fits = omega (arith, le, fits)
 
--- inodes, and then the number of the rest
-upper_number : (a b x y : ℕ) → x < 2 ^ 96 → y < 2 ^ 96 → ordering_then (nat_cmp a b) (nat_cmp x y) ≡ nat_cmp (a * 2 ^ 96 + x) (b * 2 ^ 96 + y)
-upper_number a b x y x_fits y_fits = by (nat_cmp a b) refl
+-- numbers of two digits, the lower one below the width, are in the order of their digits
+joined_number : (width a b x y : ℕ) → x < width → y < width → ordering_then (nat_cmp a b) (nat_cmp x y) ≡ nat_cmp (a * width + x) (b * width + y)
+joined_number width a b x y x_fits y_fits = by (nat_cmp a b) refl
   where
-    by : (r : Ordering) → r ≡ nat_cmp a b → ordering_then r (nat_cmp x y) ≡ nat_cmp (a * 2 ^ 96 + x) (b * 2 ^ 96 + y)
-    by Less is = nat_cmp_is (a * 2 ^ 96 + x) (b * 2 ^ 96 + y) Less (omega (arith, x_fits, ranked a b Less is))
-    by Equal is = same (nat_cmp x y) refl (ranked a b Equal is)
+    by : (r : Ordering) → r ≡ nat_cmp a b → ordering_then r (nat_cmp x y) ≡ nat_cmp (a * width + x) (b * width + y)
+    by Less is = nat_cmp_is (a * width + x) (b * width + y) Less (below_product (a * width) (b * width) width x y (row_fits a width b width (ranked a b Less is) (omega arith)) x_fits)
+    by Equal is = same (nat_cmp x y) refl (ap (λ n. n * width) (ranked a b Equal is))
       where
-        same : (r : Ordering) → r ≡ nat_cmp x y → a ≡ b → r ≡ nat_cmp (a * 2 ^ 96 + x) (b * 2 ^ 96 + y)
-        same Less it eq = nat_cmp_is (a * 2 ^ 96 + x) (b * 2 ^ 96 + y) Less (omega (arith, eq, ranked x y Less it))
-        same Equal it eq = nat_cmp_is (a * 2 ^ 96 + x) (b * 2 ^ 96 + y) Equal (omega (arith, eq, ranked x y Equal it))
-        same Greater it eq = nat_cmp_is (a * 2 ^ 96 + x) (b * 2 ^ 96 + y) Greater (omega (arith, eq, ranked x y Greater it))
-    by Greater is = nat_cmp_is (a * 2 ^ 96 + x) (b * 2 ^ 96 + y) Greater (omega (arith, y_fits, ranked a b Greater is))
+        same : (r : Ordering) → r ≡ nat_cmp x y → a * width ≡ b * width → r ≡ nat_cmp (a * width + x) (b * width + y)
+        same Less it eq = nat_cmp_is (a * width + x) (b * width + y) Less (less (a * width) (b * width) eq (ranked x y Less it))
+          where
+            less : (low high : ℕ) → low ≡ high → x < y → low + x < high + y
+            less low high eq lt = omega (arith, eq, lt)
+        same Equal it eq = nat_cmp_is (a * width + x) (b * width + y) Equal (both (a * width) (b * width) eq (ranked x y Equal it))
+          where
+            both : (low high : ℕ) → low ≡ high → x ≡ y → low + x ≡ high + y
+            both low high eq is = omega (arith, eq, is)
+        same Greater it eq = nat_cmp_is (a * width + x) (b * width + y) Greater (more (a * width) (b * width) eq (ranked x y Greater it))
+          where
+            more : (low high : ℕ) → low ≡ high → y < x → high + y < low + x
+            more low high eq lt = omega (arith, eq, lt)
+    by Greater is = nat_cmp_is (a * width + x) (b * width + y) Greater (below_product (b * width) (a * width) width y x (row_fits b width a width (ranked a b Greater is) (omega arith)) y_fits)
 
 -- Positions are in the order of their numbers.
 pub pos_cmp-number : (p q : Pos) → PosFits p → PosFits q → pos_cmp p q ≡ nat_cmp (pos_number p) (pos_number q)
 pos_cmp-number p q p_fits q_fits =
-    ap (ordering_then (nat_cmp p.inode q.inode)) (lower_number p.offset q.offset p.snapshot q.snapshot p_fits.snapshot q_fits.snapshot)
-    ∙ upper_number p.inode q.inode (p.offset * 2 ^ 32 + p.snapshot) (q.offset * 2 ^ 32 + q.snapshot) (omega (arith, p_fits.offset, p_fits.snapshot)) (omega (arith, q_fits.offset, q_fits.snapshot))
+    ap (ordering_then (nat_cmp p.inode q.inode)) (joined_number (2 ^ 32) p.offset q.offset p.snapshot q.snapshot p_fits.snapshot q_fits.snapshot)
+    ∙ joined_number (2 ^ 96) p.inode q.inode (p.offset * 2 ^ 32 + p.snapshot) (q.offset * 2 ^ 32 + q.snapshot) (omega (arith, p_fits.offset, p_fits.snapshot)) (omega (arith, q_fits.offset, q_fits.snapshot))
 
 -- The numbers of positions have 160 bits.
 pub pos_number-fits : (p : Pos) → PosFits p → pos_number p < 2 ^ 160

@@ -18,6 +18,7 @@ mod ranges;
 mod space;
 mod spare;
 mod values;
+mod widths;
 
 pub use failure::Failed;
 pub use keys::{Key, Update, key_length};
@@ -26,7 +27,7 @@ pub use laws::{
     maps_are_functions, positions_are_ordered, rising_lists_are_sorted,
 };
 pub use layout::{Layout, Lost};
-pub use limits::{BLOCK_SIZE, BUCKET_BLOCKS, NODE_LIMIT};
+pub use limits::{BLOCK_SIZE, BUCKET_BLOCKS, NODE_LIMIT, SET_HEAD};
 pub use lists::{Duplicate, Listing};
 pub use maps::copy_map;
 pub use pointers::{NodeEnd, NodePtr, Place, Pointer};
@@ -35,6 +36,7 @@ pub use queries::{Look, Query};
 pub use space::Short;
 pub use spare::SpareList;
 pub use values::{Extent, FileKind, Inode, Link, Live, Snap, SnapState, Sub, Value};
+pub use widths::{follower, wide};
 
 /// A list of bytes.
 pub type Bytes = Listing<u8>;

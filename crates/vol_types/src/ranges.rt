@@ -21,7 +21,7 @@ impl Value {
             Value::Back { .. } => true,
             Value::Gone => true,
             Value::Counter { .. } => true,
-            Value::Node(node) => is_node(node),
+            Value::Node(node) => node.is_in_range(),
         }
     }
 }
@@ -95,7 +95,8 @@ fn do_links_rise(links: &[Link]) -> bool
 }
 
 fn is_link_above(before: Option<&Link>, link: &Link) -> bool
-    ensures { IsTrue result ↔ IsAbove name_cmp (option_map (λ l. l.name) (option_copied before.entry)) link.now.name }
+    ensures { IsTrue result ↔ IsAbove name_cmp (option_map (λ l. l.name)
+        (option_copied before.entry)) link.now.name }
 {
     match before {
         None => true,
@@ -136,7 +137,8 @@ fn do_subs_rise(subs: &[Sub]) -> bool
 }
 
 fn is_sub_above(before: Option<&Sub>, sub: &Sub) -> bool
-    ensures { IsTrue result ↔ IsAbove name_cmp (option_map (λ s. s.name) (option_copied before.entry)) sub.now.name }
+    ensures { IsTrue result ↔ IsAbove name_cmp (option_map (λ s. s.name)
+        (option_copied before.entry)) sub.now.name }
 {
     match before {
         None => true,
@@ -181,7 +183,8 @@ fn do_devices_rise(pointers: &[Pointer]) -> bool
 }
 
 fn is_device_above(before: Option<&Pointer>, pointer: &Pointer) -> bool
-    ensures { IsTrue result ↔ IsAbove nat_cmp (option_map (λ p. p.place.dev) (option_copied before.entry)) pointer.now.place.dev }
+    ensures { IsTrue result ↔ IsAbove nat_cmp (option_map (λ p. p.place.dev)
+        (option_copied before.entry)) pointer.now.place.dev }
 {
     match before {
         None => true,
@@ -189,26 +192,32 @@ fn is_device_above(before: Option<&Pointer>, pointer: &Pointer) -> bool
     }
 }
 
-fn is_node(node: &NodePtr) -> bool
-    ensures { IsTrue result ↔ IsNode node.now }
-{
-    if node.level > 7 {
-        return false;
+impl NodePtr {
+    /// Whether its level, the number of its places and the places are in range.
+    pub fn is_in_range(&self) -> bool
+        ensures { IsTrue result ↔ IsNode self.now }
+    {
+        if self.level > 7 {
+            return false;
+        }
+        if self.places.is_empty() || self.places.len() > 3 {
+            return false;
+        }
+        are_buckets(self.places.as_slice())
     }
-    if node.places.is_empty() || node.places.len() > 3 {
-        return false;
-    }
-    are_buckets(node.places.as_slice())
 }
 
 fn are_buckets(places: &[Place]) -> bool
     ensures { IsTrue result ↔ All IsBucket places.now }
 {
-    places.iter().all(|place| is_bucket(place))
+    places.iter().all(|place| place.is_bucket())
 }
 
-fn is_bucket(place: &Place) -> bool
-    ensures { IsTrue result ↔ IsBucket place.now }
-{
-    place.dev < 8 && place.block % BUCKET_BLOCKS == 0
+impl Place {
+    /// Whether it is the first block of a bucket of one of at most eight devices.
+    pub fn is_bucket(&self) -> bool
+        ensures { IsTrue result ↔ IsBucket self.now }
+    {
+        self.dev < 8 && self.block % BUCKET_BLOCKS == 0
+    }
 }

@@ -16,7 +16,8 @@ impl<M: Machine> TurnCell<M> {
     /// `passes`. Where there is no memory the machine comes back.
     pub fn new(alloc: Global, machine: M, passes: u8) -> Result<(TurnCell<M>, Pass<M>), M>
         requires { (1 ≤ passes) × (passes ≤ M.actors) }
-        ensures { MatchResult result (λ r. IsPassOf r.0 r.1 × (view r.1 ≡ first_view M.trace M.mine machine passes)) (λ m. m ≡ machine) }
+        ensures { MatchResult result (λ r. IsPassOf r.0 r.1
+            × (view r.1 ≡ first_view M.trace M.mine machine passes)) (λ m. m ≡ machine) }
     {
         let words = [0, machine.length()];
         let about = Opening {

@@ -30,7 +30,8 @@ impl<M: Machine> TurnCell<M> {
         requires cell { seat.old.table_id ≡ self.now.table.shared.table_id }
         requires actor { MayGive seat.old.me.0 A.actor }
         requires idle { (seat.old.me.0.turn ≡ None) × IsSome seat.old.me.0.mine }
-        ensures cell { (seat.new.table_id ≡ seat.old.table_id) × (result.table_id ≡ seat.old.table_id) }
+        ensures cell { (seat.new.table_id ≡ seat.old.table_id)
+            × (result.table_id ≡ seat.old.table_id) }
         ensures old { seat.new.me ≡ (gave A.actor seat.old.me.0, seat.old.me.1) }
         ensures new { result.me ≡ (given M.mine A.actor seat.old.me.0, []) }
     {

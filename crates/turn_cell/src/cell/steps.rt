@@ -65,10 +65,15 @@ impl<M: Machine> TurnCell<M> {
     fn put(&self, seat: &mut Place<M>, machine: M)
         requires cell { seat.old.table_id ≡ self.now.table.shared.table_id }
         requires slot { seat.old.me.1 ≡ (0, None) ∷ [] }
-        requires turn { IfSome seat.old.me.0.turn (λ m. IsPrefix (M.trace m) (M.trace machine) × ((other : ℕ) → other ≢ seat.old.me.0.actor → M.mine machine other ≡ M.mine m other)) }
+        requires turn { IfSome seat.old.me.0.turn (λ m. IsPrefix (M.trace m) (M.trace machine)
+            × ((other : ℕ) → other ≢ seat.old.me.0.actor → M.mine machine other ≡ M.mine m other)) }
         requires live { IsSome seat.old.me.0.turn × IsSome seat.old.me.0.mine }
         ensures cell { seat.new.table_id ≡ seat.old.table_id }
-        ensures view { seat.new.me ≡ (record (caught_up M.trace M.mine machine seat.old.me.0) { turn = None }, []) }
+        ensures view { seat.new.me ≡ (
+          record (caught_up M.trace M.mine machine seat.old.me.0)
+              { turn = None },
+          [],
+        ) }
     {
         let length = machine.length();
         let shared = &self.table.shared;

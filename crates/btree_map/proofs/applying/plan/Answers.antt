@@ -1,6 +1,6 @@
 use Rattle.std.proofs.Common.{List, take, sym, subst}
 use Rattle.btree_map.proofs.Planning.{planned_more, planned_none, take_read}
-use Rattle.btree_map.proofs.Updating.{key_map-cuts}
+use Rattle.btree_map.specs.KeyLaws.{key_map-cuts}
 use Rattle.btree_map.specs.Applied.{ArePlanned}
 use Rattle.btree_map.specs.Trees.{keys_of_cuts}
 use Rattle.vol_types.specs.Ranges.{IsKeyValue}

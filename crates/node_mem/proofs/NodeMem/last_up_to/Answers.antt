@@ -3,7 +3,8 @@ use Rattle.std.specs.Map.Iter.{deref_pair}
 use Rattle.vol_types.specs.declared.positions.Pos.{Pos}
 use Rattle.vol_types.specs.declared.values.Value.{Value}
 use Rattle.node_mem.specs.Nodes.{last_of}
-use Rattle.node_mem.specs.RangeLaws.{up_to-range, last_taken}
+use Rattle.node_mem.specs.RangeLaws.{up_to-range}
+use Rattle.vol_types.specs.LastLaws.{last_taken}
 use Rattle.node_mem.proofs.NodeMem.last_up_to.Goals as goal
 
 pub returns : goal.returns

@@ -2,75 +2,26 @@ use Rattle.std.proofs.Common.{◌≡◌, ◌≤◌, inl, [], Some, None, Global,
 use Rattle.std.specs.Rc.{rc_str_bytes}
 use Rattle.dev_model.specs.FrameLaws.{only_read_here, stay_here}
 use Rattle.record_log.specs.Survives.{Survives}
-use Rattle.shell.specs.declared.early_end.EarlyEnd.TheVariants.{OutOfMemory}
-use Rattle.shell.specs.declared.task.Task.{Task}
-use Rattle.shell.specs.declared.task.Task.TheVariants.{Run as ToRun, Format as ToFormat}
-use Rattle.shell.specs.Tasks.{IsFormat, IsRun, task_of}
+use Rattle.shell.specs.Tasks.{IsAsked, task_of}
 use Rattle.shell.specs.Causes.{ArgumentsCause, SourceFailed}
 use Rattle.shell.specs.Mounts.{OnlyReadUnmounted}
 use Rattle.shell.specs.Runs.{Run}
-use Rattle.shell.proofs.Asking.{Fits, format_fits}
-use Rattle.shell.proofs.EndingEarly.{arguments_cause, arguments_source, ended_early, formatted}
+use Rattle.shell.proofs.EndingEarly.{arguments_cause, arguments_source, ended_early}
 use Rattle.shell.proofs.run.run_words.Goals as goal
 
-pub returns-in-Ok-Run : goal.returns-in-Ok-Run
-returns-in-Ok-Run g c =
+pub run_task-requires-after_bounds : goal.run_task-requires-after_bounds
+run_task-requires-after_bounds g c κs within =
     let words = map (rc_str_bytes {Z = Global}) c.args.words.now in
-    let run : IsRun words (g.D.Devices.state c.args.devices).sizes =
-    subst (λ n. task_of n words ≡ Some ToRun) c.count.ensures.count (subst (λ (task : Task). task_of c.count.result words ≡ Some task) c.in-Ok-Run.field-0-is c.in-Ok-Run.ensures.ok) in
-    c.run_script.ensures words run
-
-pub formatted_line-requires : goal.formatted_line-requires
-formatted_line-requires g c =
-    let words = map (rc_str_bytes {Z = Global}) c.args.words.now in
-    let layout = c.in-Ok-Format.layout in
-    let fits : Fits c.count.result layout = format_fits c.count.result words layout (subst (λ (task : Task). task_of c.count.result words ≡ Some task) c.in-Ok-Format.field-0-is c.in-Ok-Format.ensures.ok) in
-    fits.some
-
-pub format_devices-requires-clause-layout : goal.format_devices-requires-clause-layout
-format_devices-requires-clause-layout g c =
-    let words = map (rc_str_bytes {Z = Global}) c.args.words.now in
-    let layout = c.in-Ok-Format.layout in
-    let fits : Fits c.count.result layout = format_fits c.count.result words layout (subst (λ (task : Task). task_of c.count.result words ≡ Some task) c.in-Ok-Format.field-0-is c.in-Ok-Format.ensures.ok) in
-    fits.is
-
-pub format_devices-requires-clause-count : goal.format_devices-requires-clause-count
-format_devices-requires-clause-count g c =
-    let words = map (rc_str_bytes {Z = Global}) c.args.words.now in
-    let layout = c.in-Ok-Format.layout in
-    let fits : Fits c.count.result layout = format_fits c.count.result words layout (subst (λ (task : Task). task_of c.count.result words ≡ Some task) c.in-Ok-Format.field-0-is c.in-Ok-Format.ensures.ok) in
-    fits.count ∙ c.count.ensures.count
+    let asked : IsAsked (g.D.Devices.state c.args.devices).sizes c.in-Ok.task = record { arguments = words; asked = subst (λ n. task_of n words ≡ Some c.in-Ok.task) c.count.ensures.count c.in-Ok.ensures.ok } in
+    asked
 
 pub returns-in-Ok : goal.returns-in-Ok
 returns-in-Ok g c =
-    let D = g.D.Devices in
-    let S = g.S.Source in
-    let K = g.K.Sink in
     let words = map (rc_str_bytes {Z = Global}) c.args.words.now in
-    let layout = c.in-Ok-Format.layout in
-    let ended = c.format_devices.result in
-    let format : IsFormat words (D.state c.args.devices).sizes layout =
-    subst (λ n. task_of n words ≡ Some (ToFormat layout)) c.count.ensures.count (subst (λ (task : Task). task_of c.count.result words ≡ Some task) c.in-Ok-Format.field-0-is c.in-Ok-Format.ensures.ok) in
-    let all : Run g.row.D.Denot g.row.K.Denot = record {
-      arguments = words;
-      streams = record { left = S.left c.args.source.now; held = K.held c.args.sink.now; held_after = K.held c.format_devices.new.sink };
-      faults = record { source = S.faults c.args.source.now; source_after = S.faults c.args.source.now; sink = K.faults c.args.sink.now; sink_after = K.faults c.format_devices.new.sink };
-      sink = c.args.sink.now;
-      sink_after = c.format_devices.new.sink;
-      devices = c.args.devices;
-      devices_after = ended.devices;
-      state = D.state c.args.devices;
-      state_after = D.state ended.devices;
-      status = ended.status;
-      early_end = ended.early_end;
-      trace = ended.trace;
-      acks = ended.acks;
-      shorts = ended.shorts;
-    } in
-    formatted S.tells K.tells D.tells K.held K.given_at all layout format c.format_devices.ensures.formats refl c.format_devices.ensures.shorts
+    c.run_task.ensures words (subst (λ n. task_of n words ≡ Some c.in-Ok.task) c.count.ensures.count c.in-Ok.ensures.ok)
 
-pub returns-in-Ok-Format : goal.returns-in-Ok-Format
-returns-in-Ok-Format g c =
+pub returns-in-Err : goal.returns-in-Err
+returns-in-Err g c =
     let D = g.D.Devices in
     let S = g.S.Source in
     let K = g.K.Sink in
@@ -86,40 +37,6 @@ returns-in-Ok-Format g c =
       faults = record { source = S.faults c.args.source.now; source_after = S.faults c.args.source.now; sink = K.faults c.args.sink.now; sink_after = K.faults c.end_early.new.sink };
       sink = c.args.sink.now;
       sink_after = c.end_early.new.sink;
-      devices = first;
-      devices_after = ended.devices;
-      state = old;
-      state_after = D.state ended.devices;
-      status = ended.status;
-      early_end = ended.early_end;
-      trace = ended.trace;
-      acks = ended.acks;
-      shorts = ended.shorts;
-    } in
-    ended_early S.tells K.tells D.tells K.held K.given_at all OutOfMemory early.ends
-    (inl (record { cause = inl tt; untouched = early.devices })) refl
-    (subst (λ d. OnlyReadUnmounted D.tells old (D.state d)) (sym early.devices) (λ told error. only_read_here D.tells old))
-    (λ told volume. subst (λ d. Survives volume old (D.state d) [] []) (sym early.devices) (c.reading_is_survived.ensures volume old old (stay_here old)))
-    (subst (λ d. old.moment ≤ (D.state d).moment) (sym early.devices) (omega arith))
-    early.early early.shorts
-
-pub returns : goal.returns
-returns g c =
-    let D = g.D.Devices in
-    let S = g.S.Source in
-    let K = g.K.Sink in
-    let first = c.args.devices in
-    let early = c.end_early-in-Err.ensures in
-    let ended = c.end_early-in-Err.result in
-    let old = D.state first in
-    let words = map (rc_str_bytes {Z = Global}) c.args.words.now in
-    let left = S.left c.args.source.now in
-    let all : Run g.row.D.Denot g.row.K.Denot = record {
-      arguments = words;
-      streams = record { left = left; held = K.held c.args.sink.now; held_after = K.held c.end_early-in-Err.new.sink };
-      faults = record { source = S.faults c.args.source.now; source_after = S.faults c.args.source.now; sink = K.faults c.args.sink.now; sink_after = K.faults c.end_early-in-Err.new.sink };
-      sink = c.args.sink.now;
-      sink_after = c.end_early-in-Err.new.sink;
       devices = first;
       devices_after = ended.devices;
       state = old;

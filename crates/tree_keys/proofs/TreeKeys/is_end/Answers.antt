@@ -1,6 +1,6 @@
 use Rattle.std.proofs.Common.{sym, ap, ◌∙◌}
 use Rattle.tree_keys.specs.Cuts.{Cut, is_end}
-use Rattle.tree_keys.proofs.Looks.{is_end-keys}
+use Rattle.tree_keys.specs.LeafLaws.{is_end-keys}
 use Rattle.tree_keys.proofs.TreeKeys.is_end.Goals as goal
 
 pub returns : goal.returns

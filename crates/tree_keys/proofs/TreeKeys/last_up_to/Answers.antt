@@ -1,7 +1,8 @@
 use Rattle.std.proofs.Common.{◌∙◌, ap}
 use Rattle.std.specs.Map.Iter.{deref_pair}
 use Rattle.node_mem.specs.Nodes.{last_of}
-use Rattle.node_mem.specs.RangeLaws.{last_taken, up_to-range}
+use Rattle.node_mem.specs.RangeLaws.{up_to-range}
+use Rattle.vol_types.specs.LastLaws.{last_taken}
 use Rattle.vol_types.specs.declared.positions.Pos.{Pos}
 use Rattle.vol_types.specs.declared.values.Value.{Value}
 use Rattle.tree_keys.proofs.TreeKeys.last_up_to.Goals as goal

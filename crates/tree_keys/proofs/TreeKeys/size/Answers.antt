@@ -2,7 +2,7 @@ use Rattle.std.proofs.Common.{◌-◌, ◌^◌, Some, None, cond, sym, ap, ◌�
 use Rattle.std.specs.Prelude.{is_some, min}
 use Rattle.std.specs.Map.{keys_of}
 use Rattle.tree_keys.specs.Counts.{leaf_size}
-use Rattle.tree_keys.proofs.Looks.{is_end-keys}
+use Rattle.tree_keys.specs.LeafLaws.{is_end-keys}
 use Rattle.tree_keys.proofs.TreeKeys.size.Goals as goal
 
 pub returns-in-None : goal.returns-in-None

@@ -11,7 +11,7 @@ pub returns : goal.returns
 returns c =
     let name = c.args.name.now in
     let names = c.args.self.now in
-    let count : c.count_in_slot-count.result ≡ count_in_slot (slot_of name) names = c.count_in_slot-count.ensures ∙ ap (λ s. count_in_slot s names) (c.slot.ensures ∙ ap slot_of c.as_slice.ensures) in
+    let count : c.count_in_slot-count.result ≡ count_in_slot (slot_of name) names = c.count_in_slot-count.ensures ∙ ap (λ s. count_in_slot s names) c.requires in
     let absent : refused_if (is_some (value_at name_cmp name names)) Exists ≡ Ok c.in_ok-refuse_if.field-0 =
     ap (λ o. refused_if (is_some o) Exists) (sym c.number.ensures) ∙ ap (λ b. refused_if b Exists) (sym c.is_some.ensures) ∙ sym c.refuse_if.ensures ∙ c.in_ok-refuse_if.was in
     c.refuse_if-2.ensures ∙ ap (λ k. refused_if (nat_le 8 k) Crowded) count

@@ -1,0 +1,4 @@
+mod Adding
+mod Exchanging
+mod Growing
+mod Rooming

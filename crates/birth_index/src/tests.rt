@@ -1,0 +1,142 @@
+//! An index of nine btrees, of which one has three nodes; two nodes of one birth; and nodes in the place of one.
+
+ghost use Rattle.std.specs.Prelude.{◌≤◌, IfOk};
+ghost use Rattle.tree_nodes.specs.Levels.{IsNodeOf};
+
+use super::*;
+use std::alloc::{AllocError, Global};
+use std::test::Fail;
+use tree_nodes::TreeNodes;
+use vol_types::{Btree, NodePtr, Place, Places, Pos};
+
+fn pointer(alloc: Global, birth: u64, level: u8) -> Result<NodePtr, AllocError>
+    requires { level ≤ 7 }
+    ensures { IfOk result (IsNodeOf level) }
+{
+    let places = Places::from_slice(alloc, &[Place { dev: 0, block: 512 }])?;
+    Ok(NodePtr {
+        birth,
+        level,
+        places,
+    })
+}
+
+fn at(offset: u64) -> Pos {
+    Pos {
+        inode: 0,
+        offset,
+        snapshot: 0,
+    }
+}
+
+fn name(btree: Btree, level: u8, greatest: Pos) -> NodeName {
+    NodeName {
+        btree,
+        level,
+        greatest,
+    }
+}
+
+// A btree of one node, which is divided at a position where this is the second btree.
+fn tree(alloc: Global, place: u8) -> Result<TreeNodes, AllocError> {
+    let mut nodes = TreeNodes::leaf(alloc, pointer(alloc, 10 + u64::from(place), 0)?)?;
+    let end = at(7);
+    if place != 1 || nodes.height() != 1 || end >= Pos::GREATEST {
+        return Ok(nodes);
+    }
+    let (first, second) = (pointer(alloc, 21, 0)?, pointer(alloc, 22, 0)?);
+    nodes.divide_root(alloc, &end, first, second, pointer(alloc, 23, 1)?)?;
+    Ok(nodes)
+}
+
+// Nine btrees, and the birth of the root of a tenth, which is none of them.
+fn nine(alloc: Global) -> Result<Vec<TreeNodes>, AllocError> {
+    let mut trees = Vec::new(alloc);
+    for place in 0..10 {
+        trees.push(tree(alloc, place)?)?;
+    }
+    Ok(trees)
+}
+
+/// Births, and where they lead: those of a leaf that is gone and of a tenth btree lead nowhere.
+fn expected() -> [(u64, Option<NodeName>); 7] {
+    [
+        (10, Some(name(Btree::Extents, 0, Pos::GREATEST))),
+        (11, None),
+        (18, Some(name(Btree::Counters, 0, Pos::GREATEST))),
+        (19, None),
+        (21, Some(name(Btree::Inodes, 0, at(7)))),
+        (22, Some(name(Btree::Inodes, 0, Pos::GREATEST))),
+        (23, Some(name(Btree::Inodes, 1, Pos::GREATEST))),
+    ]
+}
+
+#[test]
+fn births_lead_to_nodes(rt: HostRuntime) -> Result<(), Fail> {
+    let alloc = rt.alloc();
+    let trees = nine(alloc)?;
+    match BirthIndex::of(alloc, trees.as_slice()) {
+        Err(_) => assert!(rt; false),
+        Ok(index) => {
+            for (birth, name) in expected() {
+                assert_eq!(rt; index.find(birth).copied(), name);
+            }
+        }
+    }
+    Ok(())
+}
+
+// Takes the memory for another birth of a node, and uses it or gives it back. It answers whether the births fit.
+fn exchange(
+    index: &mut BirthIndex,
+    gone: u64,
+    fresh: u64,
+    is_used: bool,
+) -> Result<bool, AllocError> {
+    let Some(name) = index.find(gone).copied() else {
+        return Ok(false);
+    };
+    if index.find(fresh).is_some() {
+        return Ok(false);
+    }
+    let news = [Named { birth: fresh, name }];
+    index.take_room(gone, &name, &news)?;
+    if is_used {
+        index.replace(gone, &news);
+    } else if index.find(gone).is_some() {
+        index.give_room_back(gone, &name, &news);
+    }
+    Ok(true)
+}
+
+#[test]
+fn births_change(rt: HostRuntime) -> Result<(), Fail> {
+    let alloc = rt.alloc();
+    let trees = nine(alloc)?;
+    match BirthIndex::of(alloc, trees.as_slice()) {
+        Err(_) => assert!(rt; false),
+        Ok(index) => {
+            let mut index = index;
+            for (fresh, is_used) in [(31, false), (32, true)] {
+                assert!(rt; exchange(&mut index, 21, fresh, is_used)?);
+            }
+            let found = [21, 31, 32].map(|birth| index.find(birth).copied());
+            assert_eq!(rt; found, [None, None, Some(name(Btree::Inodes, 0, at(7)))]);
+        }
+    }
+    Ok(())
+}
+
+#[test]
+fn one_birth_twice(rt: HostRuntime) -> Result<(), Fail> {
+    let alloc = rt.alloc();
+    let mut trees = Vec::new(alloc);
+    for place in [3, 2, 0, 2, 3] {
+        trees.push(tree(alloc, place)?)?;
+    }
+    match BirthIndex::of(alloc, trees.as_slice()) {
+        Err(fault) => assert_eq!(rt; fault, IndexFault::SameBirth { birth: 12 }),
+        Ok(_) => assert!(rt; false),
+    }
+    Ok(())
+}

@@ -1,0 +1,181 @@
+-- The law over images: what two images mean is the same where they agree on the base of an entry that is the newest in both.
+use Rattle.std.proofs.Common.{◌≡◌, ℕ, zero, suc, ◌+◌, ◌<◌, ◌≤◌, List, [], ◌∷◌, ◌++◌, length, map, Option, Some, None, Result, Ok, Err, refl, sym, ap, subst, ◌∙◌, arith}
+use Rattle.std.specs.List.{AllByRecursion, flat_map}
+use Rattle.std.specs.Option.{ok_or, option_or}
+use Rattle.std.specs.Prelude.{All, option_and_then}
+use Rattle.std.proofs.lemmas.List.Elements.{All-head, All-tail, All-weaker}
+use Rattle.dev_model.specs.Disk.{Image, block_at, blocks_of}
+use Rattle.geometry.specs.Sessions.{greater, greatest_session, session_at, session_in, session_named}
+use Rattle.geometry.specs.Superblocks.{counting, layout_in}
+use Rattle.geometry.specs.SuperLaws.{same_counting, same_layout}
+use Rattle.journal_ring.specs.Counting.{needed_by, newest}
+use Rattle.journal_ring.specs.Parts.{area_of}
+use Rattle.journal_ring.specs.declared.found.FoundEntry.{FoundEntry}
+use Rattle.key_codec.specs.Combined.{bind_ok, ok_is}
+use Rattle.key_codec.specs.Formats.{◌>>=◌, carried}
+use Rattle.node_store.specs.Copies.{copies_at, copy_at, shown_at, shown_below, shown_in}
+use Rattle.node_store.specs.NodeContents.{content_in, content_of, wanted_of}
+use Rattle.vol_types.specs.Limits.{bucket_blocks}
+use Rattle.vol_types.specs.declared.layout.Layout.{Layout}
+use Rattle.vol_types.specs.declared.pointers.NodePtr.{NodePtr}
+use Rattle.vol_types.specs.declared.pointers.Place.{Place}
+use Rattle.key_meaning.specs.Blocks.{block_of}
+use Rattle.key_meaning.specs.Checks.{IsSound}
+use Rattle.key_meaning.specs.ReadLaws.{forest_in-agree}
+use Rattle.key_meaning.specs.Reads.{AgreeOnBlocks, AgreeOnEntry as ReadAlike}
+use Rattle.image_view.specs.Bases.{AgreeAt, AgreeInBucket, AgreeOnBase, AgreeOnContent, AgreeOnEntry, AgreeOnNode, IsNewest}
+use Rattle.image_view.specs.Found.{Found, MountsAs, Volume, bad_place, found, node_places, read_in, sets_in, super_fault, updates_of, volume_of, with_digest}
+use Rattle.image_view.specs.TreeLaws.{HasSameSets, HaveSameSets, trees_of-same}
+use Rattle.image_view.specs.Trees.{TreesRead, nodes_of, trees_of}
+use Rattle.image_view.specs.declared.fault.MountFault.{MountFault}
+use Rattle.image_view.specs.declared.fault.MountFault.TheVariants.{BadNode, MissingEntry, NoEntry}
+
+-- ---- the buckets of nodes
+
+-- the first so many blocks of a bucket
+below-same : (one other : Image) (place : Place) (count : ℕ) → count ≤ bucket_blocks → AgreeInBucket one other place → shown_below (block_at other) place count ≡ shown_below (block_at one) place count
+below-same one other place zero few agree = refl
+below-same one other place (suc n) few agree =
+    ap (λ shown. shown ++ shown_at (block_at other) place n ∷ []) (below-same one other place n (omega (arith, few)) agree)
+    ∙ ap (λ bytes. shown_below (block_at one) place n ++ option_and_then shown_in bytes ∷ []) (sym (agree n (omega (arith, few))))
+
+-- a bucket shows the same where the images agree on it
+copy-same : (one other : Image) (place : Place) → AgreeInBucket one other place → copy_at (block_at other) place ≡ copy_at (block_at one) place
+unfolding copy_at
+copy-same one other place agree = below-same one other place bucket_blocks (omega arith) agree
+
+-- and so at several places
+copies-same : (one other : Image) (places : List Place) → All (AgreeInBucket one other) places → copies_at (block_at other) places ≡ copies_at (block_at one) places
+copies-same one other [] agree = refl
+copies-same one other (place ∷ places) agree =
+    ap (λ copy. copy ∷ copies_at (block_at other) places) (copy-same one other place (All-head (AgreeInBucket one other) place places agree))
+    ∙ ap (λ copies. copy_at (block_at one) place ∷ copies) (copies-same one other places (All-tail (AgreeInBucket one other) place places agree))
+
+-- Images that agree on a node's buckets have the same sets of it.
+pub node-same : (layout : Layout) (one other : Image) (pointer : NodePtr) → AgreeOnNode one other pointer → HasSameSets (sets_in layout one) (sets_in layout other) pointer
+node-same layout one other pointer agree = λ btree least greatest.
+    ap (λ copies. carried (bad_place pointer) (content_in copies layout.id (wanted_of btree least greatest pointer))) (copies-same one other pointer.places agree)
+
+nodes-same : (layout : Layout) (one other : Image) (pointers : List NodePtr) → All (AgreeOnNode one other) pointers → HaveSameSets (sets_in layout one) (sets_in layout other) pointers
+nodes-same layout one other [] agree = tt
+nodes-same layout one other (pointer ∷ pointers) agree =
+    (node-same layout one other pointer (All-head (AgreeOnNode one other) pointer pointers agree), nodes-same layout one other pointers (All-tail (AgreeOnNode one other) pointer pointers agree))
+
+-- ---- the sessions
+
+session_at-same : (id : List ℕ) (one other : Image) (dev block : ℕ) → block_at one dev block ≡ block_at other dev block → session_at id other dev block ≡ session_at id one dev block
+session_at-same id one other dev block agree = ap (option_and_then (session_named id block)) (sym agree)
+
+greatest_session-same : (id : List ℕ) (one other : Image) (count : ℕ) → ((dev : ℕ) → dev < count → block_at one dev 4 ≡ block_at other dev 4) → ((dev : ℕ) → dev < count → block_at one dev 5 ≡ block_at other dev 5)
+    → greatest_session id other count ≡ greatest_session id one count
+greatest_session-same id one other zero even odd = refl
+greatest_session-same id one other (suc dev) even odd =
+    ap (λ s. greater s (greater (session_at id other dev 4) (session_at id other dev 5))) (greatest_session-same id one other dev (λ d lt. even d (omega (arith, lt))) (λ d lt. odd d (omega (arith, lt))))
+    ∙ ap (λ s. greater (greatest_session id one dev) (greater s (session_at id other dev 5))) (session_at-same id one other dev 4 (even dev (omega arith)))
+    ∙ ap (λ s. greater (greatest_session id one dev) (greater (session_at id one dev 4) s)) (session_at-same id one other dev 5 (odd dev (omega arith)))
+
+-- ---- what is found
+
+-- what is carried on as a value was one
+carried-ok : {E F X : Type 0} (named : F → E) (r : Result X F) (x : X) → carried named r ≡ Ok x → r ≡ Ok x
+carried-ok named (Ok y) x is = ap (λ v. Ok v) (ok_is y x is)
+carried-ok named (Err fault) x is = absurd cc
+
+-- the steps of what is found, each with those after it; the last one
+abbrev made : Layout → ℕ → FoundEntry → List FoundEntry → TreesRead → Result Found MountFault
+made layout session last needed trees = Ok (record { layout = layout; session = session; last = last; needed = needed; trees = trees })
+
+abbrev trees_by : Image → Layout → ℕ → FoundEntry → List FoundEntry → Result Found MountFault
+trees_by image layout session last needed = carried BadNode (trees_of (sets_in layout image) (updates_of needed) last.entry.roots) >>= made layout session last needed
+
+abbrev entries_by : Image → Layout → ℕ → FoundEntry → Result Found MountFault
+entries_by image layout session last = carried MissingEntry (needed_by layout (area_of image) last) >>= trees_by image layout session last
+
+abbrev last_by : Image → Layout → ℕ → Result Found MountFault
+last_by image layout session = ok_or (newest layout (area_of image)) NoEntry >>= entries_by image layout session
+
+abbrev session_by : Image → Layout → Result Found MountFault
+session_by image layout = ok_or (session_in layout image) NoEntry >>= last_by image layout
+
+found-steps : (image : Image) → found image ≡ (carried super_fault (layout_in image) >>= session_by image)
+unfolding found
+found-steps image = refl
+
+module _ (one other : Image) (layout : Layout) (session : ℕ) (last : FoundEntry) (needed : List FoundEntry) (trees : TreesRead) where
+  parts-same : carried super_fault (layout_in one) ≡ Ok layout → ok_or (session_in layout one) NoEntry ≡ Ok session → trees_of (sets_in layout one) (updates_of needed) last.entry.roots ≡ Ok trees
+      → AgreeOnBase (record { layout = layout; session = session; last = last; needed = needed; trees = trees }) one other → IsNewest (record { layout = layout; session = session; last = last; needed = needed; trees = trees }) other
+      → found other ≡ made layout session last needed trees
+  parts-same lays names read agree new =
+      let layouts : layout_in one ≡ layout_in other = same_layout one other agree.lengths (λ dev. same_counting one other dev (agree.first_copies dev) (agree.second_copies dev)) in
+      let sessions : session_in layout other ≡ session_in layout one = greatest_session-same layout.id one other layout.metadata_replicas agree.even_sessions agree.odd_sessions in
+      found-steps other
+      ∙ ap (λ r. carried super_fault r >>= session_by other) (sym layouts)
+      ∙ ap (λ r. r >>= session_by other) lays
+      ∙ ap (λ s. ok_or s NoEntry >>= last_by other layout) sessions
+      ∙ ap (λ r. r >>= last_by other layout) names
+      ∙ ap (λ n. ok_or n NoEntry >>= entries_by other layout session) new.last
+      ∙ ap (λ n. carried MissingEntry n >>= trees_by other layout session last) new.needed
+      ∙ ap (λ t. carried BadNode t >>= made layout session last needed)
+      (trees_of-same (sets_in layout one) (sets_in layout other) (updates_of needed) last.entry.roots trees read (nodes-same layout one other (nodes_of trees.nodes) agree.nodes))
+
+-- The law over images: what is found in an image is found in each one that agrees with it on the base of its newest entry, where that
+-- entry is the newest too, and the entries that it needs are the same.
+pub found-same : (one other : Image) (f : Found) → found one ≡ Ok f → AgreeOnBase f one other → IsNewest f other → found other ≡ Ok f
+found-same one other f is agree new =
+    let a = bind_ok (carried super_fault (layout_in one)) (session_by one) f (sym (found-steps one) ∙ is) in
+    let b = bind_ok (ok_or (session_in a.0 one) NoEntry) (last_by one a.0) f a.2 in
+    let c = bind_ok (ok_or (newest a.0 (area_of one)) NoEntry) (entries_by one a.0 b.0) f b.2 in
+    let d = bind_ok (carried MissingEntry (needed_by a.0 (area_of one) c.0)) (trees_by one a.0 b.0 c.0) f c.2 in
+    let e = bind_ok (carried BadNode (trees_of (sets_in a.0 one) (updates_of d.0) c.0.entry.roots)) (made a.0 b.0 c.0 d.0) f d.2 in
+    let parts : Found = record { layout = a.0; session = b.0; last = c.0; needed = d.0; trees = e.0 } in
+    let whole : parts ≡ f = ok_is parts f e.2 in
+    parts-same one other a.0 b.0 c.0 d.0 e.0 a.1 b.1 (carried-ok BadNode (trees_of (sets_in a.0 one) (updates_of d.0) c.0.entry.roots) e.0 e.1)
+    (subst (λ (g : Found). AgreeOnBase g one other) (sym whole) agree) (subst (λ (g : Found). IsNewest g other) (sym whole) new)
+    ∙ e.2
+
+-- What an image's own newest entry is follows from what was found.
+pub found-newest : (image : Image) (f : Found) → found image ≡ Ok f → IsNewest f image
+found-newest image f is =
+    let a = bind_ok (carried super_fault (layout_in image)) (session_by image) f (sym (found-steps image) ∙ is) in
+    let b = bind_ok (ok_or (session_in a.0 image) NoEntry) (last_by image a.0) f a.2 in
+    let c = bind_ok (ok_or (newest a.0 (area_of image)) NoEntry) (entries_by image a.0 b.0) f b.2 in
+    let d = bind_ok (carried MissingEntry (needed_by a.0 (area_of image) c.0)) (trees_by image a.0 b.0 c.0) f c.2 in
+    let e = bind_ok (carried BadNode (trees_of (sets_in a.0 image) (updates_of d.0) c.0.entry.roots)) (made a.0 b.0 c.0 d.0) f d.2 in
+    let parts : Found = record { layout = a.0; session = b.0; last = c.0; needed = d.0; trees = e.0 } in
+    subst (λ (g : Found). IsNewest g image) (ok_is parts f e.2) (record {
+      last = or_none (newest a.0 (area_of image)) c.0 c.1;
+      needed = carried-ok MissingEntry (needed_by a.0 (area_of image) c.0) d.0 d.1;
+    })
+  where
+    or_none : (o : Option FoundEntry) (x : FoundEntry) → ok_or o NoEntry ≡ Ok x → o ≡ Some x
+    or_none None x same = absurd cc
+    or_none (Some y) x same = ap (λ v. Some v) (ok_is y x same)
+
+-- ---- the content of files
+
+-- what is read at places on which two images agree
+reads-same : (one other : Image) (digest : ℕ) (places : List Place) → All (λ place. AgreeAt one other place.dev place.block) places → read_in one places digest ≡ read_in other places digest
+reads-same one other digest [] agree = refl
+reads-same one other digest (place ∷ places) agree =
+    ap (λ bytes. option_or (with_digest digest bytes) (read_in one places digest)) (All-head (λ place. AgreeAt one other place.dev place.block) place places agree)
+    ∙ ap (λ rest. option_or (with_digest digest (block_at other place.dev place.block)) rest) (reads-same one other digest places (All-tail (λ place. AgreeAt one other place.dev place.block) place places agree))
+
+-- Images that agree on the blocks of all extents of what was found give the same for each.
+content-same : (f : Found) (one other : Image) → AgreeOnContent f one other → AgreeOnBlocks f.trees.keys (read_in one) (read_in other)
+content-same f one other agree = record {
+  each = All-weaker (AgreeOnEntry one other) (ReadAlike (read_in one) (read_in other))
+      (λ entry same extent is. record { each = λ index lt. reads-same one other (block_of extent index).digest (block_of extent index).places (same extent is index lt) }) f.trees.keys.extents agree.extents;
+}
+
+-- An image that agrees on the base and on the content of what was found in another one, and in which that entry is the newest too,
+-- mounts as the same volume.
+pub mounts-same : (one other : Image) (f : Found) (volume : Volume) → found one ≡ Ok f → AgreeOnBase f one other → AgreeOnContent f one other → IsNewest f other → MountsAs one volume → MountsAs other volume
+mounts-same one other f volume is agree content new mounts =
+    let same : f ≡ mounts.f = ok_is f mounts.f (sym is ∙ mounts.finds) in
+    record {
+      f = f;
+      finds = found-same one other f is agree new;
+      sound = subst (λ (g : Found). IsSound g.trees.keys (node_places g) g.layout) (sym same) mounts.sound;
+      volume_is = mounts.volume_is ∙ ap (volume_of one) (sym same)
+          ∙ ap (λ forest. record { layout = f.layout; commits = f.last.entry.commits; forest = forest }) (forest_in-agree f.trees.keys (read_in one) (read_in other) (content-same f one other content));
+    }

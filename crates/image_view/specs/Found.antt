@@ -1,0 +1,123 @@
+-- What an image means, in its parts: the layout and the session, the entries that are needed, the btrees that these and the nodes
+-- make; and with them the volume.
+use Rattle.std.specs.Prelude.{◌≡◌, ◌==◌, ℕ, ◌+◌, ◌*◌, ◌<◌, ◌^◌, Bool, if◌then◌else◌, List, [], ◌∷◌, map, All, Option, Some, None, option_and_then, Result, Ok, Err, ⊤}
+use Rattle.std.specs.List.{flat_map}
+use Rattle.std.specs.Option.{ok_or, option_or}
+use Rattle.dev_model.specs.Disk.{Image, block_at}
+use Rattle.geometry.specs.Sessions.{session_in}
+use Rattle.geometry.specs.Superblocks.{layout_in}
+use Rattle.geometry.specs.declared.fault.SuperFault.{SuperFault}
+use Rattle.geometry.specs.declared.fault.SuperFault.TheVariants as supers
+use Rattle.journal_ring.specs.Counting.{needed_by, newest}
+use Rattle.journal_ring.specs.Parts.{area_of}
+use Rattle.journal_ring.specs.declared.found.FoundEntry.{FoundEntry}
+use Rattle.key_codec.specs.Formats.{◌>>=◌, carried}
+use Rattle.key_meaning.specs.Checks.{IsFirstFailed, IsSound}
+use Rattle.key_meaning.specs.Forest.{Read, forest_in}
+use Rattle.node_store.specs.NodeContents.{NodeContent, content_of}
+use Rattle.plain_forest.specs.Forest.{Forest}
+use Rattle.vol_digest.specs.Digests.{short_of}
+use Rattle.vol_types.specs.declared.keys.Update.{Update}
+use Rattle.vol_types.specs.declared.layout.Layout.{Layout}
+use Rattle.vol_types.specs.declared.pointers.NodePtr.{NodePtr}
+use Rattle.vol_types.specs.declared.pointers.Place.{Place}
+use Rattle.image_view.specs.Trees.{SetsOf, TreesRead, Wanted, first_place, nodes_of, trees_of}
+use Rattle.image_view.specs.declared.fault.MountFault.{MountFault}
+use Rattle.image_view.specs.declared.fault.MountFault.TheVariants.{NoSuper, Version, Mixed, BadLayout, NoEntry, MissingEntry, BadNode, Unsound, DeviceFault, NoMemory}
+
+-- why an image without superblocks of one volume doesn't mount
+abbrev pub super_fault : SuperFault → MountFault
+super_fault supers.NoSuper = NoSuper
+super_fault supers.Version = Version
+super_fault supers.Mixed = Mixed
+super_fault supers.BadLayout = BadLayout
+super_fault (supers.DeviceFault dev) = DeviceFault dev
+super_fault supers.NoMemory = NoMemory
+
+-- a block of a node's bucket on its first place
+abbrev pub bad_place : NodePtr → ℕ → Place
+bad_place pointer n = record { dev = (first_place pointer).dev; block = (first_place pointer).block + n }
+
+-- what an image's sets of a node come to, or the place of the block at fault, on the node's first place
+abbrev pub sets_in : Layout → Image → SetsOf
+sets_in layout image wanted = carried (bad_place wanted.pointer) (content_of (block_at image) layout.id wanted.btree wanted.least wanted.greatest wanted.pointer)
+
+-- the updates of entries, in their order
+abbrev pub updates_of : List FoundEntry → List Update
+updates_of entries = flat_map (λ found. found.entry.updates) entries
+
+-- what is found in an image: the layout, the session, the newest entry, the entries that are needed up to it, the oldest first, and
+-- the btrees
+pub record Found : Type 0 where
+  pub layout : Layout
+  pub session : ℕ
+  pub last : FoundEntry
+  pub needed : List FoundEntry
+  pub trees : TreesRead
+
+-- what is found in an image, or the first fault
+unfoldable pub found : Image → Result Found MountFault
+found image = do
+  layout ← carried super_fault (layout_in image)
+  session ← ok_or (session_in layout image) NoEntry
+  last ← ok_or (newest layout (area_of image)) NoEntry
+  needed ← carried MissingEntry (needed_by layout (area_of image) last)
+  trees ← carried BadNode (trees_of (sets_in layout image) (updates_of needed) last.entry.roots)
+  Ok (record { layout = layout; session = session; last = last; needed = needed; trees = trees })
+
+-- the bytes at a place, if their digest is this one
+abbrev pub with_digest : ℕ → Option (List ℕ) → Option (List ℕ)
+with_digest digest None = None
+with_digest digest (Some bytes) = if short_of bytes == digest then Some bytes else None
+
+-- the bytes that an image holds at the first of these places whose digest this is, or none
+abbrev pub read_in : Image → Read
+read_in image [] digest = None
+read_in image (place ∷ places) digest = option_or (with_digest digest (block_at image place.dev place.block)) (read_in image places digest)
+
+-- a volume: how it lies on its devices, the number of commits since it was formatted, and its forest
+pub record Volume : Type 0 where
+  pub layout : Layout
+  pub commits : ℕ
+  pub forest : Forest
+
+-- the volume of what is found in an image
+abbrev pub volume_of : Image → Found → Volume
+volume_of image f = record { layout = f.layout; commits = f.last.entry.commits; forest = forest_in f.trees.keys (read_in image) }
+
+-- the places of all nodes that were read
+abbrev pub node_places : Found → List Place
+node_places f = flat_map (λ pointer. pointer.places) (nodes_of f.trees.nodes)
+
+-- An image mounts as a volume: that is what is found in it, and its keys are sound.
+pub record MountsAs (image : Image) (volume : Volume) : Type 0 where
+  pub f : Found
+  pub finds : found image ≡ Ok f
+  pub sound : IsSound f.trees.keys (node_places f) f.layout
+  pub volume_is : volume ≡ volume_of image f
+
+-- What is found in an image isn't sound: this is the first check that fails.
+pub record IsUnsound (image : Image) (check : ℕ) : Type 0 where
+  pub f : Found
+  pub finds : found image ≡ Ok f
+  pub fails : IsFirstFailed f.trees.keys (node_places f) f.layout check
+
+-- what an image means: the volume, or why it doesn't mount
+abbrev pub Mounts : Image → Result Volume MountFault → Type 0
+Mounts image (Ok volume) = MountsAs image volume
+Mounts image (Err (Unsound check)) = IsUnsound image check
+Mounts image (Err fault) = found image ≡ Err fault
+
+-- Each entry begins where the one before it ends.
+abbrev pub FollowOn : List FoundEntry → Type 0
+FollowOn [] = ⊤
+FollowOn (one ∷ []) = ⊤
+FollowOn (one ∷ next ∷ entries) = (next.number ≡ one.end) × FollowOn (next ∷ entries)
+
+-- An image that nobody else wrote is orderly: the needed entries follow each other without a gap, and each node was born in a
+-- session up to its own. That no two nodes have one birth, and that no set of a node stands behind a gap, is part of what is found.
+pub record IsOrderly (image : Image) : Type 0 where
+  pub f : Found
+  pub finds : found image ≡ Ok f
+  pub entries : FollowOn f.needed
+  pub births : All (λ node. node.birth < (f.session + 1) * 2 ^ 32) (nodes_of f.trees.nodes)

@@ -1,0 +1,9 @@
+//! What an image of the devices of a volume means: its layout and session, the entries of its journal that count, the nodes of
+//! its btrees, and the forest of its keys. Definitions and laws; the readers of images are elsewhere.
+#![tactic(auto)]
+
+mod fault;
+mod laws;
+
+pub use fault::MountFault;
+pub use laws::{images_mean_their_bases, whole_entries_are_held};

@@ -1,0 +1,4 @@
+pub mod Takes
+pub mod Written
+pub mod Best
+pub mod Places

@@ -1,0 +1,11 @@
+use record_codec::EntryRecord;
+
+/// A whole entry of the journal, and where it stands.
+#[derive(Debug, PartialEq, Eq, Drop)]
+pub struct FoundEntry {
+    /// The journal block number of its part 0.
+    pub number: u64,
+    /// The number behind its last part.
+    pub end: u64,
+    pub entry: EntryRecord,
+}

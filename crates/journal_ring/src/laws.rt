@@ -1,0 +1,62 @@
+ghost use Rattle.std.specs.Prelude.{ℕ, List, ◌≡◌, ◌+◌, ◌^◌, ◌<◌, true, length, Some, IsSome};
+ghost use Rattle.dev_model.specs.Disk.{Image};
+ghost use Rattle.geometry.specs.Layouts.{is_layout_of};
+ghost use Rattle.record_codec.specs.declared.entries.EntryRecord.{EntryRecord as AnEntry};
+ghost use Rattle.record_codec.specs.Entries.{IsEntry};
+ghost use Rattle.vol_types.specs.declared.layout.Layout.{Layout as ALayout};
+ghost use Rattle.journal_ring.specs.declared.found.FoundEntry.{FoundEntry as AFound};
+ghost use Rattle.journal_ring.specs.Counting.{Counts, counting};
+ghost use Rattle.journal_ring.specs.Entries.{AgreeFrom, IsMadeOf, IsWholeOn, entry_on};
+ghost use Rattle.journal_ring.specs.EntryBlocks.{AreEntryBlocks, HoldBlocks, parts_of};
+ghost use Rattle.journal_ring.specs.Parts.{Area, area_of};
+ghost use Rattle.journal_ring.specs.Rings.{HaveArea};
+
+use record_codec::{entries_are_exact, entry_lengths};
+use sealed_block::sealed_blocks_open;
+
+/// Devices that have room for a layout have its journal area.
+pub fn areas_have_places()
+    ensures { (sizes : List ℕ) (layout : ALayout) → is_layout_of sizes layout ≡ true
+        → HaveArea sizes layout.metadata_replicas layout.journal }
+{}
+
+/// An entry whose blocks stand on every metadata device is whole, from whichever of them its part 0 is taken.
+pub fn written_entries_are_whole()
+    ensures { (layout : ALayout) (image : Image) (number : ℕ) (entry : AnEntry)
+        (blocks : List (List ℕ)) → IsEntry entry → number + parts_of entry < 2 ^ 64
+        → AreEntryBlocks layout.id number entry blocks
+        → HoldBlocks layout.metadata_replicas layout.journal number blocks (length blocks) image
+        → (dev : ℕ) → dev < layout.metadata_replicas → entry_on layout (area_of image) dev number
+        ≡ Some (record { number = number; end = number + parts_of entry; entry = entry }) }
+{
+    sealed_blocks_open();
+    entries_are_exact();
+    entry_lengths();
+}
+
+/// An entry that is whole stays so while the places of its parts do, on every metadata device.
+pub fn whole_entries_stay()
+    ensures { (layout : ALayout) (one other : Area) (dev : ℕ) (found : AFound)
+        → IsWholeOn layout one dev found → AgreeFrom layout one other found.number found.end
+        → IsWholeOn layout other dev found }
+{}
+
+/// A whole entry is made of blocks that stand on the metadata devices.
+pub fn whole_entries_are_made_of_blocks()
+    ensures { (layout : ALayout) (area : Area) (dev : ℕ) (found : AFound)
+        → IsWholeOn layout area dev found
+        → (blocks : List (List ℕ)) × IsMadeOf layout area found blocks }
+{}
+
+/// Of all whole entries with a sequence one counts, and no more than one.
+pub fn one_entry_counts()
+    ensures one { (layout : ALayout) (area : Area) (dev other : ℕ) (found another : AFound)
+        → Counts layout area dev found → Counts layout area other another
+        → found.entry.sequence ≡ another.entry.sequence → (dev ≡ other) × (found ≡ another) }
+    ensures counting { (layout : ALayout) (area : Area) (sequence : ℕ) (found : AFound)
+        → 0 < layout.journal → counting layout area sequence ≡ Some found
+        → (found.entry.sequence ≡ sequence) × (dev : ℕ) × Counts layout area dev found }
+    ensures some { (layout : ALayout) (area : Area) (dev : ℕ) (found : AFound) → 0 < layout.journal
+        → IsWholeOn layout area dev found
+        → IsSome (counting layout area found.entry.sequence) }
+{}

@@ -1,0 +1,22 @@
+//! The journal of a volume: a ring of entries on the metadata devices. Journal block numbers rise for ever, and number n
+//! lies at block `16 + n mod J` of each metadata device, J being the length of the journal area. An entry is a record of 1
+//! to 64 sealed blocks under consecutive numbers.
+//!
+//! `specs/Parts`, `specs/Entries` and `specs/Counting` say which entries blocks hold, which of them count, and which are
+//! needed. `Ring` writes entries, and never over one that is still needed.
+#![tactic(auto)]
+
+mod blocks;
+mod found;
+mod journal;
+mod laws;
+mod ring;
+
+pub use blocks::{entry_parts, part_count};
+pub use found::FoundEntry;
+pub use journal::Journal;
+pub use laws::{
+    areas_have_places, one_entry_counts, whole_entries_are_made_of_blocks, whole_entries_stay,
+    written_entries_are_whole,
+};
+pub use ring::{Ring, RingFull};

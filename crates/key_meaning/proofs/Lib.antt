@@ -1,0 +1,2 @@
+pub mod FreshSound
+pub mod FreshTidy

@@ -1,7 +1,0 @@
-use Rattle.std.proofs.Common.{sym, ap, ◌∙◌}
-use Rattle.vol_types.specs.Positions.{next_pos}
-use Rattle.node_mem.specs.NextLaws.{has_follower}
-use Rattle.node_mem.proofs.splitting.follower.Goals as goal
-
-pub unreachable-requires : goal.unreachable-requires
-unreachable-requires c = has_follower c.args.pos.now c.args.greatest.now c.wide-pos.ensures.fits c.wide.ensures.fits c.requires (ap next_pos (sym c.wide-pos.ensures.same) ∙ sym c.next.ensures ∙ c.in-None.is)

@@ -1,0 +1,17 @@
+pub mod FirstOf
+pub mod Stored
+pub mod Behind
+pub mod Planned
+pub mod Joined
+pub mod Seen
+pub mod MadeUp
+pub mod WrittenCopies
+pub mod NoBlocks
+pub mod PlannedReading
+pub mod MadeUpContents
+pub mod SeenMore
+pub mod FlatBlocks
+pub mod PlanFacts
+pub mod NodeAnswers
+pub mod AlikeCopies
+pub mod BadWithin

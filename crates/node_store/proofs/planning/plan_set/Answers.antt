@@ -1,0 +1,42 @@
+use Rattle.std.proofs.Common.{◌≡◌, ◌*◌, ℕ, List, length, sum_by, refl, ap, ◌∙◌, subst}
+use Rattle.vol_types.specs.Lengths.{key_length_of}
+use Rattle.vol_types.specs.Sets.{set_length_of}
+use Rattle.record_codec.specs.Sets.{set_format}
+use Rattle.node_store.specs.Plans.{ArePartsBefore, blocks_for}
+use Rattle.node_store.proofs.PlanFacts.{few_bytes, same_fit, some_block}
+use Rattle.node_store.proofs.PlannedReading.{read_alone, read_behind}
+use Rattle.node_store.proofs.planning.plan_set.Goals as goal
+
+pub seal_parts-requires : goal.seal_parts-requires
+seal_parts-requires c =
+    let set = c.args.set.now in
+    let is : length c.as_slice.result.now ≡ set_length_of set.keys = ap length (c.as_slice.ensures ∙ c.in_ok-payload.ensures.ok) ∙ c.set_lengths.ensures set in
+    record { size = few_bytes c.as_slice.result.now c.args.block (set_length_of set.keys) is c.requires.fits }
+
+pub returns-clause-behind : goal.returns-clause-behind
+returns-clause-behind c later =
+    let set = c.args.set.now in
+    let payload = set_format.encode set in
+    let same : c.as_slice.result.now ≡ payload = c.as_slice.ensures ∙ c.in_ok-payload.ensures.ok in
+    let sealed = c.in_ok-parts.parts in
+    let long : length payload ≡ set_length_of set.keys = c.set_lengths.ensures set in
+    read_behind c.args.layout.now.id c.args.ptr.now.birth c.args.block c.args.sequence payload sealed c.args.ptr.now (record { places = c.in_ok-places.places; block = c.args.block; parts = c.in_ok-parts-2.parts })
+    c.sealed_blocks_open.ensures.head c.sealed_blocks_open.ensures.payload
+    (subst (λ (p : List ℕ). ArePartsBefore c.args.layout.now.id c.args.ptr.now.birth c.args.block c.args.sequence p sealed (blocks_for p)) same c.in_ok-parts.ensures.parts)
+    (subst (λ (p : List ℕ). length sealed ≡ 4096 * blocks_for p) same c.in_ok-parts.ensures.whole)
+    c.in_ok-places.ensures refl refl (some_block payload (sum_by (λ key. key_length_of key.value) set.keys) long) (same_fit payload c.args.block (set_length_of set.keys) long c.requires.fits) c.requires.places
+    (c.in_ok-parts-2.ensures.further later)
+
+pub returns-clause-alone : goal.returns-clause-alone
+returns-clause-alone c first =
+    let set = c.args.set.now in
+    let payload = set_format.encode set in
+    let same : c.as_slice.result.now ≡ payload = c.as_slice.ensures ∙ c.in_ok-payload.ensures.ok in
+    let sealed = c.in_ok-parts.parts in
+    let long : length payload ≡ set_length_of set.keys = c.set_lengths.ensures set in
+    read_alone c.args.layout.now.id c.args.ptr.now.birth c.args.block c.args.sequence payload sealed c.args.ptr.now (record { places = c.in_ok-places.places; block = c.args.block; parts = c.in_ok-parts-2.parts })
+    c.sealed_blocks_open.ensures.head c.sealed_blocks_open.ensures.payload
+    (subst (λ (p : List ℕ). ArePartsBefore c.args.layout.now.id c.args.ptr.now.birth c.args.block c.args.sequence p sealed (blocks_for p)) same c.in_ok-parts.ensures.parts)
+    (subst (λ (p : List ℕ). length sealed ≡ 4096 * blocks_for p) same c.in_ok-parts.ensures.whole)
+    c.in_ok-places.ensures refl refl (some_block payload (sum_by (λ key. key_length_of key.value) set.keys) long) (same_fit payload c.args.block (set_length_of set.keys) long c.requires.fits) c.requires.places
+    first (c.in_ok-parts-2.ensures.new first)

@@ -1,0 +1,93 @@
+use Rattle.std.proofs.Common.{◌≡◌, ◌≤◌, inl, [], Some, None, refl, ap, ◌∙◌, sym, subst, arith}
+use Rattle.std.specs.Prelude.{length}
+use Rattle.dev_model.specs.FrameLaws.{only_read_here, stay_here}
+use Rattle.record_log.specs.Survives.{Survives}
+use Rattle.shell.specs.declared.early_end.EarlyEnd.TheVariants.{OutOfMemory}
+use Rattle.shell.specs.declared.task.Task.{Task}
+use Rattle.shell.specs.declared.task.Task.TheVariants.{Run as ToRun, Format as ToFormat}
+use Rattle.shell.specs.Tasks.{IsFormat, task_of}
+use Rattle.shell.specs.Mounts.{OnlyReadUnmounted}
+use Rattle.shell.specs.Runs.{Run}
+use Rattle.shell.proofs.Asking.{Fits, format_fits}
+use Rattle.shell.proofs.EndingEarly.{ended_early, formatted}
+use Rattle.shell.proofs.run.run_task.Goals as goal
+
+pub returns-in-Run : goal.returns-in-Run
+returns-in-Run g c arguments asked = c.run_script.ensures arguments (asked ∙ ap (λ (task : Task). Some task) c.in-Run.is)
+
+pub formatted_line-requires : goal.formatted_line-requires
+formatted_line-requires g c =
+    let sizes = (g.D.Devices.state c.args.devices).sizes in
+    let fits : Fits (length sizes) c.in-Format.layout = format_fits (length sizes) c.requires.arguments c.in-Format.layout (c.requires.asked ∙ ap (λ (task : Task). Some task) c.in-Format.is) in
+    fits.some
+
+pub format_devices-requires-clause-layout : goal.format_devices-requires-clause-layout
+format_devices-requires-clause-layout g c =
+    let sizes = (g.D.Devices.state c.args.devices).sizes in
+    let fits : Fits (length sizes) c.in-Format.layout = format_fits (length sizes) c.requires.arguments c.in-Format.layout (c.requires.asked ∙ ap (λ (task : Task). Some task) c.in-Format.is) in
+    fits.is
+
+pub format_devices-requires-clause-count : goal.format_devices-requires-clause-count
+format_devices-requires-clause-count g c =
+    let sizes = (g.D.Devices.state c.args.devices).sizes in
+    let fits : Fits (length sizes) c.in-Format.layout = format_fits (length sizes) c.requires.arguments c.in-Format.layout (c.requires.asked ∙ ap (λ (task : Task). Some task) c.in-Format.is) in
+    fits.count
+
+pub returns-in-Ok : goal.returns-in-Ok
+returns-in-Ok g c arguments asked =
+    let D = g.D.Devices in
+    let S = g.S.Source in
+    let K = g.K.Sink in
+    let layout = c.in-Format.layout in
+    let ended = c.format_devices.result in
+    let format : IsFormat arguments (D.state c.args.devices).sizes layout = asked ∙ ap (λ (task : Task). Some task) c.in-Format.is in
+    let all : Run g.row.D.Denot g.row.K.Denot = record {
+      arguments = arguments;
+      streams = record { left = S.left c.args.source.now; held = K.held c.args.sink.now; held_after = K.held c.format_devices.new.sink };
+      faults = record { source = S.faults c.args.source.now; source_after = S.faults c.args.source.now; sink = K.faults c.args.sink.now; sink_after = K.faults c.format_devices.new.sink };
+      sink = c.args.sink.now;
+      sink_after = c.format_devices.new.sink;
+      devices = c.args.devices;
+      devices_after = ended.devices;
+      state = D.state c.args.devices;
+      state_after = D.state ended.devices;
+      status = ended.status;
+      early_end = ended.early_end;
+      trace = ended.trace;
+      acks = ended.acks;
+      shorts = ended.shorts;
+    } in
+    formatted S.tells K.tells D.tells K.held K.given_at all layout format c.format_devices.ensures.formats refl c.format_devices.ensures.shorts
+
+pub returns : goal.returns
+returns g c arguments asked =
+    let D = g.D.Devices in
+    let S = g.S.Source in
+    let K = g.K.Sink in
+    let first = c.args.devices in
+    let early = c.end_early.ensures in
+    let ended = c.end_early.result in
+    let old = D.state first in
+    let left = S.left c.args.source.now in
+    let all : Run g.row.D.Denot g.row.K.Denot = record {
+      arguments = arguments;
+      streams = record { left = left; held = K.held c.args.sink.now; held_after = K.held c.end_early.new.sink };
+      faults = record { source = S.faults c.args.source.now; source_after = S.faults c.args.source.now; sink = K.faults c.args.sink.now; sink_after = K.faults c.end_early.new.sink };
+      sink = c.args.sink.now;
+      sink_after = c.end_early.new.sink;
+      devices = first;
+      devices_after = ended.devices;
+      state = old;
+      state_after = D.state ended.devices;
+      status = ended.status;
+      early_end = ended.early_end;
+      trace = ended.trace;
+      acks = ended.acks;
+      shorts = ended.shorts;
+    } in
+    ended_early S.tells K.tells D.tells K.held K.given_at all OutOfMemory early.ends
+    (inl (record { cause = inl tt; untouched = early.devices })) refl
+    (subst (λ d. OnlyReadUnmounted D.tells old (D.state d)) (sym early.devices) (λ told error. only_read_here D.tells old))
+    (λ told volume. subst (λ d. Survives volume old (D.state d) [] []) (sym early.devices) (c.reading_is_survived.ensures volume old old (stay_here old)))
+    (subst (λ d. old.moment ≤ (D.state d).moment) (sym early.devices) (omega arith))
+    early.early early.shorts
