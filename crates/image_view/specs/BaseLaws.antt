@@ -151,6 +151,17 @@ found-newest image f is =
     or_none None x same = absurd cc
     or_none (Some y) x same = ap (λ v. Some v) (ok_is y x same)
 
+-- And so does its layout.
+pub found-layout : (image : Image) (f : Found) → found image ≡ Ok f → layout_in image ≡ Ok f.layout
+found-layout image f is =
+    let a = bind_ok (carried super_fault (layout_in image)) (session_by image) f (sym (found-steps image) ∙ is) in
+    let b = bind_ok (ok_or (session_in a.0 image) NoEntry) (last_by image a.0) f a.2 in
+    let c = bind_ok (ok_or (newest a.0 (area_of image)) NoEntry) (entries_by image a.0 b.0) f b.2 in
+    let d = bind_ok (carried MissingEntry (needed_by a.0 (area_of image) c.0)) (trees_by image a.0 b.0 c.0) f c.2 in
+    let e = bind_ok (carried BadNode (trees_of (sets_in a.0 image) (updates_of d.0) c.0.entry.roots)) (made a.0 b.0 c.0 d.0) f d.2 in
+    let parts : Found = record { layout = a.0; session = b.0; last = c.0; needed = d.0; trees = e.0 } in
+    carried-ok super_fault (layout_in image) f.layout (a.1 ∙ ap (λ (g : Found). Ok g.layout) (ok_is parts f e.2))
+
 -- ---- the content of files
 
 -- what is read at places on which two images agree

@@ -8,6 +8,7 @@ use Rattle.dev_model.specs.HeldBlocks.{HasNoCollision, HaveHeld, OnlyHeldOpen, W
 use Rattle.journal_ring.specs.Entries.{IsMadeOf, IsWholeOn}
 use Rattle.std.proofs.lemmas.Option.{same_Some}
 use Rattle.journal_ring.specs.MadeOf.{made_of}
+use Rattle.journal_ring.specs.Leading.{IsBehind}
 use Rattle.journal_ring.specs.Parts.{Area, area_of}
 use Rattle.key_codec.specs.Combined.{ok_is}
 use Rattle.record_codec.specs.Entries.{entry_in}
@@ -16,6 +17,7 @@ use Rattle.journal_ring.specs.declared.found.FoundEntry.{FoundEntry}
 use Rattle.sealed_block.specs.Opening.{opened}
 use Rattle.sealed_block.specs.Records.{IsPart, IsRecord, block_at}
 use Rattle.vol_types.specs.declared.layout.Layout.{Layout}
+use Rattle.image_view.specs.Found.{Found}
 
 -- whether a block opens
 abbrev pub opens : List ℕ → Bool
@@ -42,6 +44,12 @@ whole-held layout disks image dev found only whole =
             (stand.0, stand.1, only stand.0 (16 + (found.number + p) % layout.journal) (slice_index_or made.0 p []) stand.2 (ap is_some part.opens));
       },
     )
+
+-- No entry that is made of held blocks passes what was found: none has a greater sequence than the newest entry, and each that has
+-- the sequence of a needed one is behind it.
+pub record NonePasses (f : Found) (disks : List Disk) (image : Image) : Type 0 where
+  pub greatest : (found : FoundEntry) (blocks : List (List ℕ)) → IsHeldEntry f.layout disks image found blocks → found.entry.sequence ≤ f.last.entry.sequence
+  pub behind : (found : FoundEntry) (blocks : List (List ℕ)) → IsHeldEntry f.layout disks image found blocks → All (λ needed. found.entry.sequence ≡ needed.entry.sequence → IsBehind found needed) f.needed
 
 -- The blocks are a record with this payload and this record digest.
 abbrev pub IsRecordOf : List (List ℕ) → List ℕ → List ℕ → Type 0

@@ -112,7 +112,7 @@ module _ (layout : Layout) (area : Area) (sequence : ℕ) where
   }
 
   -- A whole entry is found at its place,
-  at_its_place : (dev : ℕ) (f : FoundEntry) → IsWholeOn layout area dev f → entry_at layout area dev (f.number % layout.journal) ≡ Some f
+  pub at_its_place : (dev : ℕ) (f : FoundEntry) → IsWholeOn layout area dev f → entry_at layout area dev (f.number % layout.journal) ≡ Some f
   at_its_place dev f is =
       let b = begins layout area dev f.number f is.whole in
       let number : b.head.number ≡ f.number = (entry_head_is layout.id f.number b.head b.is).number_is in
@@ -124,7 +124,7 @@ module _ (layout : Layout) (area : Area) (sequence : ℕ) where
       ∙ is.whole
 
   -- and what is found at a place is whole and lies there.
-  found_there : (dev place : ℕ) (f : FoundEntry) → dev < layout.metadata_replicas → entry_at layout area dev place ≡ Some f → IsWholeOn layout area dev f × (f.number % layout.journal ≡ place)
+  pub found_there : (dev place : ℕ) (f : FoundEntry) → dev < layout.metadata_replicas → entry_at layout area dev place ≡ Some f → IsWholeOn layout area dev f × (f.number % layout.journal ≡ place)
   found_there dev place f mirror is =
       option_and_then_some (λ (head : Head). cond {A = Option FoundEntry} (head.number % layout.journal == place) (entry_on layout area dev head.number) None) (option_and_then opened (area dev place)) f is (λ (head : Head) at found.
       let parts = cond_is (head.number % layout.journal == place) (entry_on layout area dev head.number) f found in

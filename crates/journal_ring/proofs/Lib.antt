@@ -2,3 +2,4 @@ pub mod Takes
 pub mod Written
 pub mod Best
 pub mod Places
+pub mod Newest

@@ -1,6 +1,7 @@
 pub mod Parts
 pub mod Entries
 pub mod Counting
+pub mod Leading
 pub mod EntryBlocks
 pub mod Rings
 pub mod PartLaws

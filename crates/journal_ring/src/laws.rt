@@ -1,13 +1,14 @@
-ghost use Rattle.std.specs.Prelude.{ℕ, List, ◌≡◌, ◌+◌, ◌^◌, ◌<◌, true, length, Some, IsSome};
+ghost use Rattle.std.specs.Prelude.{ℕ, List, [], ◌∷◌, ◌++◌, ◌≡◌, ◌+◌, ◌-◌, ◌^◌, ◌<◌, true, length, All, Some, IsSome, Ok};
 ghost use Rattle.dev_model.specs.Disk.{Image};
 ghost use Rattle.geometry.specs.Layouts.{is_layout_of};
 ghost use Rattle.record_codec.specs.declared.entries.EntryRecord.{EntryRecord as AnEntry};
 ghost use Rattle.record_codec.specs.Entries.{IsEntry};
 ghost use Rattle.vol_types.specs.declared.layout.Layout.{Layout as ALayout};
 ghost use Rattle.journal_ring.specs.declared.found.FoundEntry.{FoundEntry as AFound};
-ghost use Rattle.journal_ring.specs.Counting.{Counts, counting};
-ghost use Rattle.journal_ring.specs.Entries.{AgreeFrom, IsMadeOf, IsWholeOn, entry_on};
+ghost use Rattle.journal_ring.specs.Counting.{Counts, counting, needed_by, newest};
+ghost use Rattle.journal_ring.specs.Entries.{AgreeFrom, IsMadeOf, IsWhole, IsWholeOn, entry_on};
 ghost use Rattle.journal_ring.specs.EntryBlocks.{AreEntryBlocks, HoldBlocks, parts_of};
+ghost use Rattle.journal_ring.specs.Leading.{AreFrom, IsGreatest, Leads};
 ghost use Rattle.journal_ring.specs.Parts.{Area, area_of};
 ghost use Rattle.journal_ring.specs.Rings.{HaveArea};
 
@@ -59,4 +60,27 @@ pub fn one_entry_counts()
     ensures some { (layout : ALayout) (area : Area) (dev : ℕ) (found : AFound) → 0 < layout.journal
         → IsWholeOn layout area dev found
         → IsSome (counting layout area found.entry.sequence) }
+{}
+
+/// An entry that leads those of its sequence counts. The greatest one is the newest; the ones that lead from its oldest sequence
+/// up to it, and it, are needed. So the needed entries of an area stay the needed ones in each other area in which they lead,
+/// and no whole entry has a greater sequence. Needed entries are whole.
+pub fn leading_entries_are_needed()
+    ensures counts { (layout : ALayout) (area : Area) (one : AFound) → 0 < layout.journal
+        → Leads layout area one → counting layout area one.entry.sequence ≡ Some one }
+    ensures newest { (layout : ALayout) (area : Area) (last : AFound) → 0 < layout.journal
+        → Leads layout area last → IsGreatest layout area last.entry.sequence
+        → newest layout area ≡ Some last }
+    ensures needed { (layout : ALayout) (area : Area) (last : AFound) (entries : List AFound)
+        → 0 < layout.journal → AreFrom last.entry.oldest entries
+        → length entries ≡ last.entry.sequence - last.entry.oldest → All (Leads layout area) entries
+        → needed_by layout area last ≡ Ok (entries ++ last ∷ []) }
+    ensures again { (layout : ALayout) (one other : Area) (last : AFound) (needed : List AFound)
+        → 0 < layout.journal → newest layout one ≡ Some last
+        → needed_by layout one last ≡ Ok needed → All (Leads layout other) needed
+        → IsGreatest layout other last.entry.sequence
+        → (newest layout other ≡ Some last) × (needed_by layout other last ≡ Ok needed) }
+    ensures whole { (layout : ALayout) (area : Area) (last : AFound) (needed : List AFound)
+        → 0 < layout.journal → newest layout area ≡ Some last
+        → needed_by layout area last ≡ Ok needed → All (IsWhole layout area) needed }
 {}

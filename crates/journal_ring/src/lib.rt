@@ -16,7 +16,7 @@ pub use blocks::{entry_parts, part_count};
 pub use found::FoundEntry;
 pub use journal::Journal;
 pub use laws::{
-    areas_have_places, one_entry_counts, whole_entries_are_made_of_blocks, whole_entries_stay,
-    written_entries_are_whole,
+    areas_have_places, leading_entries_are_needed, one_entry_counts,
+    whole_entries_are_made_of_blocks, whole_entries_stay, written_entries_are_whole,
 };
 pub use ring::{Ring, RingFull};
