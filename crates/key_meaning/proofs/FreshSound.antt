@@ -22,7 +22,7 @@ use Rattle.vol_types.specs.declared.values.Value.{Value}
 use Rattle.vol_types.specs.declared.values.Value.TheVariants as values
 use Rattle.snap_tree.specs.ChainLaws.{same_test}
 use Rattle.snap_tree.specs.Snaps.{chain_of}
-use Rattle.key_meaning.specs.Checks.{AreBlocksPlaced, AreDirectoriesTrees, AreExtentsApart, AreLinksCounted, AreNamesJoined, AreNodesApart, AreTreesJoined, DoLeavesMatch, HasRoom, HasWellPlaced, IsBucketKey, IsDirectoryOf, IsJoined, IsLiveLeaf, IsNameJoined, IsOfGeneration, IsRooted, IsSound, IsSpaceCounted, IsSubvolume, pointers_of}
+use Rattle.key_meaning.specs.Checks.{AreBlocksPlaced, AreDirectoriesTrees, AreExtentsApart, AreLinksCounted, AreNamesJoined, AreNodesPlaced, AreTreesJoined, DoLeavesMatch, HasRoom, HasWellPlaced, IsBucketKey, IsDirectoryOf, IsJoined, IsLiveLeaf, IsNameJoined, IsOfGeneration, IsRooted, IsSound, IsSpaceCounted, IsSubvolume, pointers_of}
 use Rattle.key_meaning.specs.Forest.{Read, inode_of, is_directory, links_of, tree_of}
 use Rattle.key_meaning.specs.Fresh.{first_id, fresh_keys, main_sub}
 use Rattle.key_meaning.specs.Visible.{first_value, shown, snaps_of}
@@ -106,8 +106,8 @@ rooted read = record {
 pub directories : AreDirectoriesTrees fresh_keys
 directories = record { each = λ read. All-cons (λ sub. IsRooted (tree_of fresh_keys read sub)) main_sub [] (rooted read) (All-nil (λ sub. IsRooted (tree_of fresh_keys read sub))) }
 
-pub blocks : (nodes : List Place) (layout : Layout) → AreNodesApart nodes → AreBlocksPlaced fresh_keys nodes layout
-blocks nodes layout apart = record { placed = All-nil (HasWellPlaced nodes layout); blocks = λ place. omega arith; apart = apart }
+pub blocks : (nodes : List Place) (layout : Layout) → AreNodesPlaced nodes layout → AreBlocksPlaced fresh_keys nodes layout
+blocks nodes layout placed = record { placed = All-nil (HasWellPlaced nodes layout); blocks = λ place. omega arith; nodes_placed = placed }
 
 pub space : IsSpaceCounted fresh_keys
 space = record {
@@ -118,5 +118,5 @@ space = record {
   back_keys = All-nil (λ entry. entry.0.snapshot ≡ 0);
 }
 
-pub fresh_is_sound : (nodes : List Place) (layout : Layout) → AreNodesApart nodes → IsSound fresh_keys nodes layout
-fresh_is_sound nodes layout apart = record { trees = trees; leaves = leaves; extents = extents; names = names; links = links; directories = directories; blocks = blocks nodes layout apart; space = space }
+pub fresh_is_sound : (nodes : List Place) (layout : Layout) → AreNodesPlaced nodes layout → IsSound fresh_keys nodes layout
+fresh_is_sound nodes layout placed = record { trees = trees; leaves = leaves; extents = extents; names = names; links = links; directories = directories; blocks = blocks nodes layout placed; space = space }

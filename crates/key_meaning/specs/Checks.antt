@@ -197,15 +197,21 @@ used_places keys = flat_map (λ entry. places_of entry.1) keys.extents
 abbrev pub is_place : Place → Place → Bool
 is_place place other = place.dev == other.dev && place.block == other.block
 
--- No two nodes share a bucket.
-pub record AreNodesApart (nodes : List Place) : Type 0 where
-  pub each : (dev bucket : ℕ) → count_in_bucket nodes dev bucket ≤ 1
+-- A node's bucket is no superblock or journal bucket, and lies inside its device.
+pub record IsNodePlaced (layout : Layout) (place : Place) : Type 0 where
+  pub behind : kept_buckets layout place.dev ≤ place.block / bucket_blocks
+  pub on_device : place.block + bucket_blocks ≤ slice_index layout.blocks place.dev
 
--- Pointers' blocks lie in buckets of users, none is used twice, and no two nodes share a bucket.
+-- Nodes lie where nodes may, and no two share a bucket.
+pub record AreNodesPlaced (nodes : List Place) (layout : Layout) : Type 0 where
+  pub each : All (IsNodePlaced layout) nodes
+  pub apart : (dev bucket : ℕ) → count_in_bucket nodes dev bucket ≤ 1
+
+-- Pointers' blocks lie in buckets of users, none is used twice, and nodes lie where they may, each in a bucket of its own.
 pub record AreBlocksPlaced (keys : KeyMap) (nodes : List Place) (layout : Layout) : Type 0 where
   pub placed : All (HasWellPlaced nodes layout) keys.extents
   pub blocks : (place : Place) → count_by (is_place place) (used_places keys) ≤ 1
-  pub apart : AreNodesApart nodes
+  pub nodes_placed : AreNodesPlaced nodes layout
 
 -- Check 8: the keys on space.
 

@@ -2,6 +2,7 @@
 use Rattle.std.specs.Prelude.{ℕ, [], ◌∷◌, codes}
 use Rattle.vol_digest.specs.Digests.{slot_of}
 use Rattle.vol_types.specs.KeyMaps.{Entries, KeyMap}
+use Rattle.vol_types.specs.declared.pointers.Place.{Place}
 use Rattle.vol_types.specs.declared.positions.Pos.{Pos}
 use Rattle.vol_types.specs.declared.values.FileKind.{FileKind}
 use Rattle.vol_types.specs.declared.values.FileKind.TheVariants.{File, Directory}
@@ -58,6 +59,10 @@ unnamed_directory = record fresh_keys { inodes = in_first 0 1 (empty_inode Direc
 -- an extent in the bucket of a superblock
 abbrev pub over_superblock : KeyMap
 over_superblock = record fresh_keys { extents = in_first 1 1 (one_block 8) ∷ [] }
+
+-- the bucket of the superblocks of device 0
+abbrev pub superblocks : Place
+superblocks = record { dev = 0; block = 0 }
 
 -- an extent whose bucket no key counts
 abbrev pub uncounted : KeyMap

@@ -116,7 +116,7 @@ pub blocks_stay_placed : (keys new : KeyMap) (nodes : List Place) (layout : Layo
 blocks_stay_placed keys new nodes layout same is = record {
   placed = subst (All (HasWellPlaced nodes layout)) (sym same) is.placed;
   blocks = λ place. subst (λ (entries : Entries). count_by (is_place place) (flat_map (λ (entry : Pos × Value). places_of entry.1) entries) ≤ 1) (sym same) (is.blocks place);
-  apart = is.apart;
+  nodes_placed = is.nodes_placed;
 }
 
 -- where the keys on space are too, they are counted as before.

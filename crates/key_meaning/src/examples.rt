@@ -1,8 +1,8 @@
-ghost use Rattle.std.specs.Prelude.{◌≡◌, List, Some, None, codes};
+ghost use Rattle.std.specs.Prelude.{◌≡◌, List, [], ◌∷◌, Some, None, codes};
 ghost use Rattle.vol_types.specs.declared.layout.Layout.{Layout};
 ghost use Rattle.vol_types.specs.declared.pointers.Place.{Place};
-ghost use Rattle.key_meaning.specs.Checks.{AreBlocksPlaced, AreDirectoriesTrees, AreExtentsApart, AreLinksCounted, AreNamesJoined, AreTreesJoined, DoLeavesMatch, IsSpaceCounted};
-ghost use Rattle.key_meaning.specs.Examples.{dangling, over_superblock, overlapping, shared_id, uncounted, unnamed_child, unnamed_directory, unnamed_file, unwhited, whited};
+ghost use Rattle.key_meaning.specs.Checks.{AreBlocksPlaced, AreDirectoriesTrees, AreExtentsApart, AreLinksCounted, AreNamesJoined, AreNodesPlaced, AreTreesJoined, DoLeavesMatch, IsSpaceCounted};
+ghost use Rattle.key_meaning.specs.Examples.{dangling, over_superblock, overlapping, shared_id, superblocks, uncounted, unnamed_child, unnamed_directory, unnamed_file, unwhited, whited};
 ghost use Rattle.key_meaning.specs.Forest.{number_in};
 
 /// Each check refuses a small key map that is wrong in its way.
@@ -14,6 +14,7 @@ pub fn wrong_keys_are_refused()
     ensures links { ¬ AreLinksCounted unnamed_file }
     ensures directories { ¬ AreDirectoriesTrees unnamed_directory }
     ensures blocks { (nodes : List Place) (layout : Layout) → ¬ AreBlocksPlaced over_superblock nodes layout }
+    ensures nodes { (layout : Layout) → ¬ AreNodesPlaced (superblocks ∷ []) layout }
     ensures space { ¬ IsSpaceCounted uncounted }
 {}
 

@@ -15,7 +15,7 @@ ghost use Rattle.vol_types.specs.declared.values.Value.{Value};
 ghost use Rattle.key_meaning.specs.Alike.{ShowAlike};
 ghost use Rattle.key_meaning.specs.Blocks.{block_in};
 ghost use Rattle.key_meaning.specs.Changes.{ChangesOnly};
-ghost use Rattle.key_meaning.specs.Checks.{AreBlocksPlaced, AreNodesApart, AreTreesJoined, Check, DoLeavesMatch, IsLiveLeaf, IsSound, IsSpaceCounted, IsSubvolume};
+ghost use Rattle.key_meaning.specs.Checks.{AreBlocksPlaced, AreNodesPlaced, AreTreesJoined, Check, DoLeavesMatch, IsLiveLeaf, IsSound, IsSpaceCounted, IsSubvolume};
 ghost use Rattle.key_meaning.specs.Forest.{Read, directories_in, directory_in, file_in, files_in, forest_in, names_in, number_in, sub_named, tree_named, tree_of};
 ghost use Rattle.key_meaning.specs.Fresh.{fresh_keys};
 ghost use Rattle.key_meaning.specs.Kept.{AreLeavesSound, IsLeafSound};
@@ -24,10 +24,10 @@ ghost use Rattle.key_meaning.specs.Tidy.{IsTidy};
 ghost use Rattle.key_meaning.specs.Visible.{shown, snaps_of, visible, visible_above};
 ghost use Rattle.key_meaning.specs.VisibleLaws.{is_put_at};
 
-/// The keys of a fresh volume mean the fresh forest, and are sound and tidy, wherever its nodes are.
+/// The keys of a fresh volume mean the fresh forest, and are sound and tidy, wherever nodes may be.
 pub fn fresh_keys_mean_fresh()
     ensures means { (read : Read) → forest_in fresh_keys read ≡ fresh }
-    ensures sound { (nodes : List Place) (layout : Layout) → AreNodesApart nodes
+    ensures sound { (nodes : List Place) (layout : Layout) → AreNodesPlaced nodes layout
         → IsSound fresh_keys nodes layout }
     ensures tidy { IsTidy fresh_keys }
 {}

@@ -16,8 +16,8 @@ use Rattle.vol_types.specs.declared.values.FileKind.TheVariants.{File}
 use Rattle.vol_types.specs.declared.values.Snap.{Snap}
 use Rattle.vol_types.specs.declared.values.SnapState.TheVariants.{LiveLeaf}
 use Rattle.vol_types.specs.declared.values.Value.TheVariants as values
-use Rattle.key_meaning.specs.Checks.{AreBlocksPlaced, AreDirectoriesTrees, AreExtentsApart, AreLinksCounted, AreNamesJoined, AreTreesJoined, DoLeavesMatch, HasWellPlaced, IsNameJoined, IsRooted, IsSpaceCounted, IsWellPlaced}
-use Rattle.key_meaning.specs.Examples.{dangling, in_first, name_a, one_block, over_superblock, overlapping, shared_id, uncounted, unnamed_child, unnamed_directory, unnamed_file}
+use Rattle.key_meaning.specs.Checks.{AreBlocksPlaced, AreDirectoriesTrees, AreExtentsApart, AreLinksCounted, AreNamesJoined, AreNodesPlaced, AreTreesJoined, DoLeavesMatch, HasWellPlaced, IsNameJoined, IsRooted, IsSpaceCounted, IsNodePlaced, IsWellPlaced}
+use Rattle.key_meaning.specs.Examples.{dangling, in_first, name_a, one_block, over_superblock, overlapping, shared_id, superblocks, uncounted, unnamed_child, unnamed_directory, unnamed_file}
 use Rattle.key_meaning.specs.Forest.{links_in, links_of, tree_of}
 use Rattle.key_meaning.specs.Visible.{shown}
 use Rattle.key_meaning.specs.Fresh.{first_id, main_sub}
@@ -75,8 +75,15 @@ blocks nodes layout placed =
     by true more le = omega (arith, le)
     by false more le = omega (arith, le)
 
+nodes : (layout : Layout) → ¬ AreNodesPlaced (superblocks ∷ []) layout
+nodes layout placed = by (nat_lt 0 layout.metadata_replicas) (layout.journal / bucket_blocks) (All-head (IsNodePlaced layout) superblocks [] placed.each).behind
+  where
+    by : (b : Bool) (more : ℕ) → cond {A = ℕ} b (1 + more) 1 ≤ 0 → ⊥
+    by true more le = omega (arith, le)
+    by false more le = omega (arith, le)
+
 space : ¬ IsSpaceCounted uncounted
 space counted = let one : 0 ≡ 1 = counted.blocks 0 40 in omega (arith, one)
 
 pub returns : goal.returns
-returns c = record { trees = trees; leaves = leaves; extents = extents; names = names; links = links; directories = directories; blocks = blocks; space = space }
+returns c = record { trees = trees; leaves = leaves; extents = extents; names = names; links = links; directories = directories; blocks = blocks; nodes = nodes; space = space }
