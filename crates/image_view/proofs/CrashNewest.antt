@@ -1,7 +1,6 @@
 -- In whatever a crash leaves, the newest entry is the one that was found, where nothing that is made of held blocks passes it.
-use Rattle.std.proofs.Common.{◌≡◌, ℕ, ◌<◌, ◌≤◌, List, [], ◌∷◌, map, length, Option, Some, Result, Ok, refl, sym, subst, arith}
+use Rattle.std.proofs.Common.{◌≡◌, ℕ, ◌<◌, List, [], ◌∷◌, map, length, Some, Ok, arith}
 use Rattle.std.proofs.lemmas.List.Elements.{All-head, All-tail, All-nil, All-cons}
-use Rattle.std.specs.Option.{ok_or}
 use Rattle.std.specs.Prelude.{All}
 use Rattle.dev_model.specs.Disk.{Disk, Image}
 use Rattle.dev_model.specs.HeldBlocks.{OnlyHeldOpen}

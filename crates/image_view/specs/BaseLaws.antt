@@ -1,12 +1,11 @@
 -- The law over images: what two images mean is the same where they agree on the base of an entry that is the newest in both.
-use Rattle.std.proofs.Common.{◌≡◌, ℕ, zero, suc, ◌+◌, ◌<◌, ◌≤◌, List, [], ◌∷◌, ◌++◌, length, map, Option, Some, None, Result, Ok, Err, refl, sym, ap, subst, ◌∙◌, arith}
-use Rattle.std.specs.List.{AllByRecursion, flat_map}
+use Rattle.std.proofs.Common.{◌≡◌, ℕ, zero, suc, ◌<◌, ◌≤◌, List, [], ◌∷◌, ◌++◌, Option, Some, None, Result, Ok, Err, refl, sym, ap, subst, ◌∙◌, arith}
 use Rattle.std.specs.Option.{ok_or, option_or}
 use Rattle.std.specs.Prelude.{All, option_and_then}
 use Rattle.std.proofs.lemmas.List.Elements.{All-head, All-tail, All-weaker}
-use Rattle.dev_model.specs.Disk.{Image, block_at, blocks_of}
+use Rattle.dev_model.specs.Disk.{Image, block_at}
 use Rattle.geometry.specs.Sessions.{greater, greatest_session, session_at, session_in, session_named}
-use Rattle.geometry.specs.Superblocks.{counting, layout_in}
+use Rattle.geometry.specs.Superblocks.{layout_in}
 use Rattle.geometry.specs.SuperLaws.{same_counting, same_layout}
 use Rattle.journal_ring.specs.Counting.{needed_by, newest}
 use Rattle.journal_ring.specs.Parts.{area_of}
@@ -14,7 +13,7 @@ use Rattle.journal_ring.specs.declared.found.FoundEntry.{FoundEntry}
 use Rattle.key_codec.specs.Combined.{bind_ok, ok_is}
 use Rattle.key_codec.specs.Formats.{◌>>=◌, carried}
 use Rattle.node_store.specs.Copies.{copies_at, copy_at, shown_at, shown_below, shown_in}
-use Rattle.node_store.specs.NodeContents.{content_in, content_of, wanted_of}
+use Rattle.node_store.specs.NodeContents.{content_in, wanted_of}
 use Rattle.vol_types.specs.Limits.{bucket_blocks}
 use Rattle.vol_types.specs.declared.layout.Layout.{Layout}
 use Rattle.vol_types.specs.declared.pointers.NodePtr.{NodePtr}

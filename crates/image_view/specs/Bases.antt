@@ -1,12 +1,11 @@
 -- The base of an entry: the blocks of an image on which it hangs what the image means where this entry is the newest.
-use Rattle.std.specs.Prelude.{◌≡◌, ℕ, ◌+◌, ◌<◌, List, length, map, All, Some, Ok}
+use Rattle.std.specs.Prelude.{◌≡◌, ℕ, ◌+◌, ◌<◌, length, map, All, Some, Ok}
 use Rattle.dev_model.specs.Disk.{Image, block_at}
 use Rattle.journal_ring.specs.Counting.{needed_by, newest}
 use Rattle.journal_ring.specs.Entries.{AgreeFrom}
 use Rattle.journal_ring.specs.Parts.{area_of}
 use Rattle.key_meaning.specs.Blocks.{Block, block_of}
 use Rattle.vol_types.specs.Limits.{bucket_blocks}
-use Rattle.vol_types.specs.declared.layout.Layout.{Layout}
 use Rattle.vol_types.specs.declared.pointers.NodePtr.{NodePtr}
 use Rattle.vol_types.specs.declared.pointers.Place.{Place}
 use Rattle.vol_types.specs.declared.positions.Pos.{Pos}

@@ -1,6 +1,6 @@
 -- What a whole entry of an image that a crash leaves is made of, where no block of it opens by chance.
-use Rattle.std.proofs.Common.{◌≡◌, ℕ, ◌+◌, ◌%◌, ◌<◌, ◌≤◌, Bool, true, List, [], length, Option, Some, refl, sym, ap, subst, ◌∙◌, arith}
-use Rattle.std.specs.Prelude.{IsTrue, is_some, slice_index_or, All}
+use Rattle.std.proofs.Common.{◌≡◌, ℕ, ◌+◌, ◌%◌, ◌<◌, ◌≤◌, Bool, List, [], length, Option, Some, sym, ap, ◌∙◌, arith}
+use Rattle.std.specs.Prelude.{is_some, slice_index_or, All}
 use Rattle.sha2.specs.Sha256.{sha256}
 use Rattle.dev_model.specs.Devices.{DevicesState}
 use Rattle.dev_model.specs.Disk.{Disk, Image}
@@ -15,7 +15,7 @@ use Rattle.record_codec.specs.Entries.{entry_in}
 use Rattle.sealed_block.specs.declared.heads.Head.{Head}
 use Rattle.journal_ring.specs.declared.found.FoundEntry.{FoundEntry}
 use Rattle.sealed_block.specs.Opening.{opened}
-use Rattle.sealed_block.specs.Records.{IsPart, IsRecord, block_at}
+use Rattle.sealed_block.specs.Records.{IsRecord, block_at}
 use Rattle.vol_types.specs.declared.layout.Layout.{Layout}
 use Rattle.image_view.specs.Found.{Found}
 

@@ -1,6 +1,6 @@
 -- What an image means, in its parts: the layout and the session, the entries that are needed, the btrees that these and the nodes
 -- make; and with them the volume.
-use Rattle.std.specs.Prelude.{◌≡◌, ◌==◌, ℕ, ◌+◌, ◌*◌, ◌<◌, ◌^◌, Bool, if◌then◌else◌, List, [], ◌∷◌, map, All, Option, Some, None, option_and_then, Result, Ok, Err, ⊤}
+use Rattle.std.specs.Prelude.{◌≡◌, ◌==◌, ℕ, ◌+◌, ◌*◌, ◌<◌, ◌^◌, if◌then◌else◌, List, [], ◌∷◌, All, Option, Some, None, Result, Ok, Err, ⊤}
 use Rattle.std.specs.List.{flat_map}
 use Rattle.std.specs.Option.{ok_or, option_or}
 use Rattle.dev_model.specs.Disk.{Image, block_at}
@@ -14,14 +14,14 @@ use Rattle.journal_ring.specs.declared.found.FoundEntry.{FoundEntry}
 use Rattle.key_codec.specs.Formats.{◌>>=◌, carried}
 use Rattle.key_meaning.specs.Checks.{IsFirstFailed, IsSound}
 use Rattle.key_meaning.specs.Forest.{Read, forest_in}
-use Rattle.node_store.specs.NodeContents.{NodeContent, content_of}
+use Rattle.node_store.specs.NodeContents.{content_of}
 use Rattle.plain_forest.specs.Forest.{Forest}
 use Rattle.vol_digest.specs.Digests.{short_of}
 use Rattle.vol_types.specs.declared.keys.Update.{Update}
 use Rattle.vol_types.specs.declared.layout.Layout.{Layout}
 use Rattle.vol_types.specs.declared.pointers.NodePtr.{NodePtr}
 use Rattle.vol_types.specs.declared.pointers.Place.{Place}
-use Rattle.image_view.specs.Trees.{SetsOf, TreesRead, Wanted, first_place, nodes_of, trees_of}
+use Rattle.image_view.specs.Trees.{SetsOf, TreesRead, first_place, nodes_of, trees_of}
 use Rattle.image_view.specs.declared.fault.MountFault.{MountFault}
 use Rattle.image_view.specs.declared.fault.MountFault.TheVariants.{NoSuper, Version, Mixed, BadLayout, NoEntry, MissingEntry, BadNode, Unsound, DeviceFault, NoMemory}
 

@@ -3,9 +3,8 @@ use Rattle.std.proofs.Common.{◌≡◌, ℕ, zero, suc, List, [], ◌∷◌, �
 use Rattle.std.specs.List.{AllByRecursion, filter, flat_map}
 use Rattle.std.specs.Map.{values_of}
 use Rattle.std.specs.Option.{option_map_or}
-use Rattle.std.specs.Prelude.{slice_index_or, unwrap_or}
+use Rattle.std.specs.Prelude.{unwrap_or}
 use Rattle.std.proofs.lemmas.Grind.{flat_map-append}
-use Rattle.std.proofs.lemmas.List.{append-nil}
 use Rattle.key_codec.specs.Combined.{bind_ok, ok_is}
 use Rattle.key_codec.specs.Formats.{◌>>=◌}
 use Rattle.tree_nodes.specs.Levels.{Level, Levels}

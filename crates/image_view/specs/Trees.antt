@@ -1,6 +1,6 @@
 -- What roots and updates mean, where it is known which sets each node has: the keys of the nine btrees, and their nodes, or the
 -- place of the first node that is bad. Nothing here speaks of blocks or devices.
-use Rattle.std.specs.Prelude.{ℕ, zero, suc, ◌-◌, Bool, true, false, ◌&&◌, ◌==◌, if◌then◌else◌, List, [], ◌∷◌, ◌++◌, length, map, Option, Some, None, is_some, Result, Ok, Err, slice_get, slice_index_or, unwrap_or}
+use Rattle.std.specs.Prelude.{ℕ, zero, suc, ◌-◌, Bool, false, ◌&&◌, ◌==◌, if◌then◌else◌, List, [], ◌∷◌, ◌++◌, length, map, Option, Some, None, is_some, Result, Ok, Err, slice_get, slice_index_or, unwrap_or}
 use Rattle.std.specs.BTreeMap.{is_at}
 use Rattle.std.specs.List.{filter, filter_map, flat_map, fold, list_all, list_any, zip}
 use Rattle.std.specs.Map.{values_of}
