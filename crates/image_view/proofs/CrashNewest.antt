@@ -59,6 +59,6 @@ module _ (again : Again) (are_whole : AreWhole) (stay : StayWhole) where
       let some : 0 < f.layout.journal = let least = places.least in omega (arith, least) in
       let whole = are_whole f.layout (area_of one) f.last f.needed some new.last new.needed in
       let made = again f.layout (area_of one) (area_of other) f.last f.needed some new.last new.needed
-      (all_lead one other f disks only none f.needed whole agree.entries none.behind)
-      (λ dev found there. let held = whole-held f.layout disks other dev found only there in none.greatest found held.0 held.1) in
+      (all_lead one other f disks only none f.needed whole agree.entries (λ entry blocks held. (none entry blocks held).behind))
+      (λ dev found there. let held = whole-held f.layout disks other dev found only there in (none found held.0 held.1).sequence) in
       record { last = made.0; needed = made.1 }

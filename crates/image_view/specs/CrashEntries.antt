@@ -8,7 +8,6 @@ use Rattle.dev_model.specs.HeldBlocks.{HasNoCollision, HaveHeld, OnlyHeldOpen, W
 use Rattle.journal_ring.specs.Entries.{IsMadeOf, IsWholeOn}
 use Rattle.std.proofs.lemmas.Option.{same_Some}
 use Rattle.journal_ring.specs.MadeOf.{made_of}
-use Rattle.journal_ring.specs.Leading.{IsBehind}
 use Rattle.journal_ring.specs.Parts.{Area, area_of}
 use Rattle.key_codec.specs.Combined.{ok_is}
 use Rattle.record_codec.specs.Entries.{entry_in}
@@ -17,7 +16,7 @@ use Rattle.journal_ring.specs.declared.found.FoundEntry.{FoundEntry}
 use Rattle.sealed_block.specs.Opening.{opened}
 use Rattle.sealed_block.specs.Records.{IsRecord, block_at}
 use Rattle.vol_types.specs.declared.layout.Layout.{Layout}
-use Rattle.image_view.specs.Found.{Found}
+use Rattle.image_view.specs.Found.{Found, PassesNone}
 
 -- whether a block opens
 abbrev pub opens : List ℕ → Bool
@@ -45,11 +44,9 @@ whole-held layout disks image dev found only whole =
       },
     )
 
--- No entry that is made of held blocks passes what was found: none has a greater sequence than the newest entry, and each that has
--- the sequence of a needed one is behind it.
-pub record NonePasses (f : Found) (disks : List Disk) (image : Image) : Type 0 where
-  pub greatest : (found : FoundEntry) (blocks : List (List ℕ)) → IsHeldEntry f.layout disks image found blocks → found.entry.sequence ≤ f.last.entry.sequence
-  pub behind : (found : FoundEntry) (blocks : List (List ℕ)) → IsHeldEntry f.layout disks image found blocks → All (λ needed. found.entry.sequence ≡ needed.entry.sequence → IsBehind found needed) f.needed
+-- No entry that is made of held blocks passes those that were found.
+abbrev pub NonePasses : Found → List Disk → Image → Type 0
+NonePasses f disks image = (entry : FoundEntry) (blocks : List (List ℕ)) → IsHeldEntry f.layout disks image entry blocks → PassesNone f entry
 
 -- The blocks are a record with this payload and this record digest.
 abbrev pub IsRecordOf : List (List ℕ) → List ℕ → List ℕ → Type 0

@@ -1,6 +1,6 @@
 -- What an image means, in its parts: the layout and the session, the entries that are needed, the btrees that these and the nodes
 -- make; and with them the volume.
-use Rattle.std.specs.Prelude.{◌≡◌, ◌==◌, ℕ, ◌+◌, ◌*◌, ◌<◌, ◌^◌, if◌then◌else◌, List, [], ◌∷◌, All, Option, Some, None, Result, Ok, Err, ⊤}
+use Rattle.std.specs.Prelude.{◌≡◌, ◌==◌, ℕ, ◌+◌, ◌*◌, ◌<◌, ◌≤◌, ◌^◌, if◌then◌else◌, List, [], ◌∷◌, All, Option, Some, None, Result, Ok, Err, ⊤}
 use Rattle.std.specs.List.{flat_map}
 use Rattle.std.specs.Option.{ok_or, option_or}
 use Rattle.dev_model.specs.Disk.{Image, block_at}
@@ -9,6 +9,8 @@ use Rattle.geometry.specs.Superblocks.{layout_in}
 use Rattle.geometry.specs.declared.fault.SuperFault.{SuperFault}
 use Rattle.geometry.specs.declared.fault.SuperFault.TheVariants as supers
 use Rattle.journal_ring.specs.Counting.{needed_by, newest}
+use Rattle.journal_ring.specs.Entries.{IsMadeOf}
+use Rattle.journal_ring.specs.Leading.{IsBehind}
 use Rattle.journal_ring.specs.Parts.{area_of}
 use Rattle.journal_ring.specs.declared.found.FoundEntry.{FoundEntry}
 use Rattle.key_codec.specs.Formats.{◌>>=◌, carried}
@@ -114,10 +116,18 @@ FollowOn [] = ⊤
 FollowOn (one ∷ []) = ⊤
 FollowOn (one ∷ next ∷ entries) = (next.number ≡ one.end) × FollowOn (next ∷ entries)
 
--- An image that nobody else wrote is orderly: the needed entries follow each other without a gap, and each node was born in a
--- session up to its own. That no two nodes have one birth, and that no set of a node stands behind a gap, is part of what is found.
+-- An entry passes none of those that were found: its sequence isn't greater than the newest one's, and where it has that of a needed one
+-- it is behind it.
+pub record PassesNone (f : Found) (entry : FoundEntry) : Type 0 where
+  pub sequence : entry.entry.sequence ≤ f.last.entry.sequence
+  pub behind : All (λ needed. entry.entry.sequence ≡ needed.entry.sequence → IsBehind entry needed) f.needed
+
+-- An image that nobody else wrote is orderly: the needed entries follow each other without a gap; no entry passes these that its
+-- blocks make up, from whichever device each part is taken; and each node was born in a session up to its own. That no two
+-- nodes have one birth, and that no set of a node stands behind a gap, is part of what is found.
 pub record IsOrderly (image : Image) : Type 0 where
   pub f : Found
   pub finds : found image ≡ Ok f
   pub entries : FollowOn f.needed
+  pub others : (entry : FoundEntry) (blocks : List (List ℕ)) → IsMadeOf f.layout (area_of image) entry blocks → PassesNone f entry
   pub births : All (λ node. node.birth < (f.session + 1) * 2 ^ 32) (nodes_of f.trees.nodes)
