@@ -1,11 +1,10 @@
 -- Laws on what disks have held: a write adds what it asked for, a flush only what was read, an extension zeros.
-use Rattle.std.proofs.Common.{◌≡◌, ℕ, zero, suc, ◌<◌, ◌≤◌, Bool, IsTrue, List, [], ◌∷◌, length, slice_get, Some, refl, ap, ◌∙◌, sym, subst, arith, Result, Ok, Err, MatchResult, ◌⊎◌, inl, inr, ⊎_elim, All, Contains}
+use Rattle.std.proofs.Common.{◌≡◌, ℕ, zero, suc, ◌<◌, ◌≤◌, Bool, IsTrue, List, [], ◌∷◌, length, slice_get, Some, refl, ap, ◌∙◌, sym, subst, arith, Result, Ok, Err, MatchResult, ◌⊎◌, inl, inr, ⊎_elim, Contains}
 use Rattle.std.proofs.lemmas.List.Elements.{Contains-push_cases}
 use Rattle.std.proofs.lemmas.Bool.{cases_lt}
-use Rattle.dev_model.specs.Disk.{Asked, Disk, IsBlock, IsDisk, IsPending, IsCrashOf, IsCrashImage, as_read, block_at, changed, after_write, written, flushed}
+use Rattle.dev_model.specs.Disk.{Asked, Disk, IsBlock, IsDisk, IsPending, IsCrashOf, as_read, block_at, changed, after_write, written, flushed}
 use Rattle.dev_model.specs.Devices.{ChangesDisks, DevicesState, Is, MayBeWritten, now}
-use Rattle.dev_model.specs.HeldBlocks.{HasHeld, HaveHeld, HasNoChanceMatch, HoldOnly, OnlyHeldOpen}
-use Rattle.dev_model.specs.CrashLaws.{as_read_may_be_left}
+use Rattle.dev_model.specs.HeldBlocks.{HasHeld, HaveHeld, HasNoChanceMatch, HoldOnly, OnlyHeldOpensAt}
 
 -- A disk that a write was asked of has held what it had, and what was asked.
 held_after_write : (disk : Disk) (block : ℕ) (bytes left : List ℕ) (b : ℕ) (x : List ℕ) → HasHeld (after_write block bytes left disk) b x → HasHeld disk b x ⊎ ((b ≡ block) × (x ≡ bytes))
@@ -62,16 +61,15 @@ left_as_settled disk left is may block within not_pending = may.settled block wi
 
 -- Before the first call nothing came to be held.
 pub hold_here : (opens : List ℕ → Bool) (asked : ℕ → ℕ → List ℕ → Type 0) (state : DevicesState) → HoldOnly opens asked state state
-hold_here opens asked state m lo hi no_chance d b x is_open held =
+hold_here opens asked state m lo hi d b no_chance x is_open held =
     let same : m ≡ state.moment = omega (arith, lo, hi) in
     inl (subst (λ n. HaveHeld (state.disks n) d b x) same held)
 
 -- No chance match up to a moment is none up to an earlier one, whatever came after it.
-pub no_chance_before : (opens : List ℕ → Bool) (first last : ℕ) (mid new : DevicesState) → ((m : ℕ) → m ≤ mid.moment → new.disks m ≡ mid.disks m) → (m : ℕ) → m ≤ last → m ≤ mid.moment
-    → HasNoChanceMatch opens first last new → HasNoChanceMatch opens first m mid
-no_chance_before opens first last mid new past m earlier so_far no_chance n lo hi image may =
-    let was = past n (omega (arith, hi, so_far)) in
-    subst (λ (ds : List Disk). OnlyHeldOpen opens ds image) was (no_chance n lo (omega (arith, hi, earlier)) image (subst (λ (ds : List Disk). IsCrashImage ds image) (sym was) may))
+pub no_chance_before : (opens : List ℕ → Bool) (d b first last : ℕ) (mid new : DevicesState) → ((m : ℕ) → m ≤ mid.moment → new.disks m ≡ mid.disks m) → (m : ℕ) → m ≤ last → m ≤ mid.moment
+    → HasNoChanceMatch opens d b first last new → HasNoChanceMatch opens d b first m mid
+no_chance_before opens d b first last mid new past m earlier so_far no_chance n lo hi =
+    subst (λ (ds : List Disk). OnlyHeldOpensAt opens ds (as_read ds) d b) (past n (omega (arith, hi, so_far))) (no_chance n lo (omega (arith, hi, earlier)))
 
 earlier_or_later : (m n : ℕ) → (m ≤ n) ⊎ (n < m)
 earlier_or_later m n = ⊎_elim (λ (lt : n < m). inr lt) (λ le. inl le) (cases_lt n m)
@@ -86,27 +84,27 @@ pub hold_on : {T E : Type 0} (result : Result T E) (opens : List ℕ → Bool) (
     → old.moment ≤ mid.moment
     → HoldOnly opens asked old mid
     → ChangesDisks result partly wholly mid new
-    → (HasNoChanceMatch opens old.moment mid.moment mid → (disks : List Disk) → partly disks → (d b : ℕ) (x : List ℕ) → IsTrue (opens x) → HaveHeld disks d b x → HaveHeld (now mid) d b x ⊎ asked d b x)
-    → (HasNoChanceMatch opens old.moment mid.moment mid → (disks : List Disk) → wholly disks → (d b : ℕ) (x : List ℕ) → IsTrue (opens x) → HaveHeld disks d b x → HaveHeld (now mid) d b x ⊎ asked d b x)
+    → ((d b : ℕ) → HasNoChanceMatch opens d b old.moment mid.moment mid → (disks : List Disk) → partly disks → (x : List ℕ) → IsTrue (opens x) → HaveHeld disks d b x → HaveHeld (now mid) d b x ⊎ asked d b x)
+    → ((d b : ℕ) → HasNoChanceMatch opens d b old.moment mid.moment mid → (disks : List Disk) → wholly disks → (x : List ℕ) → IsTrue (opens x) → HaveHeld disks d b x → HaveHeld (now mid) d b x ⊎ asked d b x)
     → HoldOnly opens asked old new
-hold_on result opens asked partly wholly old mid new begun so_far changes inside after m lo hi no_chance d b x is_open held =
+hold_on result opens asked partly wholly old mid new begun so_far changes inside after m lo hi d b no_chance x is_open held =
     ⊎_elim
     (λ (earlier : m ≤ mid.moment).
-    so_far m lo earlier (no_chance_before opens old.moment m mid new changes.past m (omega arith) earlier no_chance) d b x is_open
+    so_far m lo earlier d b (no_chance_before opens d b old.moment m mid new changes.past m (omega arith) earlier no_chance) x is_open
     (subst (λ (ds : List Disk). HaveHeld ds d b x) (changes.past m earlier) held))
     (λ (later : mid.moment < m).
-    let by_then = no_chance_before opens old.moment m mid new changes.past mid.moment (omega (arith, later)) (omega arith) no_chance in
+    let by_then = no_chance_before opens d b old.moment m mid new changes.past mid.moment (omega (arith, later)) (omega arith) no_chance in
     ⊎_elim
-    (λ (before : HaveHeld (now mid) d b x). so_far mid.moment begun (omega arith) by_then d b x is_open before)
+    (λ (before : HaveHeld (now mid) d b x). so_far mid.moment begun (omega arith) d b by_then x is_open before)
     (λ (was_asked : asked d b x). inr was_asked)
     (⊎_elim
-    (λ (within : m < new.moment). inside by_then (new.disks m) (changes.inside m later within) d b x is_open held)
+    (λ (within : m < new.moment). inside d b by_then (new.disks m) (changes.inside m later within) x is_open held)
     (λ (end : new.moment ≤ m).
     let same : m ≡ new.moment = omega (arith, hi, end) in
     let now_held : HaveHeld (now new) d b x = subst (λ n. HaveHeld (new.disks n) d b x) same held in
     ended result (HaveHeld (now mid) d b x ⊎ asked d b x) _ _ changes.after
-    (λ is. after by_then (now new) is d b x is_open now_held)
-    (λ is. inside by_then (now new) is d b x is_open now_held))
+    (λ is. after d b by_then (now new) is x is_open now_held)
+    (λ is. inside d b by_then (now new) is x is_open now_held))
     (cases_lt m new.moment)))
     (earlier_or_later m mid.moment)
 
@@ -124,23 +122,23 @@ module _ (opens : List ℕ → Bool) (asked : ℕ → ℕ → List ℕ → Type 
   pub hold_by_write : {T E : Type 0} (result : Result T E) (dev block : ℕ) (bytes : List ℕ) (new : DevicesState) → asked dev block bytes
       → ChangesDisks result (MayBeWritten dev block bytes (now mid)) (Is (changed dev (written block bytes) (now mid))) mid new → HoldOnly opens asked old new
   hold_by_write result dev block bytes new ask changes = hold_on result opens asked _ _ old mid new begun so_far changes
-      (λ by_then disks maybe d b x is_open held. ⊎_elim
+      (λ d b by_then disks maybe x is_open held. ⊎_elim
       (λ (same : disks ≡ now mid). held_as_before disks d b x same held)
       (λ (spoilt : (left : List ℕ) × IsBlock left × (disks ≡ changed dev (after_write block bytes left) (now mid))). held_if_written dev block bytes spoilt.0 disks d b x ask spoilt.2 held)
       maybe)
-      (λ by_then disks is d b x is_open held. held_if_written dev block bytes bytes disks d b x ask is held)
+      (λ d b by_then disks is x is_open held. held_if_written dev block bytes bytes disks d b x ask is held)
 
   -- A flush adds nothing: what was read there opens by no chance.
-  pub hold_by_flush : {T E : Type 0} (result : Result T E) (dev : ℕ) (new : DevicesState) → All IsDisk (now mid) → ChangesDisks result (Is (now mid)) (Is (changed dev flushed (now mid))) mid new → HoldOnly opens asked old new
-  hold_by_flush result dev new are changes = hold_on result opens asked _ _ old mid new begun so_far changes
-      (λ by_then disks is d b x is_open held. held_as_before disks d b x is held)
-      (λ by_then disks is d b x is_open held. inl (⊎_elim
+  pub hold_by_flush : {T E : Type 0} (result : Result T E) (dev : ℕ) (new : DevicesState) → ChangesDisks result (Is (now mid)) (Is (changed dev flushed (now mid))) mid new → HoldOnly opens asked old new
+  hold_by_flush result dev new changes = hold_on result opens asked _ _ old mid new begun so_far changes
+      (λ d b by_then disks is x is_open held. held_as_before disks d b x is held)
+      (λ d b by_then disks is x is_open held. inl (⊎_elim
       (λ (before : HaveHeld (now mid) d b x). before)
-      (λ (read : block_at (as_read (now mid)) d b ≡ Some x). by_then mid.moment begun (omega arith) (as_read (now mid)) (as_read_may_be_left (now mid) are) d b x read is_open)
+      (λ (read : block_at (as_read (now mid)) d b ≡ Some x). by_then mid.moment begun (omega arith) x read is_open)
       (held_by_flush (now mid) dev d b x (subst (λ (ds : List Disk). HaveHeld ds d b x) is held))))
 
   -- A read adds nothing.
   pub hold_by_read : {T E : Type 0} (result : Result T E) (new : DevicesState) → ChangesDisks result (Is (now mid)) (Is (now mid)) mid new → HoldOnly opens asked old new
   hold_by_read result new changes = hold_on result opens asked _ _ old mid new begun so_far changes
-      (λ by_then disks is d b x is_open held. held_as_before disks d b x is held)
-      (λ by_then disks is d b x is_open held. held_as_before disks d b x is held)
+      (λ d b by_then disks is x is_open held. held_as_before disks d b x is held)
+      (λ d b by_then disks is x is_open held. held_as_before disks d b x is held)

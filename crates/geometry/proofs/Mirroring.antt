@@ -1,8 +1,9 @@
 -- What flushes and mirrored writes leave, and what they ask for.
-use Rattle.std.proofs.Common.{◌≡◌, ℕ, zero, suc, ◌+◌, ◌<◌, ◌≤◌, Bool, List, [], ◌∷◌, length, get_or, Some, refl, ap, ◌∙◌, sym, subst, arith, ⊎_elim, All, MatchResult, Result, Ok, Err}
+use Rattle.std.proofs.Common.{◌≡◌, ℕ, zero, suc, ◌+◌, ◌<◌, ◌≤◌, Bool, List, [], ◌∷◌, length, get_or, slice_get, Some, refl, ap, ◌∙◌, sym, subst, arith, ⊎_elim, All, MatchResult, Result, Ok, Err}
 use Rattle.std.proofs.lemmas.Bool.{cases_lt}
 use Rattle.std.proofs.lemmas.List.{length-map}
-use Rattle.dev_model.specs.Disk.{Disk, Image, IsBlock, IsDisk, IsCrashImage, as_read, block_at, changed, after_write, flushed, written, sizes_of}
+use Rattle.std.proofs.lemmas.Option.{none-some, same_Some}
+use Rattle.dev_model.specs.Disk.{Disk, Image, IsAtRest, IsBlock, IsDisk, IsCrashImage, as_read, block_at, changed, after_write, flushed, written, sizes_of}
 use Rattle.dev_model.specs.Devices.{DevicesState, ChangesDisks, Is, MayBeWritten, now}
 use Rattle.dev_model.specs.Crashes.{EachCrash, IsAt, IsCrashImageBut, SameBut}
 use Rattle.dev_model.specs.CrashLaws.{started, goes_on}
@@ -10,7 +11,7 @@ use Rattle.dev_model.specs.CrashDisks.{left_by_flush, slice_get-set_other}
 use Rattle.dev_model.specs.HeldBlocks.{HaveHeld, HoldOnly}
 use Rattle.dev_model.specs.HeldLaws.{no_chance_before}
 use Rattle.dev_model.specs.PlaceLaws.{IsSettled, reads_flushed, reads_written, reads_written_elsewhere, settled_by_flush, settled_over_flush}
-use Rattle.geometry.specs.Mirrors.{HoldMirrors, NoBlock}
+use Rattle.geometry.specs.Mirrors.{AreAtRest, HoldMirrors, NoBlock}
 
 -- There are as many sizes as disks.
 pub disk_count : (disks : List Disk) → length (sizes_of disks) ≡ length disks
@@ -44,6 +45,28 @@ settles_more disks new count are within is settled dev le = subst (λ ds. IsSett
     (λ (before : dev < count). settled_over_flush disks count dev are (settled dev before))
     (λ (last : count ≤ dev). let e : count ≡ dev = omega (arith, le, last) in subst (λ n. IsSettled (changed count flushed disks) n) e (settled_by_flush disks count within))
     (cases_lt dev count))
+
+-- What was flushed is at rest, and what wasn't is as it was.
+at_flushed : (disks : List Disk) (dev : ℕ) (disk : Disk) → slice_get (changed dev flushed disks) dev ≡ Some disk → IsAtRest disk
+at_flushed [] dev disk there = absurd (none-some disk there)
+at_flushed (one ∷ disks) zero disk there = subst IsAtRest (same_Some (flushed one) disk there) (record { writes = refl; extension = refl })
+at_flushed (one ∷ disks) (suc dev) disk there = at_flushed disks dev disk there
+
+not_flushed : (disks : List Disk) (dev other : ℕ) → ¬ (other ≡ dev) → slice_get (changed dev flushed disks) other ≡ slice_get disks other
+not_flushed [] dev other differs = refl
+not_flushed (one ∷ disks) zero zero differs = absurd (differs refl)
+not_flushed (one ∷ disks) zero (suc other) differs = refl
+not_flushed (one ∷ disks) (suc dev) zero differs = refl
+not_flushed (one ∷ disks) (suc dev) (suc other) differs = not_flushed disks dev other (λ e. differs (ap suc e))
+
+-- After one flush more one device more is at rest.
+pub rests_more : (disks new : List Disk) (count : ℕ) → new ≡ changed count flushed disks → AreAtRest count disks → AreAtRest (count + 1) new
+rests_more disks new count is rest dev disk le there =
+    let at : slice_get (changed count flushed disks) dev ≡ Some disk = subst (λ (ds : List Disk). slice_get ds dev ≡ Some disk) is there in
+    ⊎_elim
+    (λ (before : dev < count). rest dev disk before (sym (not_flushed disks count dev (λ e. omega (arith, e, before))) ∙ at))
+    (λ (last : count ≤ dev). let e : dev ≡ count = omega (arith, le, last) in at_flushed disks count disk (subst (λ n. slice_get (changed count flushed disks) n ≡ Some disk) e at))
+    (cases_lt dev count)
 
 -- After one write more one mirror more is read.
 pub written_more : (disks new : List Disk) (count block : ℕ) (bytes : List ℕ) → block < get_or (sizes_of disks) count 0 → new ≡ changed count (written block bytes) disks
@@ -103,13 +126,13 @@ settled_mirrors mid new mirrors block bytes read same settled image may dev with
 -- Flushes after writes ask for nothing more than the writes.
 pub hold_then_flushes : (opens : List ℕ → Bool) (asked : ℕ → ℕ → List ℕ → Type 0) (old mid new : DevicesState) → old.moment ≤ mid.moment
     → ((m : ℕ) → m ≤ mid.moment → new.disks m ≡ mid.disks m) → HoldOnly opens asked old mid → HoldOnly opens NoBlock mid new → HoldOnly opens asked old new
-hold_then_flushes opens asked old mid new begun past writes flushes m lo hi no_chance d b x is_open held = ⊎_elim
+hold_then_flushes opens asked old mid new begun past writes flushes m lo hi d b no_chance x is_open held = ⊎_elim
     (λ (later : mid.moment < m). ⊎_elim
     (λ (before : HaveHeld (now mid) d b x).
-    writes mid.moment begun (omega arith) (no_chance_before opens old.moment m mid new past mid.moment (omega (arith, later)) (omega arith) no_chance) d b x is_open before)
+    writes mid.moment begun (omega arith) d b (no_chance_before opens d b old.moment m mid new past mid.moment (omega (arith, later)) (omega arith) no_chance) x is_open before)
     (λ (none : ⊥). absurd none)
-    (flushes m (omega (arith, later)) hi (λ n from to image may. no_chance n (omega (arith, begun, from)) to image may) d b x is_open held))
+    (flushes m (omega (arith, later)) hi d b (λ n from to. no_chance n (omega (arith, begun, from)) to) x is_open held))
     (λ (earlier : m ≤ mid.moment).
-    writes m lo earlier (no_chance_before opens old.moment m mid new past m (omega arith) earlier no_chance) d b x is_open
+    writes m lo earlier d b (no_chance_before opens d b old.moment m mid new past m (omega arith) earlier no_chance) x is_open
     (subst (λ (ds : List Disk). HaveHeld ds d b x) (past m earlier) held))
     (cases_lt mid.moment m)

@@ -1,6 +1,6 @@
 -- Blocks that stand at one place on each of the first devices.
-use Rattle.std.specs.Prelude.{◌≡◌, ℕ, ◌<◌, List, Some, Result, IfErr}
-use Rattle.dev_model.specs.Disk.{Image, block_at}
+use Rattle.std.specs.Prelude.{◌≡◌, ℕ, ◌<◌, List, Some, Result, IfErr, slice_get}
+use Rattle.dev_model.specs.Disk.{Disk, Image, IsAtRest, block_at}
 use Rattle.dev_model.specs.Devices.{IsPlace}
 use Rattle.geometry.specs.declared.fault.DiskFault.{DiskFault}
 use Rattle.geometry.specs.declared.fault.DiskFault.TheVariants.{DeviceFault}
@@ -28,3 +28,7 @@ HoldMirrors mirrors block bytes image = (dev : ℕ) → dev < mirrors → block_
 -- Where it fails, it names one of the first so many devices.
 abbrev pub NamesOneOf : {T : Type 0} → ℕ → Result T DiskFault → Type 0
 NamesOneOf count result = IfErr result (λ fault. (dev : ℕ) × (dev < count) × (fault ≡ DeviceFault dev))
+
+-- Nothing of the first so many devices is pending.
+abbrev pub AreAtRest : ℕ → List Disk → Type 0
+AreAtRest count disks = (dev : ℕ) (disk : Disk) → dev < count → slice_get disks dev ≡ Some disk → IsAtRest disk

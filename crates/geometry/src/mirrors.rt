@@ -6,7 +6,7 @@ ghost use Rattle.dev_model.specs.PlaceLaws.{IsSettled};
 ghost use Rattle.dev_model.specs.Crashes.{EachCrash, EachCrashNow, IsCrashImageBut, SameBut};
 ghost use Rattle.dev_model.specs.HeldBlocks.{HoldOnly};
 ghost use Rattle.geometry.specs.Faults.{failed_device};
-ghost use Rattle.geometry.specs.Mirrors.{HaveBlock, HoldMirrors, IsMirror, IsMirrorBlock, NamesOneOf, NoBlock};
+ghost use Rattle.geometry.specs.Mirrors.{AreAtRest, HaveBlock, HoldMirrors, IsMirror, IsMirrorBlock, NamesOneOf, NoBlock};
 
 use crate::fault::DiskFault;
 use dev_model::Devices;
@@ -53,6 +53,7 @@ pub fn flush_devices<D: Devices>(devices: &mut D, count: u8) -> Result<(), DiskF
         block ≡ block_at (as_read (now (D.state devices.old))) dev block }
     ensures settled { D.tells → OnOk result ((dev : ℕ) → dev < count
         → IsSettled (now (D.state devices.new)) dev) }
+    ensures rest { D.tells → OnOk result (AreAtRest count (now (D.state devices.new))) }
     ensures asks { D.tells → (opens : List ℕ → Bool) → HoldOnly opens NoBlock (D.state devices.old)
         (D.state devices.new) }
     ensures goes_on { GoOn (D.state devices.old) (D.state devices.new) }
@@ -111,6 +112,7 @@ pub fn settle_mirrors<D: Devices>(
         (now (D.state devices.old)) image) (D.state devices.old) (D.state devices.new) }
     ensures held { D.tells → OnOk result (EachCrashNow (HoldMirrors mirrors block bytes.now)
         (D.state devices.new)) }
+    ensures rest { D.tells → OnOk result (AreAtRest mirrors (now (D.state devices.new))) }
     ensures elsewhere { D.tells → SameBut (IsMirror mirrors block)
         (as_read (now (D.state devices.old))) (as_read (now (D.state devices.new))) }
     ensures asks { D.tells → (opens : List ℕ → Bool)

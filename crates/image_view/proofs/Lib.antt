@@ -1,1 +1,3 @@
 pub mod CrashNewest
+pub mod OtherSession
+pub mod MendedImages

@@ -22,8 +22,8 @@ use Rattle.key_meaning.specs.Blocks.{block_of}
 use Rattle.key_meaning.specs.Checks.{IsSound}
 use Rattle.key_meaning.specs.ReadLaws.{forest_in-agree}
 use Rattle.key_meaning.specs.Reads.{AgreeOnBlocks, AgreeOnEntry as ReadAlike}
-use Rattle.image_view.specs.Bases.{AgreeAt, AgreeInBucket, AgreeOnBase, AgreeOnContent, AgreeOnEntry, AgreeOnNode, IsNewest}
-use Rattle.image_view.specs.Found.{Found, MountsAs, Volume, bad_place, found, node_places, read_in, sets_in, super_fault, updates_of, volume_of, with_digest}
+use Rattle.image_view.specs.Bases.{AgreeAt, AgreeInBucket, AgreeOnBase, AgreeOnContent, AgreeOnEntry, AgreeOnNode, AgreeOnNodes, IsNewest}
+use Rattle.image_view.specs.Found.{Found, MountsAs, Volume, bad_place, found, node_places, read_in, sets_in, super_fault, updates_of, volume_of, with_digest, with_session}
 use Rattle.image_view.specs.TreeLaws.{HasSameSets, HaveSameSets, trees_of-same}
 use Rattle.image_view.specs.Trees.{TreesRead, nodes_of, trees_of}
 use Rattle.image_view.specs.declared.fault.MountFault.{MountFault}
@@ -44,7 +44,7 @@ unfolding copy_at
 copy-same one other place agree = below-same one other place bucket_blocks (omega arith) agree
 
 -- and so at several places
-copies-same : (one other : Image) (places : List Place) → All (AgreeInBucket one other) places → copies_at (block_at other) places ≡ copies_at (block_at one) places
+pub copies-same : (one other : Image) (places : List Place) → All (AgreeInBucket one other) places → copies_at (block_at other) places ≡ copies_at (block_at one) places
 copies-same one other [] agree = refl
 copies-same one other (place ∷ places) agree =
     ap (λ copy. copy ∷ copies_at (block_at other) places) (copy-same one other place (All-head (AgreeInBucket one other) place places agree))
@@ -65,7 +65,7 @@ nodes-same layout one other (pointer ∷ pointers) agree =
 session_at-same : (id : List ℕ) (one other : Image) (dev block : ℕ) → block_at one dev block ≡ block_at other dev block → session_at id other dev block ≡ session_at id one dev block
 session_at-same id one other dev block agree = ap (option_and_then (session_named id block)) (sym agree)
 
-greatest_session-same : (id : List ℕ) (one other : Image) (count : ℕ) → ((dev : ℕ) → dev < count → block_at one dev 4 ≡ block_at other dev 4) → ((dev : ℕ) → dev < count → block_at one dev 5 ≡ block_at other dev 5)
+pub greatest_session-same : (id : List ℕ) (one other : Image) (count : ℕ) → ((dev : ℕ) → dev < count → block_at one dev 4 ≡ block_at other dev 4) → ((dev : ℕ) → dev < count → block_at one dev 5 ≡ block_at other dev 5)
     → greatest_session id other count ≡ greatest_session id one count
 greatest_session-same id one other zero even odd = refl
 greatest_session-same id one other (suc dev) even odd =
@@ -100,27 +100,29 @@ found-steps : (image : Image) → found image ≡ (carried super_fault (layout_i
 unfolding found
 found-steps image = refl
 
-module _ (one other : Image) (layout : Layout) (session : ℕ) (last : FoundEntry) (needed : List FoundEntry) (trees : TreesRead) where
-  parts-same : carried super_fault (layout_in one) ≡ Ok layout → ok_or (session_in layout one) NoEntry ≡ Ok session → trees_of (sets_in layout one) (updates_of needed) last.entry.roots ≡ Ok trees
-      → AgreeOnBase (record { layout = layout; session = session; last = last; needed = needed; trees = trees }) one other → IsNewest (record { layout = layout; session = session; last = last; needed = needed; trees = trees }) other
-      → found other ≡ made layout session last needed trees
-  parts-same lays names read agree new =
+module _ (one other : Image) (layout : Layout) (session named : ℕ) (last : FoundEntry) (needed : List FoundEntry) (trees : TreesRead) where
+  parts-same : carried super_fault (layout_in one) ≡ Ok layout → trees_of (sets_in layout one) (updates_of needed) last.entry.roots ≡ Ok trees
+      → AgreeOnNodes (record { layout = layout; session = session; last = last; needed = needed; trees = trees }) one other → session_in layout other ≡ Some named → IsNewest (record { layout = layout; session = session; last = last; needed = needed; trees = trees }) other
+      → found other ≡ made layout named last needed trees
+  parts-same lays read agree names new =
       let layouts : layout_in one ≡ layout_in other = same_layout one other agree.lengths (λ dev. same_counting one other dev (agree.first_copies dev) (agree.second_copies dev)) in
-      let sessions : session_in layout other ≡ session_in layout one = greatest_session-same layout.id one other layout.metadata_replicas agree.even_sessions agree.odd_sessions in
       found-steps other
       ∙ ap (λ r. carried super_fault r >>= session_by other) (sym layouts)
       ∙ ap (λ r. r >>= session_by other) lays
-      ∙ ap (λ s. ok_or s NoEntry >>= last_by other layout) sessions
-      ∙ ap (λ r. r >>= last_by other layout) names
-      ∙ ap (λ n. ok_or n NoEntry >>= entries_by other layout session) new.last
-      ∙ ap (λ n. carried MissingEntry n >>= trees_by other layout session last) new.needed
-      ∙ ap (λ t. carried BadNode t >>= made layout session last needed)
+      ∙ ap (λ s. ok_or s NoEntry >>= last_by other layout) names
+      ∙ ap (λ n. ok_or n NoEntry >>= entries_by other layout named) new.last
+      ∙ ap (λ n. carried MissingEntry n >>= trees_by other layout named last) new.needed
+      ∙ ap (λ t. carried BadNode t >>= made layout named last needed)
       (trees_of-same (sets_in layout one) (sets_in layout other) (updates_of needed) last.entry.roots trees read (nodes-same layout one other (nodes_of trees.nodes) agree.nodes))
 
--- The law over images: what is found in an image is found in each one that agrees with it on the base of its newest entry, where that
--- entry is the newest too, and the entries that it needs are the same.
-pub found-same : (one other : Image) (f : Found) → found one ≡ Ok f → AgreeOnBase f one other → IsNewest f other → found other ≡ Ok f
-found-same one other f is agree new =
+or_none : {X : Type 0} (o : Option X) (x : X) (fault : MountFault) → ok_or o fault ≡ Ok x → o ≡ Some x
+or_none None x fault same = absurd cc
+or_none (Some y) x fault same = ap (λ v. Some v) (ok_is y x same)
+
+-- What is found in an image is found in each one that agrees with it on the superblocks and the nodes, in the session that it names,
+-- where the newest entry is the same, and the entries that it needs are.
+pub found-again : (one other : Image) (f : Found) (session : ℕ) → found one ≡ Ok f → AgreeOnNodes f one other → session_in f.layout other ≡ Some session → IsNewest f other → found other ≡ Ok (with_session session f)
+found-again one other f session is agree names new =
     let a = bind_ok (carried super_fault (layout_in one)) (session_by one) f (sym (found-steps one) ∙ is) in
     let b = bind_ok (ok_or (session_in a.0 one) NoEntry) (last_by one a.0) f a.2 in
     let c = bind_ok (ok_or (newest a.0 (area_of one)) NoEntry) (entries_by one a.0 b.0) f b.2 in
@@ -128,9 +130,29 @@ found-same one other f is agree new =
     let e = bind_ok (carried BadNode (trees_of (sets_in a.0 one) (updates_of d.0) c.0.entry.roots)) (made a.0 b.0 c.0 d.0) f d.2 in
     let parts : Found = record { layout = a.0; session = b.0; last = c.0; needed = d.0; trees = e.0 } in
     let whole : parts ≡ f = ok_is parts f e.2 in
-    parts-same one other a.0 b.0 c.0 d.0 e.0 a.1 b.1 (carried-ok BadNode (trees_of (sets_in a.0 one) (updates_of d.0) c.0.entry.roots) e.0 e.1)
-    (subst (λ (g : Found). AgreeOnBase g one other) (sym whole) agree) (subst (λ (g : Found). IsNewest g other) (sym whole) new)
-    ∙ e.2
+    parts-same one other a.0 b.0 session c.0 d.0 e.0 a.1 (carried-ok BadNode (trees_of (sets_in a.0 one) (updates_of d.0) c.0.entry.roots) e.0 e.1)
+    (subst (λ (g : Found). AgreeOnNodes g one other) (sym whole) agree)
+    (subst (λ (g : Found). session_in g.layout other ≡ Some session) (sym whole) names)
+    (subst (λ (g : Found). IsNewest g other) (sym whole) new)
+    ∙ ap (λ (g : Found). Ok (with_session session g)) whole
+
+-- An image's session is the one that was found.
+pub found-session : (image : Image) (f : Found) → found image ≡ Ok f → session_in f.layout image ≡ Some f.session
+found-session image f is =
+    let a = bind_ok (carried super_fault (layout_in image)) (session_by image) f (sym (found-steps image) ∙ is) in
+    let b = bind_ok (ok_or (session_in a.0 image) NoEntry) (last_by image a.0) f a.2 in
+    let c = bind_ok (ok_or (newest a.0 (area_of image)) NoEntry) (entries_by image a.0 b.0) f b.2 in
+    let d = bind_ok (carried MissingEntry (needed_by a.0 (area_of image) c.0)) (trees_by image a.0 b.0 c.0) f c.2 in
+    let e = bind_ok (carried BadNode (trees_of (sets_in a.0 image) (updates_of d.0) c.0.entry.roots)) (made a.0 b.0 c.0 d.0) f d.2 in
+    let parts : Found = record { layout = a.0; session = b.0; last = c.0; needed = d.0; trees = e.0 } in
+    subst (λ (g : Found). session_in g.layout image ≡ Some g.session) (ok_is parts f e.2) (or_none (session_in a.0 image) b.0 NoEntry b.1)
+
+-- The law over images: what is found in an image is found in each one that agrees with it on the base of its newest entry, where that
+-- entry is the newest too, and the entries that it needs are the same.
+pub found-same : (one other : Image) (f : Found) → found one ≡ Ok f → AgreeOnBase f one other → IsNewest f other → found other ≡ Ok f
+found-same one other f is agree new =
+    found-again one other f f.session is (record { lengths = agree.lengths; first_copies = agree.first_copies; second_copies = agree.second_copies; nodes = agree.nodes })
+    (greatest_session-same f.layout.id one other f.layout.metadata_replicas agree.even_sessions agree.odd_sessions ∙ found-session one f is) new
 
 -- What an image's own newest entry is follows from what was found.
 pub found-newest : (image : Image) (f : Found) → found image ≡ Ok f → IsNewest f image
@@ -142,13 +164,9 @@ found-newest image f is =
     let e = bind_ok (carried BadNode (trees_of (sets_in a.0 image) (updates_of d.0) c.0.entry.roots)) (made a.0 b.0 c.0 d.0) f d.2 in
     let parts : Found = record { layout = a.0; session = b.0; last = c.0; needed = d.0; trees = e.0 } in
     subst (λ (g : Found). IsNewest g image) (ok_is parts f e.2) (record {
-      last = or_none (newest a.0 (area_of image)) c.0 c.1;
+      last = or_none (newest a.0 (area_of image)) c.0 NoEntry c.1;
       needed = carried-ok MissingEntry (needed_by a.0 (area_of image) c.0) d.0 d.1;
     })
-  where
-    or_none : (o : Option FoundEntry) (x : FoundEntry) → ok_or o NoEntry ≡ Ok x → o ≡ Some x
-    or_none None x same = absurd cc
-    or_none (Some y) x same = ap (λ v. Some v) (ok_is y x same)
 
 -- And so does its layout.
 pub found-layout : (image : Image) (f : Found) → found image ≡ Ok f → layout_in image ≡ Ok f.layout
@@ -161,6 +179,18 @@ found-layout image f is =
     let parts : Found = record { layout = a.0; session = b.0; last = c.0; needed = d.0; trees = e.0 } in
     carried-ok super_fault (layout_in image) f.layout (a.1 ∙ ap (λ (g : Found). Ok g.layout) (ok_is parts f e.2))
 
+-- And its btrees are what its entries and the image's sets mean.
+pub found-trees : (image : Image) (f : Found) → found image ≡ Ok f → trees_of (sets_in f.layout image) (updates_of f.needed) f.last.entry.roots ≡ Ok f.trees
+found-trees image f is =
+    let a = bind_ok (carried super_fault (layout_in image)) (session_by image) f (sym (found-steps image) ∙ is) in
+    let b = bind_ok (ok_or (session_in a.0 image) NoEntry) (last_by image a.0) f a.2 in
+    let c = bind_ok (ok_or (newest a.0 (area_of image)) NoEntry) (entries_by image a.0 b.0) f b.2 in
+    let d = bind_ok (carried MissingEntry (needed_by a.0 (area_of image) c.0)) (trees_by image a.0 b.0 c.0) f c.2 in
+    let e = bind_ok (carried BadNode (trees_of (sets_in a.0 image) (updates_of d.0) c.0.entry.roots)) (made a.0 b.0 c.0 d.0) f d.2 in
+    let parts : Found = record { layout = a.0; session = b.0; last = c.0; needed = d.0; trees = e.0 } in
+    subst (λ (g : Found). trees_of (sets_in g.layout image) (updates_of g.needed) g.last.entry.roots ≡ Ok g.trees) (ok_is parts f e.2)
+    (carried-ok BadNode (trees_of (sets_in a.0 image) (updates_of d.0) c.0.entry.roots) e.0 e.1)
+
 -- ---- the content of files
 
 -- what is read at places on which two images agree
@@ -171,7 +201,7 @@ reads-same one other digest (place ∷ places) agree =
     ∙ ap (λ rest. option_or (with_digest digest (block_at other place.dev place.block)) rest) (reads-same one other digest places (All-tail (λ place. AgreeAt one other place.dev place.block) place places agree))
 
 -- Images that agree on the blocks of all extents of what was found give the same for each.
-content-same : (f : Found) (one other : Image) → AgreeOnContent f one other → AgreeOnBlocks f.trees.keys (read_in one) (read_in other)
+pub content-same : (f : Found) (one other : Image) → AgreeOnContent f one other → AgreeOnBlocks f.trees.keys (read_in one) (read_in other)
 content-same f one other agree = record {
   each = All-weaker (AgreeOnEntry one other) (ReadAlike (read_in one) (read_in other))
       (λ entry same extent is. record { each = λ index lt. reads-same one other (block_of extent index).digest (block_of extent index).places (same extent is index lt) }) f.trees.keys.extents agree.extents;

@@ -1,5 +1,5 @@
 -- The base of an entry: the blocks of an image on which it hangs what the image means where this entry is the newest.
-use Rattle.std.specs.Prelude.{◌≡◌, ℕ, ◌+◌, ◌<◌, length, map, All, Some, Ok}
+use Rattle.std.specs.Prelude.{◌≡◌, ◌≢◌, ℕ, ◌+◌, ◌<◌, length, map, All, Some, Ok}
 use Rattle.dev_model.specs.Disk.{Image, block_at}
 use Rattle.journal_ring.specs.Counting.{needed_by, newest}
 use Rattle.journal_ring.specs.Entries.{AgreeFrom}
@@ -39,6 +39,13 @@ AgreeOnExtent one other extent = (index : ℕ) → index < length extent.digests
 abbrev pub AgreeOnEntry : Image → Image → Pos × Value → Type 0
 AgreeOnEntry one other entry = (extent : Extent) → entry.1 ≡ values.Extent extent → AgreeOnExtent one other extent
 
+-- Two images of equal lengths agree on the superblocks, and on the buckets of all nodes that were read.
+pub record AgreeOnNodes (f : Found) (one other : Image) : Type 0 where
+  pub lengths : map (λ blocks. length blocks) one ≡ map (λ blocks. length blocks) other
+  pub first_copies : (dev : ℕ) → AgreeAt one other dev 0
+  pub second_copies : (dev : ℕ) → AgreeAt one other dev 8
+  pub nodes : All (AgreeOnNode one other) (nodes_of f.trees.nodes)
+
 -- Two images of equal lengths agree on the base of what was found: the superblocks, the session blocks, the places of the needed
 -- entries, and the buckets of all nodes that were read.
 pub record AgreeOnBase (f : Found) (one other : Image) : Type 0 where
@@ -58,3 +65,8 @@ pub record AgreeOnContent (f : Found) (one other : Image) : Type 0 where
 pub record IsNewest (f : Found) (image : Image) : Type 0 where
   pub last : newest f.layout (area_of image) ≡ Some f.last
   pub needed : needed_by f.layout (area_of image) f.last ≡ Ok f.needed
+
+-- Two images of equal lengths agree everywhere but in blocks 4 and 5, in which sessions are sealed.
+pub record DifferInSessions (one other : Image) : Type 0 where
+  pub lengths : map (λ blocks. length blocks) one ≡ map (λ blocks. length blocks) other
+  pub elsewhere : (dev block : ℕ) → block ≢ 4 → block ≢ 5 → AgreeAt one other dev block

@@ -1,10 +1,10 @@
--- What a whole entry of an image that a crash leaves is made of, where no block of it opens by chance.
-use Rattle.std.proofs.Common.{◌≡◌, ℕ, ◌+◌, ◌%◌, ◌<◌, ◌≤◌, Bool, List, [], length, Option, Some, sym, ap, ◌∙◌, arith}
+-- What a whole entry of an image that a crash leaves is made of, where no block of its journal areas opens by chance.
+use Rattle.std.proofs.Common.{◌≡◌, ℕ, ◌+◌, ◌%◌, ◌<◌, Bool, List, [], length, Option, Some, sym, ap, ◌∙◌, arith}
 use Rattle.std.specs.Prelude.{is_some, slice_index_or, All}
 use Rattle.sha2.specs.Sha256.{sha256}
 use Rattle.dev_model.specs.Devices.{DevicesState}
 use Rattle.dev_model.specs.Disk.{Disk, Image}
-use Rattle.dev_model.specs.HeldBlocks.{HasNoCollision, HaveHeld, OnlyHeldOpen, WasHeld}
+use Rattle.dev_model.specs.HeldBlocks.{HasNoCollision, HaveHeld, OnlyHeldOpensAt, WasHeld}
 use Rattle.journal_ring.specs.Entries.{IsMadeOf, IsWholeOn}
 use Rattle.std.proofs.lemmas.Option.{same_Some}
 use Rattle.journal_ring.specs.MadeOf.{made_of}
@@ -22,16 +22,21 @@ use Rattle.image_view.specs.Found.{Found, PassesNone}
 abbrev pub opens : List ℕ → Bool
 opens bytes = is_some (opened bytes)
 
+-- Each block of the journal area of a metadata device that opens is one that its disk has held there. So no torn block's digest
+-- matches by chance. It isn't said of other places: those of files may hold what clients made.
+abbrev pub OnlyHeldEntriesOpen : Layout → List Disk → Image → Type 0
+OnlyHeldEntriesOpen layout disks image = (dev place : ℕ) → dev < layout.metadata_replicas → place < layout.journal → OnlyHeldOpensAt opens disks image dev (16 + place)
+
 -- Each block of an entry is one that the disks of some metadata device have held at the place of its number: it was last settled there,
 -- or it was asked since to be written there.
 pub record IsHeldEntry (layout : Layout) (disks : List Disk) (image : Image) (found : FoundEntry) (blocks : List (List ℕ)) : Type 0 where
   pub made : IsMadeOf layout (area_of image) found blocks
   pub held : (p : ℕ) → p < length blocks → (dev : ℕ) × (dev < layout.metadata_replicas) × HaveHeld disks dev (16 + (found.number + p) % layout.journal) (slice_index_or blocks p [])
 
--- In an image in which only held blocks open, each whole entry is made of held blocks.
-pub whole-held : (layout : Layout) (disks : List Disk) (image : Image) (dev : ℕ) (found : FoundEntry) → OnlyHeldOpen opens disks image → IsWholeOn layout (area_of image) dev found
+-- In an image in whose journal areas only held blocks open, each whole entry is made of held blocks.
+pub whole-held : (layout : Layout) (disks : List Disk) (image : Image) (dev : ℕ) (found : FoundEntry) → 0 < layout.journal → OnlyHeldEntriesOpen layout disks image → IsWholeOn layout (area_of image) dev found
     → (blocks : List (List ℕ)) × IsHeldEntry layout disks image found blocks
-whole-held layout disks image dev found only whole =
+whole-held layout disks image dev found some only whole =
     let made = made_of layout (area_of image) dev found whole in (
       made.0,
       record {
@@ -40,13 +45,14 @@ whole-held layout disks image dev found only whole =
             let stand = made.1.stand p lt in
             let all = made.1.record_is.parts in
             let part = all.parts p (omega (arith, lt, all.count)) in
-            (stand.0, stand.1, only stand.0 (16 + (found.number + p) % layout.journal) (slice_index_or made.0 p []) stand.2 (ap is_some part.opens));
+            (stand.0, stand.1, only stand.0 ((found.number + p) % layout.journal) stand.1 (omega (arith, some)) (slice_index_or made.0 p []) stand.2 (ap is_some part.opens));
       },
     )
 
--- No entry that is made of held blocks passes those that were found.
+-- No whole entry that is made of held blocks passes those that were found.
 abbrev pub NonePasses : Found → List Disk → Image → Type 0
-NonePasses f disks image = (entry : FoundEntry) (blocks : List (List ℕ)) → IsHeldEntry f.layout disks image entry blocks → PassesNone f entry
+NonePasses f disks image =
+    (dev : ℕ) (entry : FoundEntry) (blocks : List (List ℕ)) → IsWholeOn f.layout (area_of image) dev entry → IsHeldEntry f.layout disks image entry blocks → PassesNone f entry
 
 -- The blocks are a record with this payload and this record digest.
 abbrev pub IsRecordOf : List (List ℕ) → List ℕ → List ℕ → Type 0

@@ -1,7 +1,7 @@
 -- What an image means, in its parts: the layout and the session, the entries that are needed, the btrees that these and the nodes
 -- make; and with them the volume.
-use Rattle.std.specs.Prelude.{◌≡◌, ◌==◌, ℕ, ◌+◌, ◌*◌, ◌<◌, ◌≤◌, ◌^◌, if◌then◌else◌, List, [], ◌∷◌, All, Option, Some, None, Result, Ok, Err, ⊤}
-use Rattle.std.specs.List.{flat_map}
+use Rattle.std.specs.Prelude.{◌≡◌, ◌==◌, ℕ, ◌+◌, ◌*◌, ◌<◌, ◌≤◌, ◌^◌, if◌then◌else◌, List, [], ◌∷◌, map, slice_get, Contains, All, IfSome, Option, Some, None, Result, Ok, Err, ⊤}
+use Rattle.std.specs.List.{flat_map, range_with_len}
 use Rattle.std.specs.Option.{ok_or, option_or}
 use Rattle.dev_model.specs.Disk.{Image, block_at}
 use Rattle.geometry.specs.Sessions.{session_in}
@@ -11,16 +11,23 @@ use Rattle.geometry.specs.declared.fault.SuperFault.TheVariants as supers
 use Rattle.journal_ring.specs.Counting.{needed_by, newest}
 use Rattle.journal_ring.specs.Entries.{IsMadeOf}
 use Rattle.journal_ring.specs.Leading.{IsBehind}
-use Rattle.journal_ring.specs.Parts.{area_of}
+use Rattle.journal_ring.specs.Parts.{Area, area_of}
 use Rattle.journal_ring.specs.declared.found.FoundEntry.{FoundEntry}
 use Rattle.key_codec.specs.Formats.{◌>>=◌, carried}
 use Rattle.key_meaning.specs.Checks.{IsFirstFailed, IsSound}
 use Rattle.key_meaning.specs.Forest.{Read, forest_in}
+use Rattle.node_store.specs.Answers.{AreAlike}
+use Rattle.node_store.specs.Copies.{copies_at}
 use Rattle.node_store.specs.NodeContents.{content_of}
 use Rattle.plain_forest.specs.Forest.{Forest}
+use Rattle.sealed_block.specs.declared.heads.Head.{Head}
+use Rattle.sealed_block.specs.Opening.{opened}
+use Rattle.record_codec.specs.declared.entries.EntryRecord.{EntryRecord}
 use Rattle.vol_digest.specs.Digests.{short_of}
 use Rattle.vol_types.specs.declared.keys.Update.{Update}
 use Rattle.vol_types.specs.declared.layout.Layout.{Layout}
+use Rattle.vol_types.specs.Btrees.{btree_code}
+use Rattle.vol_types.specs.declared.pointers.NodeEnd.{NodeEnd}
 use Rattle.vol_types.specs.declared.pointers.NodePtr.{NodePtr}
 use Rattle.vol_types.specs.declared.pointers.Place.{Place}
 use Rattle.image_view.specs.Trees.{SetsOf, TreesRead, first_place, nodes_of, trees_of}
@@ -56,6 +63,10 @@ pub record Found : Type 0 where
   pub last : FoundEntry
   pub needed : List FoundEntry
   pub trees : TreesRead
+
+-- what was found, but in another session
+abbrev pub with_session : ℕ → Found → Found
+with_session session f = record f { session = session }
 
 -- what is found in an image, or the first fault
 unfoldable pub found : Image → Result Found MountFault
@@ -122,12 +133,45 @@ pub record PassesNone (f : Found) (entry : FoundEntry) : Type 0 where
   pub sequence : entry.entry.sequence ≤ f.last.entry.sequence
   pub behind : All (λ needed. entry.entry.sequence ≡ needed.entry.sequence → IsBehind entry needed) f.needed
 
--- An image that nobody else wrote is orderly: the needed entries follow each other without a gap; no entry passes these that its
--- blocks make up, from whichever device each part is taken; and each node was born in a session up to its own. That no two
--- nodes have one birth, and that no set of a node stands behind a gap, is part of what is found.
+-- They fit the journal area together: from the beginning of each to the end of each no place comes twice.
+abbrev pub FitTogether : Layout → List FoundEntry → Type 0
+FitTogether layout needed = All (λ one. All (λ other. other.end ≤ one.number + layout.journal) needed) needed
+
+-- Each block of the journal area that opens as a part of an entry of the volume was written in a session up to this one.
+abbrev pub AreOwned : Layout → ℕ → Area → Type 0
+AreOwned layout session area =
+    (dev place : ℕ) (bytes : List ℕ) (head : Head) → dev < layout.metadata_replicas → place < layout.journal
+    → area dev place ≡ Some bytes → opened bytes ≡ Some head → head.kind ≡ 2 → head.id ≡ layout.id → head.owner ≤ session
+
+-- The node has one place on each metadata device, in their order.
+abbrev pub IsMirrored : Layout → NodePtr → Type 0
+IsMirrored layout node = map (λ place. place.dev) node.places ≡ range_with_len 0 layout.metadata_replicas
+
+-- No update of the entry is above the root of its btree as the entry names it.
+abbrev pub IsBelowRoots : EntryRecord → Type 0
+IsBelowRoots entry = All (λ update. IfSome (slice_get entry.roots (btree_code update.btree)) (λ root. update.level ≤ root.level)) entry.updates
+
+-- The copies of a node's bucket show the same up to where its sets end.
+abbrev pub IsAlike : Found → Image → NodePtr → Type 0
+IsAlike f image node = (end : NodeEnd) → Contains f.trees.ends end → end.birth ≡ node.birth → AreAlike end.block (copies_at (block_at image) node.places)
+
+-- What was found in an image that nobody else wrote is orderly: the needed entries follow each other without a gap, and fit the
+-- journal area together; no entry passes them that its blocks make up, from whichever device each part is taken, and no block of
+-- it is of a later session, and no update of them is above its root; and each node stands on every metadata device, with the same
+-- sets there, born in a session up to its own. That no two nodes have one birth, and that no set of a node stands behind a gap,
+-- is part of what is found.
+pub record IsInOrder (f : Found) (image : Image) : Type 0 where
+  pub entries : FollowOn f.needed
+  pub fits : FitTogether f.layout f.needed
+  pub others : (entry : FoundEntry) (blocks : List (List ℕ)) → IsMadeOf f.layout (area_of image) entry blocks → PassesNone f entry
+  pub owners : AreOwned f.layout f.session (area_of image)
+  pub levels : All (λ found. IsBelowRoots found.entry) f.needed
+  pub places : All (IsMirrored f.layout) (nodes_of f.trees.nodes)
+  pub copies : All (IsAlike f image) (nodes_of f.trees.nodes)
+  pub births : All (λ node. node.birth < (f.session + 1) * 2 ^ 32) (nodes_of f.trees.nodes)
+
+-- An image is orderly: something is found in it, and that is in order.
 pub record IsOrderly (image : Image) : Type 0 where
   pub f : Found
   pub finds : found image ≡ Ok f
-  pub entries : FollowOn f.needed
-  pub others : (entry : FoundEntry) (blocks : List (List ℕ)) → IsMadeOf f.layout (area_of image) entry blocks → PassesNone f entry
-  pub births : All (λ node. node.birth < (f.session + 1) * 2 ^ 32) (nodes_of f.trees.nodes)
+  pub in_order : IsInOrder f image

@@ -4,3 +4,4 @@ pub mod Found
 pub mod Bases
 pub mod BaseLaws
 pub mod CrashEntries
+pub mod Mends

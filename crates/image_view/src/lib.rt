@@ -6,4 +6,7 @@ mod fault;
 mod laws;
 
 pub use fault::MountFault;
-pub use laws::{crashes_keep_what_was_found, images_mean_their_bases, whole_entries_are_held};
+pub use laws::{
+    crashes_keep_what_was_found, images_mean_their_bases, mending_changes_nothing,
+    sessions_change_nothing_else, whole_entries_are_held,
+};

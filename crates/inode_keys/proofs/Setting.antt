@@ -1,24 +1,15 @@
 -- An inode as the value that an id sees.
-use Rattle.std.proofs.Common.{◌≡◌, ℕ, ◌<◌, Option, Some, None, refl, sym, ap, subst, arith}
-use Rattle.std.specs.Ordering.{nat_cmp}
-use Rattle.std.specs.Prelude.{◌≢◌, IfOk, IfSome, IsSome, option_map}
+use Rattle.std.proofs.Common.{◌≡◌, ℕ, Option, Some, None, refl, ap, arith}
+use Rattle.std.specs.Prelude.{◌≢◌, IfOk, IfSome, option_map}
 use Rattle.std.specs.declared.result.Result.{Result}
 use Rattle.std.specs.declared.result.Result.TheVariants.{Ok, Err}
-use Rattle.key_meaning.specs.Visible.{shown, snaps_of}
-use Rattle.key_view.specs.Changes.{SeesThere, own_update, updates_to_see}
-use Rattle.key_view.specs.Seen.{IsSeen}
-use Rattle.snap_tree.specs.Snaps.{IsSnapTree, Snaps}
+use Rattle.key_meaning.specs.Visible.{shown}
+use Rattle.key_view.specs.Changes.{own_update}
 use Rattle.vol_types.specs.Btrees.{btree_code}
-use Rattle.vol_types.specs.KeyMaps.{KeyMap, IsKeyMap, with_updates}
-use Rattle.vol_types.specs.Maps.{value_at}
 use Rattle.vol_types.specs.Ranges.{IsInode}
 use Rattle.vol_types.specs.Standing.{IsUpdate}
-use Rattle.vol_types.specs.declared.keys.Update.{Update}
-use Rattle.vol_types.specs.declared.positions.Btree.{Btree}
 use Rattle.vol_types.specs.declared.positions.Btree.TheVariants.{Inodes, Snapshots}
-use Rattle.vol_types.specs.declared.queries.Look.{Look}
 use Rattle.vol_types.specs.declared.values.Inode.{Inode}
-use Rattle.vol_types.specs.declared.values.Value.{Value}
 use Rattle.vol_types.specs.declared.values.Value.TheVariants as values
 
 -- what a result has to say of its value

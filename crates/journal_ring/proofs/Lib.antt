@@ -3,3 +3,12 @@ pub mod Written
 pub mod Best
 pub mod Places
 pub mod Newest
+pub mod Pieces
+pub mod Sealed
+pub mod Mended
+pub mod Frames
+pub mod Quiet
+pub mod Same
+pub mod Loops
+pub mod Counted
+pub mod Areas

@@ -1,6 +1,6 @@
 -- An entry that leads those of its sequence counts, the greatest one that does is the newest, and those that lead from its oldest
 -- sequence on are the needed ones.
-use Rattle.std.proofs.Common.{◌≡◌, ℕ, zero, suc, ◌+◌, ◌-◌, ◌%◌, ◌<◌, ◌≤◌, ◌⊎◌, inl, inr, ⊎_elim, Bool, true, false, List, [], ◌∷◌, ◌++◌, length, max, Option, Some, None, Result, Ok, Err, refl, ap, ◌∙◌, sym, subst, arith}
+use Rattle.std.proofs.Common.{◌≡◌, ℕ, zero, suc, ◌+◌, ◌-◌, ◌%◌, ◌<◌, ◌≤◌, inl, inr, ⊎_elim, true, false, List, [], ◌∷◌, ◌++◌, length, Option, Some, None, Result, Ok, Err, refl, ap, ◌∙◌, sym, subst, arith}
 use Rattle.std.proofs.lemmas.Bool.{cases_lt}
 use Rattle.std.proofs.lemmas.List.Elements.{All-head, All-nil, All-pop, All-push, All-tail}
 use Rattle.std.proofs.lemmas.Nat.{mod_below}
@@ -12,8 +12,8 @@ use Rattle.key_codec.specs.Combined.{ok_is}
 use Rattle.vol_types.specs.declared.layout.Layout.{Layout}
 use Rattle.journal_ring.specs.declared.found.FoundEntry.{FoundEntry}
 use Rattle.journal_ring.specs.Parts.{Area}
-use Rattle.journal_ring.specs.Entries.{IsWhole, IsWholeOn}
-use Rattle.journal_ring.specs.Counting.{Counts, CountsBefore, counting, entries_from, entry_at, greater_sequence, greatest_below, greatest_on, needed_by, newest, with_one}
+use Rattle.journal_ring.specs.Entries.{IsWhole}
+use Rattle.journal_ring.specs.Counting.{Counts, counting, entries_from, entry_at, greatest_below, greatest_on, needed_by, newest, with_one}
 use Rattle.journal_ring.specs.Leading.{AreFrom, IsBehind, IsGreatest, Leads}
 use Rattle.journal_ring.proofs.Best.{at_its_place, counting_counts, found_there, some_counts}
 
@@ -139,6 +139,19 @@ module _ (layout : Layout) (area : Area) where
         let most = below_most last.entry.sequence greatest layout.metadata_replicas (omega arith) in
         ap (option_and_then (counting layout area)) (both_ways (greatest_below layout area layout.metadata_replicas) last.entry.sequence least most)
         ∙ leading_counts last leads
+
+    -- The one that counts for the greatest sequence for which one does is the newest.
+    pub greatest_counting_is_newest : (sequence : ℕ) (last : FoundEntry) → counting layout area sequence ≡ Some last → ((other : ℕ) → IsSome (counting layout area other) → other ≤ sequence) → newest layout area ≡ Some last
+    unfolding newest
+    greatest_counting_is_newest sequence last is greatest =
+        let counts = counting_counts layout area sequence some last is in
+        let whole = counts.2.whole in
+        let place = last.number % layout.journal in
+        let all : IsGreatest layout area sequence = λ dev other there. greatest other.entry.sequence (some_counts layout area other.entry.sequence some dev other there refl) in
+        let at : AtLeast (greatest_below layout area layout.metadata_replicas) last.entry.sequence = below_has layout.metadata_replicas counts.1 place last whole.mirror (mod_below last.number layout.journal some) (at_its_place layout area last.entry.sequence counts.1 last whole) in
+        let least : AtLeast (greatest_below layout area layout.metadata_replicas) sequence = subst (λ n. AtLeast (greatest_below layout area layout.metadata_replicas) n) counts.0 at in
+        let most = below_most sequence all layout.metadata_replicas (omega arith) in
+        ap (option_and_then (counting layout area)) (both_ways (greatest_below layout area layout.metadata_replicas) sequence least most) ∙ is
 
     -- So do entries that lead, each at its sequence.
     counted_from : (sequence : ℕ) (entries : List FoundEntry) → AreFrom sequence entries → All (Leads layout area) entries → entries_from (counting layout area) sequence (length entries) ≡ Ok entries

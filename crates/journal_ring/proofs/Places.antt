@@ -1,5 +1,5 @@
 -- The places of numbers that are near one another are apart, and what a part that was written adds.
-use Rattle.std.proofs.Common.{◌≡◌, ◌≢◌, ℕ, ◌+◌, ◌-◌, ◌*◌, ◌/◌, ◌%◌, ◌<◌, ◌≤◌, ◌⊎◌, ⊎_elim, Bool, List, [], ◌∷◌, ◌++◌, length, Some, refl, ap, ◌∙◌, sym, subst, arith}
+use Rattle.std.proofs.Common.{ap, ◌≡◌, ◌≢◌, ℕ, ◌+◌, ◌/◌, ◌%◌, ◌<◌, ◌≤◌, ⊎_elim, Bool, List, [], ◌∷◌, ◌++◌, length, Some, ◌∙◌, sym, subst, arith}
 use Rattle.std.proofs.lemmas.Bool.{cases_lt}
 use Rattle.std.proofs.lemmas.Nat.{div-add-mod', mul-le, row_fits}
 use Rattle.dev_model.specs.Crashes.{SameBut}
@@ -11,7 +11,8 @@ use Rattle.record_codec.specs.declared.entries.EntryRecord.{EntryRecord}
 use Rattle.std.proofs.lemmas.List.{get_or_append_left, get_or_push}
 use Rattle.std.specs.Prelude.{slice_index_or}
 use Rattle.journal_ring.specs.EntryBlocks.{ArePartBlocks, IsPartBlock, ring_block}
-use Rattle.journal_ring.specs.Rings.{HoldsParts, IsClear, IsPartAsked, IsPartPlace, IsRing, RingState, flight_number, part_bytes, part_number, part_place, used}
+use Rattle.journal_ring.specs.Mending.{IsEntryBlock}
+use Rattle.journal_ring.specs.Rings.{HoldsParts, IsClear, IsPartAsked, IsPartPlace, IsRing, RingState, flight_number, part_bytes, part_number, part_place}
 
 -- Two numbers less than the length of the area apart have different places.
 pub apart : (journal a b : ℕ) → a < b → b < a + journal → a % journal ≢ b % journal
@@ -19,6 +20,29 @@ apart journal a b less near same = ⊎_elim
     (λ (up : a / journal < b / journal). omega (arith, div-add-mod' a journal, div-add-mod' b journal, same, near, row_fits (a / journal) journal (b / journal) journal up (omega arith)))
     (λ (no_more : b / journal ≤ a / journal). omega (arith, div-add-mod' a journal, div-add-mod' b journal, same, less, mul-le (b / journal) journal (a / journal) journal no_more (omega arith)))
     (cases_lt (a / journal) (b / journal))
+
+-- The parts of an entry have places of their own.
+pub parts_apart : (journal number p q : ℕ) → 256 ≤ journal → p < 64 → q < 64 → ring_block journal (number + p) ≡ ring_block journal (number + q) → p ≡ q
+parts_apart journal number p q least few fewer same = ⊎_elim
+    (λ (less : p < q). absurd (apart journal (number + p) (number + q) (omega (arith, less)) (omega (arith, fewer, least)) (omega (arith, same))))
+    (λ (no_less : q ≤ p). ⊎_elim
+    (λ (more : q < p). absurd (apart journal (number + q) (number + p) (omega (arith, more)) (omega (arith, few, least)) (omega (arith, same))))
+    (λ (no_more : p ≤ q). omega (arith, no_less, no_more))
+    (cases_lt q p))
+    (cases_lt p q)
+
+-- At each place one block of the entry is wanted.
+pub one_block_each : (mirrors journal number : ℕ) (blocks : List (List ℕ)) → 256 ≤ journal → length blocks ≤ 64 → (d b : ℕ) (x y : List ℕ) → IsEntryBlock mirrors journal number blocks d b x → IsEntryBlock mirrors journal number blocks d b y → x ≡ y
+one_block_each mirrors journal number blocks least few d b x y one other =
+    let within = one.within in
+    let also = other.within in
+    let same : one.part ≡ other.part = parts_apart journal number one.part other.part least (omega (arith, within, few)) (omega (arith, also, few)) (sym one.place ∙ other.place) in
+    one.bytes_are ∙ ap (λ n. slice_index_or blocks n []) same ∙ sym other.bytes_are
+
+-- A part on the mirrors is a block of the entry.
+pub one_part : (mirrors journal number place p : ℕ) (blocks : List (List ℕ)) → p < length blocks → place ≡ ring_block journal (number + p)
+    → (d b : ℕ) (x : List ℕ) → IsMirrorBlock mirrors place (slice_index_or blocks p []) d b x → IsEntryBlock mirrors journal number blocks d b x
+one_part mirrors journal number place p blocks within is d b x at = record { part = p; within = within; mirror = at.0.0; place = at.0.1 ∙ is; bytes_are = at.1 }
 
 -- A number less than the length of the area behind the first needed one has no needed number's place.
 pub clear : (ring : RingState) (number : ℕ) → number < ring.first + ring.journal → IsClear ring number

@@ -1,7 +1,7 @@
 -- The parts of an entry's record continue one another, and their payloads joined are its payload.
-use Rattle.std.proofs.Common.{◌≡◌, ℕ, zero, suc, ◌+◌, ◌*◌, ◌/◌, ◌-◌, ◌<◌, ◌≤◌, ◌⊎◌, inl, inr, ⊎_elim, min, Bool, true, false, cond, ◌&&◌, ◌||◌, List, [], ◌++◌, length, take, drop, Option, Some, None, refl, ap, ◌∙◌, sym, subst, arith}
+use Rattle.std.proofs.Common.{◌≡◌, ℕ, zero, suc, ◌+◌, ◌*◌, ◌-◌, ◌<◌, ◌≤◌, ⊎_elim, min, List, ◌++◌, length, take, drop, Option, Some, None, refl, ap, ◌∙◌, sym, subst, arith}
 use Rattle.std.proofs.lemmas.Bool.{cases_lt}
-use Rattle.std.proofs.lemmas.List.{take-append-drop, drop-take, take-take, take_all, length-take, length-drop}
+use Rattle.std.proofs.lemmas.List.{take-append-drop, drop-take, take-take, length-take, length-drop}
 use Rattle.sealed_block.specs.Records.{Continues}
 use Rattle.record_codec.specs.declared.entries.EntryRecord.{EntryRecord}
 use Rattle.journal_ring.specs.Parts.{Area, first_of_two, first_on, joined, part_of, with_next}

@@ -1,5 +1,5 @@
 -- An entry whose blocks stand on every metadata device is whole.
-use Rattle.std.proofs.Common.{◌≡◌, ℕ, zero, suc, ◌+◌, ◌*◌, ◌^◌, ◌<◌, ◌≤◌, true, cond, List, [], ◌++◌, length, take, get_or, Option, Some, None, Result, Ok, Err, refl, ap, ◌∙◌, sym, subst, arith}
+use Rattle.std.proofs.Common.{◌≡◌, ℕ, zero, suc, ◌+◌, ◌*◌, ◌^◌, ◌<◌, ◌≤◌, true, cond, List, [], length, take, get_or, Option, Some, None, Result, Ok, refl, ap, ◌∙◌, sym, subst, arith}
 use Rattle.std.proofs.lemmas.List.{take_all, append-nil}
 use Rattle.std.proofs.lemmas.Bool.{eq-eqb, lt-ltb}
 use Rattle.std.proofs.lemmas.Slice.Eq.{bytes_eq-Decides}
@@ -10,7 +10,6 @@ use Rattle.sha2.specs.Sha256.{sha256}
 use Rattle.sealed_block.specs.declared.heads.Head.{Head}
 use Rattle.sealed_block.specs.Blocks.{Opens}
 use Rattle.sealed_block.specs.Opening.{opened, payload_in}
-use Rattle.dev_model.specs.Disk.{Image, block_at}
 use Rattle.key_codec.specs.Exact.{IsExactBut}
 use Rattle.key_codec.specs.Formats.{◌>>=◌}
 use Rattle.record_codec.specs.declared.entries.EntryRecord.{EntryRecord}
@@ -20,12 +19,12 @@ use Rattle.record_codec.specs.Entries.{IsEntry, entry_format, entry_in}
 use Rattle.record_codec.specs.Sets.{all_read}
 use Rattle.vol_types.specs.declared.layout.Layout.{Layout}
 use Rattle.journal_ring.specs.declared.found.FoundEntry.{FoundEntry}
-use Rattle.journal_ring.specs.Parts.{Area, area_of, joined, numbered, part_in, part_of, part_on, with_next}
+use Rattle.journal_ring.specs.Parts.{Area, joined, numbered, part_in, part_of, part_on, with_next}
 use Rattle.journal_ring.specs.Entries.{agreeing, begun_by, entry_on, entry_under, found_at, is_entry_head}
 use Rattle.journal_ring.specs.EntryBlocks.{ArePartBlocks, part_count, part_head, part_payload}
 use Rattle.journal_ring.proofs.Takes.{all_parts, first_of_all, parts_continue, take_then}
 use Rattle.journal_ring.specs.PartLaws.{part_opens}
-use Rattle.sealed_block.specs.Parts.{continues, continues-true}
+use Rattle.sealed_block.specs.Parts.{continues-true}
 
 -- What an entry is encoded as is read as it.
 pub encoded_is_read : IsExactBut Short IsEntry entry_format → (entry : EntryRecord) → IsEntry entry → entry_in (entry_format.encode entry) ≡ Ok entry

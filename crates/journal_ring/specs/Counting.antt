@@ -1,6 +1,6 @@
 -- Which whole entry counts for a sequence, which is the newest, and which ones are needed.
-use Rattle.std.specs.Prelude.{◌≡◌, ℕ, zero, suc, ◌+◌, ◌-◌, ◌%◌, ◌<◌, ◌≤◌, ◌⊎◌, Bool, ◌&&◌, ◌||◌, ◌==◌, nat_lt, if◌then◌else◌, max, List, [], ◌∷◌, ◌++◌, Option, Some, None, option_map, option_and_then, Result, Ok, Err}
-use Rattle.sealed_block.specs.declared.heads.Head.{Head}
+use Rattle.std.specs.Prelude.{◌≡◌, ℕ, zero, suc, ◌+◌, ◌-◌, ◌%◌, ◌<◌, ◌⊎◌, Bool, ◌&&◌, ◌||◌, ◌==◌, nat_lt, if◌then◌else◌, List, [], ◌∷◌, ◌++◌, Option, Some, None, option_map, option_and_then, Result, Ok, Err, All, ⊤}
+use Rattle.record_codec.specs.Entries.{IsEntryInRange}
 use Rattle.sealed_block.specs.Opening.{opened}
 use Rattle.vol_types.specs.declared.layout.Layout.{Layout}
 use Rattle.geometry.specs.Sessions.{greater}
@@ -97,3 +97,13 @@ journal_by layout area (Some last) = read_as (needed_by layout area last)
 -- what a journal is read as
 abbrev pub journal_in : Layout → Area → Journal
 journal_in layout area = journal_by layout area (newest layout area)
+
+-- The journal is what some journal areas are read as.
+abbrev pub IsJournalOf : Layout → Journal → Type 0
+IsJournalOf layout journal = (area : Area) × (journal ≡ journal_in layout area)
+
+-- Each of the needed entries, where they were read, is in range.
+abbrev pub AreInRange : Journal → Type 0
+AreInRange NoEntry = ⊤
+AreInRange (Missing sequence) = ⊤
+AreInRange (Needed entries) = All (λ found. IsEntryInRange found.entry) entries

@@ -7,3 +7,5 @@ pub mod Rings
 pub mod PartLaws
 pub mod EntryLaws
 pub mod MadeOf
+pub mod Mending
+pub mod Reading

@@ -1,15 +1,11 @@
 -- Which blocks the parts of a record are taken from; laws for whoever looks at images.
-use Rattle.std.proofs.Common.{◌≡◌, ℕ, zero, suc, ◌+◌, ◌<◌, ◌≤◌, ◌⊎◌, inl, inr, ⊎_elim, Bool, true, false, cond, ◌&&◌, ◌||◌, List, [], ◌∷◌, ◌++◌, length, Option, Some, None, refl, ap, ◌∙◌, sym, subst, arith}
-use Rattle.std.proofs.lemmas.Bool.{cases_lt, eq-eqb, eqb-true, false≢true, le-leb, leb-true, lt-ltb, ltb-true}
+use Rattle.std.proofs.Common.{◌≡◌, ℕ, zero, suc, ◌+◌, ◌<◌, Bool, true, false, cond, List, Option, Some, None, refl, ap, ◌∙◌, sym, arith}
 use Rattle.std.proofs.lemmas.Option.{none-some, same_Some, option_and_then_some}
-use Rattle.std.proofs.lemmas.Slice.Eq.{bytes_eq-Decides}
-use Rattle.std.specs.Cmp.Derive.{both_true}
-use Rattle.std.specs.Prelude.{option_and_then, ◌==◌, nat_le}
+use Rattle.std.specs.Prelude.{option_and_then}
 use Rattle.sealed_block.specs.declared.heads.Head.{Head}
 use Rattle.sealed_block.specs.Opening.{opened, payload_in}
 use Rattle.sealed_block.specs.Parts.{continues, continues-is}
 use Rattle.sealed_block.specs.Records.{Continues}
-use Rattle.geometry.specs.LayoutFacts.{both}
 use Rattle.vol_types.specs.declared.layout.Layout.{Layout}
 use Rattle.journal_ring.specs.Parts.{Area, first_of_two, first_on, numbered, part_in, part_of, part_on}
 
@@ -31,7 +27,7 @@ cond_found : {A : Type 0} (test : Bool) (x y : A) → cond {A = Option A} test (
 cond_found true x y is = (refl, same_Some x y is)
 cond_found false x y is = absurd (none-some y is)
 
-taken_on : (layout : Layout) (area : Area) (first : Head) (p dev : ℕ) (payload : List ℕ) → part_on layout area first p dev ≡ Some payload → (block : List ℕ) × IsTaken layout area first p dev block payload
+pub taken_on : (layout : Layout) (area : Area) (first : Head) (p dev : ℕ) (payload : List ℕ) → part_on layout area first p dev ≡ Some payload → (block : List ℕ) × IsTaken layout area first p dev block payload
 taken_on layout area first p dev payload is =
     option_and_then_some (part_in first p) (numbered layout area dev (first.number + p)) payload is (λ (block : List ℕ) stands part.
     option_and_then_some (λ h. cond {A = Option (List ℕ)} (continues first p h) (Some (payload_in block)) None) (opened block) payload part (λ (head : Head) opens found.

@@ -1,5 +1,5 @@
 -- How the parts of one record are taken from the journal areas of several devices.
-use Rattle.std.specs.Prelude.{◌≡◌, ℕ, zero, suc, ◌+◌, ◌%◌, ◌<◌, Bool, ◌&&◌, ◌||◌, ◌==◌, nat_lt, nat_le, if◌then◌else◌, List, [], ◌++◌, Option, Some, None, option_and_then}
+use Rattle.std.specs.Prelude.{◌≡◌, ℕ, zero, suc, ◌+◌, ◌%◌, ◌<◌, if◌then◌else◌, List, [], ◌++◌, Option, Some, None, option_and_then}
 use Rattle.sealed_block.specs.declared.heads.Head.{Head}
 use Rattle.sealed_block.specs.Opening.{opened, payload_in}
 use Rattle.sealed_block.specs.Parts.{continues}

@@ -1,5 +1,5 @@
 -- The ring of journal block numbers as its writer keeps it.
-use Rattle.std.specs.Prelude.{◌≡◌, ◌≢◌, ℕ, ◌+◌, ◌-◌, ◌<◌, ◌≤◌, List, [], length, slice_index_or}
+use Rattle.std.specs.Prelude.{◌≢◌, ℕ, ◌+◌, ◌-◌, ◌<◌, ◌≤◌, List, [], length, slice_index_or}
 use Rattle.dev_model.specs.Devices.{IsPlace}
 use Rattle.dev_model.specs.Disk.{Image}
 use Rattle.geometry.specs.Mirrors.{IsMirror, IsMirrorBlock}

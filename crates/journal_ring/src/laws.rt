@@ -1,19 +1,20 @@
-ghost use Rattle.std.specs.Prelude.{ℕ, List, [], ◌∷◌, ◌++◌, ◌≡◌, ◌+◌, ◌-◌, ◌^◌, ◌<◌, true, length, All, Some, IsSome, Ok};
+ghost use Rattle.std.specs.Prelude.{ℕ, List, [], ◌∷◌, ◌++◌, ◌≡◌, ◌+◌, ◌-◌, ◌^◌, ◌<◌, ◌≤◌, true, length, All, Some, IsSome, Ok};
 ghost use Rattle.dev_model.specs.Disk.{Image};
 ghost use Rattle.geometry.specs.Layouts.{is_layout_of};
 ghost use Rattle.record_codec.specs.declared.entries.EntryRecord.{EntryRecord as AnEntry};
 ghost use Rattle.record_codec.specs.Entries.{IsEntry};
 ghost use Rattle.vol_types.specs.declared.layout.Layout.{Layout as ALayout};
 ghost use Rattle.journal_ring.specs.declared.found.FoundEntry.{FoundEntry as AFound};
-ghost use Rattle.journal_ring.specs.Counting.{Counts, counting, needed_by, newest};
+ghost use Rattle.journal_ring.specs.Counting.{Counts, counting, journal_in, needed_by, newest};
 ghost use Rattle.journal_ring.specs.Entries.{AgreeFrom, IsMadeOf, IsWhole, IsWholeOn, entry_on};
-ghost use Rattle.journal_ring.specs.EntryBlocks.{AreEntryBlocks, HoldBlocks, parts_of};
+ghost use Rattle.journal_ring.specs.EntryBlocks.{AreEntryBlocks, HoldBlocks, parts_of, ring_block};
 ghost use Rattle.journal_ring.specs.Leading.{AreFrom, IsGreatest, Leads};
-ghost use Rattle.journal_ring.specs.Parts.{Area, area_of};
+ghost use Rattle.journal_ring.specs.Mending.{AreApart, IsMended};
+ghost use Rattle.journal_ring.specs.Parts.{Area, AreSame, area_of};
 ghost use Rattle.journal_ring.specs.Rings.{HaveArea};
 
 use record_codec::{entries_are_exact, entry_lengths};
-use sealed_block::sealed_blocks_open;
+use sealed_block::{opened_blocks_are_sealed, sealed_blocks_open};
 
 /// Devices that have room for a layout have its journal area.
 pub fn areas_have_places()
@@ -83,4 +84,52 @@ pub fn leading_entries_are_needed()
     ensures whole { (layout : ALayout) (area : Area) (last : AFound) (needed : List AFound)
         → 0 < layout.journal → newest layout area ≡ Some last
         → needed_by layout area last ≡ Ok needed → All (IsWhole layout area) needed }
+{}
+
+/// The parts of an entry have places of their own.
+pub fn parts_have_own_places()
+    ensures { (journal number p q : ℕ) → 256 ≤ journal → p < 64 → q < 64
+        → ring_block journal (number + p) ≡ ring_block journal (number + q) → p ≡ q }
+{}
+
+/// What makes an entry are its sealed blocks, of which there is one list. An entry that is whole stays so while it is mended: where
+/// a device lacks a part, this is written, and may be torn. So does each other entry that is apart from it.
+pub fn mended_entries_stay_whole()
+    ensures sealed { (layout : ALayout) (area : Area) (found : AFound) (blocks : List (List ℕ))
+        → IsMadeOf layout area found blocks
+        → AreEntryBlocks layout.id found.number found.entry blocks }
+    ensures one { (id : List ℕ) (number : ℕ) (entry : AnEntry) (one other : List (List ℕ))
+        → AreEntryBlocks id number entry one → AreEntryBlocks id number entry other → one ≡ other }
+    ensures stays { (layout : ALayout) (one other : Area) (dev : ℕ) (found : AFound)
+        (blocks : List (List ℕ)) → IsWholeOn layout one dev found
+        → AreEntryBlocks layout.id found.number found.entry blocks
+        → IsMended layout found.number blocks one other → IsWholeOn layout other dev found }
+    // Other entries of the ring have other places.
+    ensures places { (layout : ALayout) (one other : Area) (found another : AFound)
+        (blocks : List (List ℕ)) → 0 < layout.journal → found.end ≡ found.number + length blocks
+        → AreApart layout.journal found another → IsMended layout found.number blocks one other
+        → AgreeFrom layout one other another.number another.end }
+    ensures others { (layout : ALayout) (one other : Area) (dev : ℕ) (found another : AFound)
+        (blocks : List (List ℕ)) → IsWholeOn layout one dev another → 0 < layout.journal
+        → found.end ≡ found.number + length blocks → AreApart layout.journal found another
+        → IsMended layout found.number blocks one other → IsWholeOn layout other dev another }
+{
+    sealed_blocks_open();
+    opened_blocks_are_sealed();
+    entries_are_exact();
+    entry_lengths();
+}
+
+/// Areas that are the same on the metadata devices have the same newest entry, the same needed ones and the same journal, and
+/// their entries are made of the same blocks.
+pub fn same_areas_hold_one_journal()
+    ensures newest { (layout : ALayout) (one other : Area) → AreSame layout one other
+        → newest layout one ≡ newest layout other }
+    ensures needed { (layout : ALayout) (one other : Area) (last : AFound)
+        → AreSame layout one other → needed_by layout one last ≡ needed_by layout other last }
+    ensures journal { (layout : ALayout) (one other : Area) → AreSame layout one other
+        → journal_in layout one ≡ journal_in layout other }
+    ensures made { (layout : ALayout) (one other : Area) (found : AFound)
+        (blocks : List (List ℕ)) → 0 < layout.journal → AreSame layout one other
+        → IsMadeOf layout one found blocks → IsMadeOf layout other found blocks }
 {}

@@ -3,20 +3,30 @@
 //! to 64 sealed blocks under consecutive numbers.
 //!
 //! `specs/Parts`, `specs/Entries` and `specs/Counting` say which entries blocks hold, which of them count, and which are
-//! needed. `Ring` writes entries, and never over one that is still needed.
+//! needed. `read_journal` reads these, and `Ring` writes entries, never over one that is still needed.
 #![tactic(auto)]
 
 mod blocks;
+mod counting;
+mod entries;
 mod found;
 mod journal;
 mod laws;
+mod mending;
+mod parts;
+mod reading;
 mod ring;
+#[cfg(test)]
+mod tests;
 
 pub use blocks::{entry_parts, part_count};
 pub use found::FoundEntry;
 pub use journal::Journal;
 pub use laws::{
-    areas_have_places, leading_entries_are_needed, one_entry_counts,
-    whole_entries_are_made_of_blocks, whole_entries_stay, written_entries_are_whole,
+    areas_have_places, leading_entries_are_needed, mended_entries_stay_whole, one_entry_counts,
+    parts_have_own_places, same_areas_hold_one_journal, whole_entries_are_made_of_blocks,
+    whole_entries_stay, written_entries_are_whole,
 };
+pub use mending::mend_entry;
+pub use reading::read_journal;
 pub use ring::{Ring, RingFull};

@@ -190,7 +190,7 @@ impl Ring {
 }
 
 // The block of each metadata device where a journal block number lies.
-fn ring_block(journal: u32, number: u64) -> u32
+pub(crate) fn ring_block(journal: u32, number: u64) -> u32
     requires some { 0 < journal }
     requires most { journal ≤ 4096 }
     ensures place { result ≡ ring_block journal number }

@@ -24,3 +24,9 @@ pub mod CoverLaws
 pub mod SharedLaws
 pub mod EntryLaws
 pub mod ReadLaws
+pub mod Numbers
+pub mod NumberLaws
+pub mod SameLaws
+pub mod CounterLaws
+pub mod InodeLaws
+pub mod NewInodeLaws

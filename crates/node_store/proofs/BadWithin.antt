@@ -28,7 +28,7 @@ entries_within wanted copies id birth (suc more) n entries k is = by (set_at cop
         → entries_after wanted (option_map_or (λ set. with_set set (sets_from copies id birth more (n + set.blocks))) o (record { sets = []; end = n })).sets entries ≡ Err k
         → ((m : ℕ) (es : Entries) (j : ℕ) → entries_after wanted (sets_from copies id birth more m).sets es ≡ Err j → j < 16) → k < 16
     by None at given further = cc
-    by (Some set) at given further = keyed (keys_of wanted set.payload) given
+    by (Some set) at given further = keyed (keys_of wanted set) given
       where
         keyed : (keys : Option (List Key)) → option_map_or (λ ks. entries_after wanted (sets_from copies id birth more (n + set.blocks)).sets (with_keys ks entries)) keys (Err set.block) ≡ Err k → k < 16
         keyed None bad =

@@ -95,13 +95,13 @@ parts_end copies first n p so_far whole past is =
     ∙ is
 
 -- The sets that are left to merge: one more is taken, or it is at fault.
-pub merge_more : (wanted : SetHead) (sets : List StoredSet) (i : ℕ) (set : StoredSet) (keys : List Key) (entries : Entries) (whole : Result Entries ℕ) → i < length sets → get_or sets i set ≡ set → keys_of wanted set.payload ≡ Some keys
+pub merge_more : (wanted : SetHead) (sets : List StoredSet) (i : ℕ) (set : StoredSet) (keys : List Key) (entries : Entries) (whole : Result Entries ℕ) → i < length sets → get_or sets i set ≡ set → keys_of wanted set ≡ Some keys
     → entries_after wanted (drop i sets) entries ≡ whole → entries_after wanted (drop (suc i) sets) (with_keys keys entries) ≡ whole
 merge_more wanted sets i set keys entries whole within at is so_far =
     sym (ap (λ o. option_map_or (λ ks. entries_after wanted (drop (suc i) sets) (with_keys ks entries)) o (Err set.block)) is)
     ∙ ap (λ (list : List StoredSet). entries_after wanted list entries) (sym (drop-cons sets i set within ∙ ap (λ (s : StoredSet). s ∷ drop (suc i) sets) at)) ∙ so_far
 
-pub merge_fault : (wanted : SetHead) (sets : List StoredSet) (i : ℕ) (set : StoredSet) (entries : Entries) (whole : Result Entries ℕ) → i < length sets → get_or sets i set ≡ set → keys_of wanted set.payload ≡ None
+pub merge_fault : (wanted : SetHead) (sets : List StoredSet) (i : ℕ) (set : StoredSet) (entries : Entries) (whole : Result Entries ℕ) → i < length sets → get_or sets i set ≡ set → keys_of wanted set ≡ None
     → entries_after wanted (drop i sets) entries ≡ whole → whole ≡ Err set.block
 merge_fault wanted sets i set entries whole within at is so_far =
     sym so_far ∙ ap (λ (list : List StoredSet). entries_after wanted list entries) (drop-cons sets i set within ∙ ap (λ (s : StoredSet). s ∷ drop (suc i) sets) at)

@@ -15,3 +15,4 @@ pub mod PlanFacts
 pub mod NodeAnswers
 pub mod AlikeCopies
 pub mod BadWithin
+pub mod PlannedContents

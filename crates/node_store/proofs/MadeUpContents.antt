@@ -1,6 +1,7 @@
 -- Where copies agree on a node, what was read is what it holds.
 use Rattle.std.proofs.Common.{◌≡◌, ℕ, ◌≤◌, List, Result, Ok, Err, refl, ap, sym, ◌∙◌, arith}
 use Rattle.vol_types.specs.KeyMaps.{Entries}
+use Rattle.vol_types.specs.declared.pointers.NodePtr.{NodePtr}
 use Rattle.record_codec.specs.declared.sets.SetHead.{SetHead}
 use Rattle.dev_model.specs.Devices.{FaultCounts}
 use Rattle.node_store.specs.declared.reading.ReadNode.{ReadNode}
@@ -23,9 +24,9 @@ sets_so : (wanted : SetHead) (found : Result StoredSets ℕ) (content : NodeCont
 sets_so wanted (Err n) content is = cc
 sets_so wanted (Ok sets) content is = (sets, refl, ends_so sets.end (entries_after wanted sets.sets _) content is)
 
-pub content_made_up : (old new : FaultCounts) (id : List ℕ) (wanted : SetHead) (copies : Copies) (read : ReadNode) → AgreeOn id wanted.birth copies → IsReadAs old new id wanted copies read
+pub content_made_up : (old new : FaultCounts) (id : List ℕ) (wanted : SetHead) (copies : Copies) (ptr : NodePtr) (read : ReadNode) → AgreeOn id wanted.birth copies → IsReadAs old new id wanted ptr copies read
     → content_in copies id wanted ≡ Ok (record { entries = read.node.entries; end = read.end })
-content_made_up old new id wanted copies read agree is =
+content_made_up old new id wanted copies ptr read agree is =
     let content : NodeContent = record { entries = read.node.entries; end = read.end } in
     let found = sets_so wanted (sets_in is.seen id wanted.birth) content is.content in
     let same = sets_made_up id wanted.birth read.end copies is.seen agree is.shown found.0 found.1 (let le : read.end ≤ found.0.end = omega (arith, found.2) in le) in

@@ -55,6 +55,15 @@ first_blocks bytes more count p size lt =
     ap (take 4096) (drop-append-le (4096 * p) bytes more (let le : 4096 * p ≤ length bytes = omega (arith, size, lt) in le))
     ∙ take-append-le 4096 (drop (4096 * p) bytes) more (let le : 4096 ≤ length (drop (4096 * p) bytes) = omega (arith, size, lt, length-drop (4096 * p) bytes) in le)
 
+-- Behind the blocks of a set that is filled up with zeros each block is one of zeros.
+pub zeros_behind : (sealed : List ℕ) (count k : ℕ) → length sealed ≡ 4096 * count → count ≤ k → k < 16 → block_of_bytes (sealed ++ replicate (65536 - length sealed) 0) k ≡ replicate 4096 0
+zeros_behind sealed count k size le lt =
+    let m : ℕ = 4096 * k - length sealed in
+    let zeros : List ℕ = replicate (65536 - length sealed) 0 in
+    ap (λ j. take 4096 (drop j (sealed ++ zeros))) (let e : 4096 * k ≡ length sealed + m = omega (arith, size, le) in e)
+    ∙ ap (take 4096) (drop-append-add sealed zeros m ∙ drop-replicate m (65536 - length sealed) 0)
+    ∙ take-replicate 4096 (65536 - length sealed - m) 0 (let room : 4096 ≤ 65536 - length sealed - m = omega (arith, size, le, lt) in room)
+
 module _ (id : List ℕ) (birth n sequence : ℕ) (payload sealed : List ℕ) (ptr : NodePtr) (blocked : Blocked)
     (opens_head : (block : List ℕ) (h : Head) (p : List ℕ) → Opens block h p → opened block ≡ Some h)
     (opens_payload : (block : List ℕ) (h : Head) (p : List ℕ) → Opens block h p → payload_in block ≡ p)
@@ -133,7 +142,7 @@ module _ (id : List ℕ) (birth n sequence : ℕ) (payload sealed : List ℕ) (p
       block_in-copy_at read place k lt
       ∙ ap (λ j. option_and_then shown_in (read place.dev (place.block + j))) (let e : k ≡ blocked.block + k = omega (arith, at, first) in e)
       ∙ ap (option_and_then shown_in) held
-      ∙ ap shown_in (ap (λ (bytes : List ℕ). block_of_bytes bytes k) same ∙ zeros_behind k le lt)
+      ∙ ap shown_in (ap (λ (bytes : List ℕ). block_of_bytes bytes k) same ∙ zeros_behind sealed (blocks_for payload) k size le lt)
       ∙ ap (option_map _) zeros_shut)
       (λ (past : 16 ≤ k). behind-copy_at read place k past)
       (cases_lt k 16) in
@@ -148,14 +157,6 @@ module _ (id : List ℕ) (birth n sequence : ℕ) (payload sealed : List ℕ) (p
             ∙ ap (with_set set) (ends_here copies id birth 15 (blocks_for payload) (no_heads_no_set copies copies id birth (blocks_for payload) (heads (blocks_for payload) (omega arith))));
         none = first_head_none copies id birth (16 - suc (blocks_for payload)) (suc (blocks_for payload)) (λ k le. heads k (omega (arith, le)));
       }) refl)
-    where
-      zeros_behind : (k : ℕ) → blocks_for payload ≤ k → k < 16 → block_of_bytes (sealed ++ replicate (65536 - length sealed) 0) k ≡ replicate 4096 0
-      zeros_behind k le lt =
-          let m : ℕ = 4096 * k - length sealed in
-          let zeros : List ℕ = replicate (65536 - length sealed) 0 in
-          ap (λ j. take 4096 (drop j (sealed ++ zeros))) (let e : 4096 * k ≡ length sealed + m = omega (arith, size, le) in e)
-          ∙ ap (take 4096) (drop-append-add sealed zeros m ∙ drop-replicate m (65536 - length sealed) 0)
-          ∙ take-replicate 4096 (65536 - length sealed - m) 0 (let room : 4096 ≤ 65536 - length sealed - m = omega (arith, size, le, lt) in room)
 
 -- One block more is one part more.
 pub parts_more : (id : List ℕ) (birth n sequence : ℕ) (payload bytes new_bytes block : List ℕ) (p : ℕ) → length bytes ≡ 4096 * p → new_bytes ≡ bytes ++ block → length block ≡ 4096

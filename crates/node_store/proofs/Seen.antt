@@ -1,14 +1,15 @@
 -- Copies that are seen block by block, where reads may fail.
-use Rattle.std.proofs.Common.{◌≡◌, ◌⊎◌, ⊎_elim, inl, inr, ℕ, zero, suc, ◌+◌, ◌<◌, ◌≤◌, max, List, [], ◌∷◌, ◌++◌, length, Option, Some, None, refl, ap, sym, ◌∙◌, subst, arith}
-use Rattle.std.specs.Prelude.{IsSome, MatchOption}
-use Rattle.std.proofs.lemmas.Bool.{false≢true}
+use Rattle.std.proofs.Common.{◌≡◌, ◌⊎◌, ⊎_elim, inl, inr, ℕ, zero, suc, ◌+◌, ◌<◌, ◌≤◌, Bool, true, false, cond, List, [], ◌∷◌, ◌++◌, length, Option, Some, None, refl, ap, ◌∙◌, subst, arith, length-append}
+use Rattle.std.specs.Prelude.{IfSome, IsSome, MatchOption, nat_lt}
+use Rattle.std.proofs.lemmas.Bool.{false≢true, ltb-false, ltb-true}
 use Rattle.dev_model.specs.Devices.{FaultCounts}
 use Rattle.dev_model.specs.Frames.{AreNoFewer}
 use Rattle.geometry.specs.Faults.{DeviceFailed}
 use Rattle.node_store.specs.declared.opening.OpenBlock.{OpenBlock}
-use Rattle.node_store.specs.declared.reading.Failures.{Failures}
+use Rattle.node_store.specs.declared.reading.Unread.{Unread}
 use Rattle.node_store.specs.Answers.{AreCauses, AreSeenFrom, IsSeenFrom}
 use Rattle.node_store.specs.Copies.{block_in}
+use Rattle.node_store.specs.FailedReads.{IsFarthest, IsUnreadIn, farthest, read_from, unread_device}
 use Rattle.node_store.specs.StoredSets.{Copies}
 
 -- What holds of two lists of the same length block by block holds with one block more.
@@ -29,34 +30,94 @@ seen_none from = record { later = λ n le. refl; each = λ n. inl refl }
 pub seen_later : (from to : ℕ) (copy seen : List (Option OpenBlock)) → from ≤ to → IsSeenFrom from copy seen → IsSeenFrom to copy seen
 seen_later from to copy seen le is = record { later = λ n at. is.later n (omega (arith, le, at)); each = is.each }
 
+-- What couldn't be read is no farther than it was before one block more,
+pub read_later : (n : ℕ) (failed : Option ℕ) (before : Option Unread) → read_from before ≤ read_from (farthest n failed before)
+read_later n None before = omega arith
+read_later n (Some dev) None = omega arith
+read_later n (Some dev) (Some unread) = by (nat_lt n unread.block) refl
+  where
+    by : (b : Bool) → nat_lt n unread.block ≡ b → unread.block + 1 ≤ read_from (cond b (Some unread) (Some (record { block = n; dev = dev })))
+    by true is = omega arith
+    by false is = omega (arith, ltb-false n unread.block is)
+
+-- and where that couldn't be read, all is read from behind it at the earliest.
+pub read_behind : (n dev : ℕ) (before : Option Unread) → n + 1 ≤ read_from (farthest n (Some dev) before)
+read_behind n dev None = omega arith
+read_behind n dev (Some unread) = by (nat_lt n unread.block) refl
+  where
+    by : (b : Bool) → nat_lt n unread.block ≡ b → n + 1 ≤ read_from (cond b (Some unread) (Some (record { block = n; dev = dev })))
+    by true is = omega (arith, ltb-true n unread.block is)
+    by false is = omega arith
+
 -- One block more is seen, as it is or not at all.
-pub seen_more : (failures after : Failures) (failed : Option ℕ) (copy seen : List (Option OpenBlock)) (shown there : Option OpenBlock) → length seen ≡ length copy
-    → MatchOption failed (after ≡ failures) (λ dev. after ≡ record { from = max failures.from (length copy + 1); dev = Some dev })
-    → (shown ≡ there) ⊎ ((shown ≡ None) × IsSome failed) → IsSeenFrom failures.from copy seen → IsSeenFrom after.from (copy ++ there ∷ []) (seen ++ shown ∷ [])
-seen_more failures after None copy seen shown there same is shows so_far =
+pub seen_more : (before : Option Unread) (failed : Option ℕ) (copy seen : List (Option OpenBlock)) (shown there : Option OpenBlock) → length seen ≡ length copy
+    → (shown ≡ there) ⊎ ((shown ≡ None) × IsSome failed) → IsSeenFrom (read_from before) copy seen → IsSeenFrom (read_from (farthest (length copy) failed before)) (copy ++ there ∷ []) (seen ++ shown ∷ [])
+seen_more before None copy seen shown there same shows so_far =
     let as_it_is : shown ≡ there = ⊎_elim (λ (e : shown ≡ there). e) (λ (no : (shown ≡ None) × IsSome {T = ℕ} None). absurd (false≢true no.1)) shows in
-    let from : after.from ≡ failures.from = ap (λ (f : Failures). f.from) is in
     record {
-      later = λ n le. pushed (λ a b. b ≡ a) copy seen there shown n same (λ lt. so_far.later n (omega (arith, le, from))) (λ at. as_it_is) (λ lt. refl);
+      later = λ n le. pushed (λ a b. b ≡ a) copy seen there shown n same (λ lt. so_far.later n le) (λ at. as_it_is) (λ lt. refl);
       each = λ n. pushed (λ a b. (b ≡ a) ⊎ (b ≡ None)) copy seen there shown n same (λ lt. so_far.each n) (λ at. inl as_it_is) (λ lt. inl refl);
     }
-seen_more failures after (Some dev) copy seen shown there same is shows so_far =
-    let from : after.from ≡ max failures.from (length copy + 1) = ap (λ (f : Failures). f.from) is in
+seen_more before (Some dev) copy seen shown there same shows so_far =
+    let later = read_later (length copy) (Some dev) before in
+    let behind = read_behind (length copy) dev before in
     let either : (shown ≡ there) ⊎ (shown ≡ None) = ⊎_elim (λ (e : shown ≡ there). inl e) (λ (no : (shown ≡ None) × IsSome (Some dev)). inr no.0) shows in
     record {
-      later = λ n le. pushed (λ a b. b ≡ a) copy seen there shown n same (λ lt. so_far.later n (omega (arith, le, from))) (λ at. absurd (omega (arith, le, from, at))) (λ lt. refl);
+      later = λ n le. pushed (λ a b. b ≡ a) copy seen there shown n same (λ lt. so_far.later n (omega (arith, le, later))) (λ at. absurd (omega (arith, le, behind, at))) (λ lt. refl);
       each = λ n. pushed (λ a b. (b ≡ a) ⊎ (b ≡ None)) copy seen there shown n same (λ lt. so_far.each n) (λ at. either) (λ lt. inl refl);
     }
 
+-- A block that couldn't be read is the farthest one, or another is.
+some_farthest : (n dev : ℕ) (before : Option Unread) → farthest n (Some dev) before ≡ None → ⊥
+some_farthest n dev None is = cc
+some_farthest n dev (Some unread) is = by (nat_lt n unread.block) is
+  where
+    by : (b : Bool) → cond b (Some unread) (Some (record { block = n; dev = dev })) ≡ None → ⊥
+    by true none = cc
+    by false none = cc
+
 -- Where no read failed, all is seen.
-pub all_more : (failures after : Failures) (failed : Option ℕ) (n : ℕ) (copy seen : List (Option OpenBlock)) (shown there : Option OpenBlock)
-    → MatchOption failed (after ≡ failures) (λ dev. after ≡ record { from = max failures.from (n + 1); dev = Some dev })
-    → (shown ≡ there) ⊎ ((shown ≡ None) × IsSome failed) → (failures.dev ≡ None → seen ≡ copy) → after.dev ≡ None → seen ++ shown ∷ [] ≡ copy ++ there ∷ []
-all_more failures after None n copy seen shown there is shows so_far none =
+pub all_more : (before : Option Unread) (failed : Option ℕ) (n : ℕ) (copy seen : List (Option OpenBlock)) (shown there : Option OpenBlock)
+    → (shown ≡ there) ⊎ ((shown ≡ None) × IsSome failed) → (before ≡ None → seen ≡ copy) → farthest n failed before ≡ None → seen ++ shown ∷ [] ≡ copy ++ there ∷ []
+all_more before None n copy seen shown there shows so_far none =
     let as_it_is : shown ≡ there = ⊎_elim (λ (e : shown ≡ there). e) (λ (no : (shown ≡ None) × IsSome {T = ℕ} None). absurd (false≢true no.1)) shows in
-    ap (λ (o : Option OpenBlock). seen ++ o ∷ []) as_it_is ∙ ap (λ (list : List (Option OpenBlock)). list ++ there ∷ []) (so_far (ap (λ (f : Failures). f.dev) (sym is) ∙ none))
-all_more failures after (Some dev) n copy seen shown there is shows so_far none =
-    let both : Some dev ≡ None = sym (ap (λ (f : Failures). f.dev) is) ∙ none in cc
+    ap (λ (o : Option OpenBlock). seen ++ o ∷ []) as_it_is ∙ ap (λ (list : List (Option OpenBlock)). list ++ there ∷ []) (so_far none)
+all_more before (Some dev) n copy seen shown there shows so_far none = absurd (some_farthest n dev before none)
+
+-- Nothing is seen of a block that couldn't be read in this copy, also after one block more.
+unread_in_more : (seen : List (Option OpenBlock)) (shown : Option OpenBlock) (dev : ℕ) (unread : Unread) → IsUnreadIn seen dev unread → IsUnreadIn (seen ++ shown ∷ []) dev unread
+unread_in_more seen shown dev unread is = record {
+  within = omega (arith, is.within, length-append seen (shown ∷ []));
+  device = is.device;
+  unseen = pushed (λ a b. b ≡ None) seen seen shown shown unread.block refl (λ lt. is.unseen) (λ at. absurd (omega (arith, at, is.within))) (λ lt. refl);
+}
+
+-- The farthest block that couldn't be read stays, or it is this one.
+pub farthest_more : (first before : Option Unread) (failed : Option ℕ) (n dev_of : ℕ) (seen : List (Option OpenBlock)) (shown : Option OpenBlock) → length seen ≡ n
+    → (IsSome failed → shown ≡ None) → IfSome failed (λ dev. dev ≡ dev_of) → IsFarthest first before seen dev_of → IsFarthest first (farthest n failed before) (seen ++ shown ∷ []) dev_of
+farthest_more first before failed n dev_of seen shown count unseen named so_far = by failed before unseen named so_far
+  where
+    stays : (now : Option Unread) → IsFarthest first now seen dev_of → IsFarthest first now (seen ++ shown ∷ []) dev_of
+    stays now is = ⊎_elim
+        (λ (was : now ≡ first). inl was)
+        (λ (here : (unread : Unread) × (now ≡ Some unread) × IsUnreadIn seen dev_of unread). inr (here.0, here.1, unread_in_more seen shown dev_of here.0 here.2))
+        is
+
+    this : (dev : ℕ) → shown ≡ None → dev ≡ dev_of → IsUnreadIn (seen ++ shown ∷ []) dev_of (record { block = n; dev = dev })
+    this dev none e = record {
+      within = omega (arith, count, length-append seen (shown ∷ []));
+      device = e;
+      unseen = pushed (λ a b. b ≡ None) seen seen shown shown n refl (λ lt. absurd (omega (arith, lt, count))) (λ at. none) (λ lt. refl);
+    }
+
+    either : (dev : ℕ) (unread : Unread) (b : Bool) → shown ≡ None → dev ≡ dev_of → IsFarthest first (Some unread) seen dev_of → IsFarthest first (cond b (Some unread) (Some (record { block = n; dev = dev }))) (seen ++ shown ∷ []) dev_of
+    either dev unread true none e is = stays (Some unread) is
+    either dev unread false none e is = inr (record { block = n; dev = dev }, refl, this dev none e)
+
+    by : (failed : Option ℕ) (before : Option Unread) → (IsSome failed → shown ≡ None) → IfSome failed (λ dev. dev ≡ dev_of) → IsFarthest first before seen dev_of → IsFarthest first (farthest n failed before) (seen ++ shown ∷ []) dev_of
+    by None before none named is = stays before is
+    by (Some dev) None none named is = inr (record { block = n; dev = dev }, refl, this dev (none refl) named)
+    by (Some dev) (Some unread) none named is = either dev unread (nat_lt n unread.block) (none refl) named is
 
 -- Nothing was read yet, or one part of the reads came after another.
 pub causes_here : (before : Option ℕ) (faults : FaultCounts) → AreCauses before before faults faults
@@ -76,16 +137,22 @@ causes_then before mid (Some dev) first second last one other earlier later = �
     (λ (failed : DeviceFailed dev second last). inr (let f : DeviceFailed dev first last = omega (arith, failed, one dev) in f))
     later
 
+-- The device of a read that failed is that of its place.
+pub named_place : (failed : Option ℕ) (dev_of : ℕ) (old new : FaultCounts) → MatchOption failed (new ≡ old) (λ dev. (dev ≡ dev_of) × DeviceFailed dev old new) → IfSome failed (λ dev. dev ≡ dev_of)
+named_place None dev_of old new cause = tt
+named_place (Some dev) dev_of old new cause = cause.0
+
 -- One read more.
-pub causes_by : (failures after : Failures) (failed : Option ℕ) (n dev_of : ℕ) (old new : FaultCounts)
-    → MatchOption failed (after ≡ failures) (λ dev. after ≡ record { from = max failures.from (n + 1); dev = Some dev })
-    → MatchOption failed (new ≡ old) (λ dev. (dev ≡ dev_of) × DeviceFailed dev old new) → AreCauses failures.dev after.dev old new
-causes_by failures after None n dev_of old new is cause = subst (λ (f : Failures). AreCauses failures.dev f.dev old new) (sym is) (by failures.dev)
+pub causes_by : (before : Option Unread) (failed : Option ℕ) (n dev_of : ℕ) (old new : FaultCounts)
+    → MatchOption failed (new ≡ old) (λ dev. (dev ≡ dev_of) × DeviceFailed dev old new) → AreCauses (unread_device before) (unread_device (farthest n failed before)) old new
+causes_by None None n dev_of old new cause = (refl, cause)
+causes_by (Some unread) None n dev_of old new cause = inl refl
+causes_by None (Some dev) n dev_of old new cause = inr cause.1
+causes_by (Some unread) (Some dev) n dev_of old new cause = by (nat_lt n unread.block)
   where
-    by : (dev : Option ℕ) → AreCauses dev dev old new
-    by None = (refl, cause)
-    by (Some dev) = inl refl
-causes_by failures after (Some dev) n dev_of old new is cause = subst (λ (f : Failures). AreCauses failures.dev f.dev old new) (sym is) (inr cause.1)
+    by : (b : Bool) → AreCauses (Some unread.dev) (unread_device (cond b (Some unread) (Some (record { block = n; dev = dev })))) old new
+    by true = inl refl
+    by false = inr cause.1
 
 -- The copies of so many places are seen.
 pub copies_later : (from to : ℕ) (copies seen : Copies) → from ≤ to → AreSeenFrom from copies seen → AreSeenFrom to copies seen

@@ -1,9 +1,10 @@
 -- What reading a node gives, also where reads fail.
-use Rattle.std.specs.Prelude.{◌≡◌, ◌↔◌, ◌⊎◌, ℕ, ◌+◌, ◌≤◌, ◌<◌, false, ⊤, List, Contains, Option, Some, None, option_map, slice_get, Result, Ok, Err}
+use Rattle.std.specs.Prelude.{◌≡◌, ◌↔◌, ◌⊎◌, ℕ, ◌+◌, ◌≤◌, ◌<◌, false, ⊤, List, Contains, Option, Some, None, option_map, slice_get, slice_index_or, Result, Ok, Err, IfOk}
 use Rattle.std.specs.List.{AllZip}
 use Rattle.record_codec.specs.declared.sets.SetHead.{SetHead}
 use Rattle.vol_types.specs.declared.pointers.NodePtr.{NodePtr}
 use Rattle.vol_types.specs.declared.pointers.Place.{Place}
+use Rattle.vol_types.specs.Faults.{RoseBy}
 use Rattle.node_store.specs.declared.fault.NodeFault.{NodeFault}
 use Rattle.node_store.specs.declared.fault.NodeFault.TheVariants as nodes
 use Rattle.node_store.specs.declared.fault.SetFault.{SetFault}
@@ -14,6 +15,7 @@ use Rattle.dev_model.specs.Devices.{FaultCounts}
 use Rattle.geometry.specs.Faults.{DeviceFailed, SomeFailed}
 use Rattle.sealed_block.specs.declared.heads.Head.{Head}
 use Rattle.node_store.specs.Copies.{block_in}
+use Rattle.node_store.specs.FailedReads.{IsUnreadAt, lacking_on}
 use Rattle.node_store.specs.StoredSets.{Copies}
 use Rattle.node_store.specs.NodeContents.{content_in}
 
@@ -37,16 +39,21 @@ AreCauses before (Some dev) old new = (before ≡ Some dev) ⊎ DeviceFailed dev
 abbrev pub AreSeenFrom : ℕ → Copies → Copies → Type 0
 AreSeenFrom from copies seen = AllZip (IsSeenFrom from) copies seen
 
+-- Of each device no more blocks lack in the copies, as they were seen, than reads of it failed.
+abbrev pub LackNoMore : FaultCounts → FaultCounts → List Place → Copies → Copies → Type 0
+LackNoMore old new places copies seen = (dev : ℕ) → RoseBy (lacking_on dev places copies seen) (slice_index_or old.calls dev 0) (slice_index_or new.calls dev 0)
+
 -- All copies show the same in each block before this one.
 abbrev pub AreAlike : ℕ → Copies → Type 0
 AreAlike end copies = (one other : List (Option OpenBlock)) → Contains copies one → Contains copies other → (n : ℕ) → n < end → block_in one n ≡ block_in other n
 
--- The node was read of copies as they were seen, and these lack nothing unless a read failed, and nothing behind the sets. It is
--- ragged where the copies don't all show the same up to the end of the sets.
-pub record IsReadAs (old new : FaultCounts) (id : List ℕ) (wanted : SetHead) (copies : Copies) (read : ReadNode) : Type 0 where
+-- The node was read of copies as they were seen, and these lack nothing but what couldn't be read, and nothing behind the sets. It
+-- is ragged where the copies don't all show the same up to the end of the sets.
+pub record IsReadAs (old new : FaultCounts) (id : List ℕ) (wanted : SetHead) (ptr : NodePtr) (copies : Copies) (read : ReadNode) : Type 0 where
   pub seen : Copies
   pub shown : AreSeenFrom read.end copies seen
   pub all : (seen ≡ copies) ⊎ SomeFailed old new
+  pub few : LackNoMore old new ptr.places copies seen
   pub content : content_in seen id wanted ≡ Ok (record { entries = read.node.entries; end = read.end })
   pub ragged : (read.ragged ≡ false) ↔ AreAlike read.end seen
 
@@ -60,11 +67,21 @@ pub record IsBadAt (id : List ℕ) (wanted : SetHead) (ptr : NodePtr) (copies : 
   pub content : content_in copies id wanted ≡ Err block
   pub named : first_place ptr block ≡ Some place
 
--- The answer is what the copies of the node's bucket hold, or else a device failed or it was out of memory.
+-- A block couldn't be read that the node lacks, at a place of this device: of the copies as they were seen no node comes, or one
+-- whose sets end before this block or at it. The copies lack nothing but what couldn't be read, and nothing behind this block.
+pub record IsUnread (old new : FaultCounts) (id : List ℕ) (wanted : SetHead) (ptr : NodePtr) (copies : Copies) (dev : ℕ) : Type 0 where
+  pub seen : Copies
+  pub block : ℕ
+  pub shown : AreSeenFrom (block + 1) copies seen
+  pub few : LackNoMore old new ptr.places copies seen
+  pub unread : IsUnreadAt ptr.places seen (record { block = block; dev = dev })
+  pub lacks : IfOk (content_in seen id wanted) (λ content. content.end ≤ block)
+
+-- The answer is what the copies of the node's bucket hold, or else that can't be told since a device failed, or it was out of memory.
 abbrev pub IsNodeAnswer : FaultCounts → FaultCounts → List ℕ → SetHead → NodePtr → Copies → Result ReadNode NodeFault → Type 0
-IsNodeAnswer old new id wanted ptr copies (Ok read) = IsReadAs old new id wanted copies read
+IsNodeAnswer old new id wanted ptr copies (Ok read) = IsReadAs old new id wanted ptr copies read
 IsNodeAnswer old new id wanted ptr copies (Err (nodes.BadNode place)) = IsBadAt id wanted ptr copies place
-IsNodeAnswer old new id wanted ptr copies (Err (nodes.DeviceFault dev)) = ⊤
+IsNodeAnswer old new id wanted ptr copies (Err (nodes.DeviceFault dev)) = IsUnread old new id wanted ptr copies dev
 IsNodeAnswer old new id wanted ptr copies (Err nodes.NoMemory) = ⊤
 
 -- The head is that of a block of one of the node's sets.

@@ -1,5 +1,6 @@
 -- What a node holds: its sets merged, a later one over an earlier one.
-use Rattle.std.specs.Prelude.{ℕ, ◌&&◌, ◌==◌, Bool, if◌then◌else◌, List, [], ◌∷◌, Option, Some, None, Result, Ok, Err}
+use Rattle.std.specs.Prelude.{ℕ, ◌&&◌, ◌||◌, ◌==◌, nat_lt, Bool, if◌then◌else◌, List, [], ◌∷◌, Option, Some, None, is_some, Result, Ok, Err}
+use Rattle.std.specs.List.{list_all}
 use Rattle.std.specs.Option.{option_map_or}
 use Rattle.vol_types.specs.declared.keys.Key.{Key}
 use Rattle.vol_types.specs.declared.pointers.NodePtr.{NodePtr}
@@ -31,21 +32,29 @@ is_wanted wanted head =
     head.birth == wanted.birth && btree_code head.btree == btree_code wanted.btree && head.level == wanted.level
     && is_same_pos head.least wanted.least && is_same_pos head.greatest wanted.greatest
 
--- the keys of a set that was read, if it is one of the node
-abbrev pub keys_if : SetHead → Result SetRecord RecordFault → Option (List Key)
-keys_if wanted (Err fault) = None
-keys_if wanted (Ok set) = if is_wanted wanted (head_of set) then Some set.keys else None
+-- whether a key has a value, and isn't removed
+abbrev pub has_value : Key → Bool
+has_value key = is_some key.value
 
--- the keys that a payload encodes, if it is that of a set of the node
-abbrev pub keys_of : SetHead → List ℕ → Option (List Key)
-keys_of wanted payload = keys_if wanted (set_in payload)
+-- whether a set that begins at block n of the bucket may hold the keys: a node's first set, at block 0, removes none
+abbrev pub may_hold : ℕ → List Key → Bool
+may_hold n keys = nat_lt 0 n || list_all has_value keys
+
+-- the keys of a set that was read at block n, if it is one of the node
+abbrev pub keys_if : SetHead → ℕ → Result SetRecord RecordFault → Option (List Key)
+keys_if wanted n (Err fault) = None
+keys_if wanted n (Ok set) = if is_wanted wanted (head_of set) && may_hold n set.keys then Some set.keys else None
+
+-- the keys of a set that is stored, if it is one of the node
+abbrev pub keys_of : SetHead → StoredSet → Option (List Key)
+keys_of wanted set = keys_if wanted set.block (set_in set.payload)
 
 -- the entries after each set in turn, so that a later one counts and a key that is removed takes away; or the block of the
 -- first set that isn't one of the node
 abbrev pub entries_after : SetHead → List StoredSet → Entries → Result Entries ℕ
 entries_after wanted [] entries = Ok entries
 entries_after wanted (set ∷ sets) entries =
-    option_map_or (λ keys. entries_after wanted sets (with_keys keys entries)) (keys_of wanted set.payload) (Err set.block)
+    option_map_or (λ keys. entries_after wanted sets (with_keys keys entries)) (keys_of wanted set) (Err set.block)
 
 -- a node's entries, and the first block behind its last set
 pub record NodeContent : Type 0 where

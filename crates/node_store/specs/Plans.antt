@@ -3,12 +3,18 @@ use Rattle.std.specs.Prelude.{◌≡◌, ◌⊎◌, ℕ, ◌+◌, ◌*◌, ◌/�
 use Rattle.sha2.specs.Sha256.{sha256}
 use Rattle.sealed_block.specs.Blocks.{Opens}
 use Rattle.sealed_block.specs.declared.heads.Head.{Head}
+use Rattle.dev_model.specs.Disk.{zeros}
+use Rattle.node_mem.specs.Nodes.{with_keys}
+use Rattle.record_codec.specs.Sets.{set_format}
+use Rattle.record_codec.specs.declared.sets.SetRecord.{SetRecord}
+use Rattle.vol_types.specs.KeyMaps.{Entries}
 use Rattle.vol_types.specs.Limits.{bucket_blocks}
 use Rattle.vol_types.specs.declared.pointers.NodePtr.{NodePtr}
 use Rattle.vol_types.specs.declared.pointers.Place.{Place}
 use Rattle.node_store.specs.declared.planning.Blocked.{Blocked}
 use Rattle.node_store.specs.declared.sets.StoredSet.{StoredSet}
 use Rattle.node_store.specs.Copies.{Reading}
+use Rattle.node_store.specs.NodeContents.{content_of}
 use Rattle.node_store.specs.StoredSets.{sets_of}
 
 -- how many blocks a payload takes
@@ -55,6 +61,10 @@ planned_blocks blocked = length blocked.parts / 4096
 abbrev pub part_bytes : Blocked → ℕ → List ℕ
 part_bytes blocked part = block_of_bytes blocked.parts part
 
+-- From this block on up to the end of the bucket zero blocks are planned.
+abbrev pub AreZerosFrom : ℕ → Blocked → Type 0
+AreZerosFrom first blocked = (part : ℕ) → first ≤ part → part < bucket_blocks → part_bytes blocked part ≡ zeros
+
 -- Each place holds all the planned blocks.
 abbrev pub HoldBlocks : Reading → Blocked → Type 0
 HoldBlocks read blocked =
@@ -80,3 +90,19 @@ IsReadBehind id ptr set blocked =
     → sets_of before id ptr ≡ Ok (record { sets = sets; end = set.block })
     → HoldBlocks after blocked → SameAround blocked before after
     → sets_of after id ptr ≡ Ok (record { sets = sets ++ set ∷ []; end = set.block + set.blocks })
+
+-- Where each place holds the blocks of a new node, it holds the keys of the set, and ends behind it.
+abbrev pub HoldsAlone : List ℕ → NodePtr → SetRecord → Blocked → Type 0
+HoldsAlone id ptr set blocked =
+    (read : Reading) → HoldBlocks read blocked
+    → content_of read id set.btree set.least set.greatest ptr ≡ Ok (record { entries = with_keys set.keys []; end = blocks_for (set_format.encode set) })
+
+-- Where the node held these entries and ended at the first of the blocks, and each place holds these now, it holds the keys of the
+-- set over those entries, and ends behind it.
+abbrev pub HoldsBehind : List ℕ → NodePtr → SetRecord → Blocked → Type 0
+HoldsBehind id ptr set blocked =
+    (before after : Reading) (entries : Entries)
+    → content_of before id set.btree set.least set.greatest ptr ≡ Ok (record { entries = entries; end = blocked.block })
+    → HoldBlocks after blocked → SameAround blocked before after
+    → content_of after id set.btree set.least set.greatest ptr
+    ≡ Ok (record { entries = with_keys set.keys entries; end = blocked.block + blocks_for (set_format.encode set) })

@@ -1,8 +1,9 @@
 ghost use Rattle.std.specs.Prelude.{◌≡◌, ℕ, All, None, Some, Err, IfOk, []};
+ghost use Rattle.std.specs.List.{list_all};
 ghost use Rattle.vol_types.specs.Positions.{IsWithin};
 ghost use Rattle.vol_types.specs.Ranges.{IsKeyValue};
 ghost use Rattle.node_store.specs.Answers.{Gives};
-ghost use Rattle.node_store.specs.NodeContents.{content_in, entries_after, is_same_pos, is_wanted, keys_of};
+ghost use Rattle.node_store.specs.NodeContents.{content_in, entries_after, has_value, is_same_pos, is_wanted, keys_of, may_hold};
 
 use crate::SetFault;
 use crate::opening::Copied;
@@ -10,7 +11,7 @@ use crate::sets::{StoredSet, sets_in};
 use node_mem::NodeMem;
 use record_codec::{RecordFault, SetHead, get_set};
 use std::alloc::Global;
-use vol_types::{Keys, Pos};
+use vol_types::{Key, Keys, Pos};
 
 /// A node, and the first block behind its last set.
 #[derive(Drop)]
@@ -36,11 +37,28 @@ fn is_wanted(wanted: &SetHead, head: &SetHead) -> bool
         && is_same_pos(&head.greatest, &wanted.greatest)
 }
 
+// Whether each key has a value.
+fn have_values(keys: &[Key]) -> bool
+    ensures { result ≡ list_all has_value keys.now }
+{
+    keys.iter().all(|key| key.value.is_some())
+}
+
+// Whether a set that begins at this block may hold the keys: a node's first set removes none.
+fn may_hold(block: u8, keys: &[Key]) -> bool
+    ensures { result ≡ may_hold block keys.now }
+{
+    if block > 0 {
+        return true;
+    }
+    have_values(keys)
+}
+
 // The keys of a set, if it is one of the node.
 fn keys_of(alloc: Global, wanted: &SetHead, set: &StoredSet) -> Result<Keys, SetFault>
-    ensures found { IfOk result (λ keys. keys_of wanted.now set.now.payload ≡ Some keys) }
+    ensures found { IfOk result (λ keys. keys_of wanted.now set.now ≡ Some keys) }
     ensures bad { (n : ℕ) → result ≡ Err (SetFault.BadBlock n) → (n ≡ set.now.block) ×
-        (keys_of wanted.now set.now.payload ≡ None) }
+        (keys_of wanted.now set.now ≡ None) }
     ensures covered { IfOk result
         (All (λ key. IsWithin wanted.now.least wanted.now.greatest key.pos)) }
     ensures in_range { IfOk result (All (λ key. IsKeyValue key.value)) }
@@ -48,6 +66,9 @@ fn keys_of(alloc: Global, wanted: &SetHead, set: &StoredSet) -> Result<Keys, Set
     match get_set(alloc, set.payload.as_slice()) {
         Ok(record) => {
             if !is_wanted(wanted, &record.head()) {
+                return Err(SetFault::BadBlock(set.block));
+            }
+            if !may_hold(set.block, record.keys.as_slice()) {
                 return Err(SetFault::BadBlock(set.block));
             }
             Ok(record.keys)

@@ -1,11 +1,11 @@
-ghost use Rattle.std.specs.Prelude.{◌≡◌, ◌+◌, ◌-◌, ◌*◌, ◌/◌, ◌<◌, ◌≤◌, ◌++◌, length, replicate, IfOk};
+ghost use Rattle.std.specs.Prelude.{◌≡◌, ◌+◌, ◌-◌, ◌*◌, ◌/◌, ◌<◌, ◌≤◌, ◌++◌, length, replicate, All, IfOk, IsSome};
 ghost use Rattle.sha2.specs.Sha256.{sha256};
 ghost use Rattle.sealed_block.specs.Blocks.{IsInRanges, Opens};
 ghost use Rattle.vol_types.specs.Sets.{set_length_of};
 ghost use Rattle.record_codec.specs.Sets.{IsSetInRange, set_format};
-ghost use Rattle.node_store.specs.Plans.{ArePartsBefore, IsReadAlone, IsReadBehind, blocks_for, chunk, part_head, planned_blocks, set_stored};
+ghost use Rattle.node_store.specs.Plans.{AreZerosFrom, ArePartsBefore, HoldsAlone, HoldsBehind, IsReadAlone, IsReadBehind, blocks_for, chunk, part_head, planned_blocks, set_stored};
 
-use record_codec::{SetRecord, put_set, set_lengths};
+use record_codec::{SetRecord, put_set, set_lengths, sets_are_exact};
 use sealed_block::{Head, NODE_SET, PAYLOAD_BYTES, seal, sealed_blocks_open};
 use std::alloc::{AllocError, Global};
 use vol_digest::digest;
@@ -137,8 +137,8 @@ fn zero_bytes(alloc: Global, count: usize) -> Result<Bytes, AllocError>
 }
 
 /// The sealed blocks of a set of a node, to be written from this block of its bucket on. At block 0 all 16 blocks of the
-/// bucket are planned: zero blocks behind the set, so that an older life of the bucket isn't read. It takes memory for the
-/// blocks, and the time of two digests of the set.
+/// bucket are planned: zero blocks behind the set, so that an older life of the bucket isn't read. A node's first set removes
+/// no key. It takes memory for the blocks, and the time of two digests of the set.
 pub fn plan_set(
     alloc: Global,
     layout: &Layout,
@@ -152,6 +152,7 @@ pub fn plan_set(
     requires level { set.now.level ≡ ptr.now.level }
     requires places { 0 < length ptr.now.places }
     requires fits { block + (set_length_of set.now.keys + 3967) / 3968 ≤ 16 }
+    requires first { block ≡ 0 → All (λ key. IsSome key.value) set.now.keys }
     ensures places { IfOk result (λ blocked. blocked.places ≡ ptr.now.places) }
     ensures block { IfOk result (λ blocked. blocked.block ≡ block) }
     ensures whole { IfOk result (λ blocked. length blocked.parts ≡ 4096 * planned_blocks blocked) }
@@ -159,14 +160,19 @@ pub fn plan_set(
     ensures bucket { block ≡ 0 → IfOk result (λ blocked. planned_blocks blocked ≡ 16) }
     ensures further { 0 < block → IfOk result (λ blocked. planned_blocks blocked ≡ blocks_for
         (set_format.encode set.now)) }
+    ensures zeros { block ≡ 0 → IfOk result (AreZerosFrom (blocks_for (set_format.encode set.now))) }
     // The blocks of a new node are read as this set alone, and those of a further set as the sets before it and this one.
     ensures alone { block ≡ 0 → IfOk result (IsReadAlone layout.now.id ptr.now
         (set_stored block sequence (set_format.encode set.now))) }
     ensures behind { 0 < block → IfOk result (IsReadBehind layout.now.id ptr.now
         (set_stored block sequence (set_format.encode set.now))) }
+    // So a new node holds the keys of the set, and another one these over what it held before.
+    ensures new { block ≡ 0 → IfOk result (HoldsAlone layout.now.id ptr.now set.now) }
+    ensures more { 0 < block → IfOk result (HoldsBehind layout.now.id ptr.now set.now) }
 {
     let payload = put_set(alloc, set)?;
     set_lengths();
+    sets_are_exact();
     let parts = seal_parts(
         alloc,
         &layout.id,

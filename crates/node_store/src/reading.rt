@@ -1,12 +1,15 @@
-ghost use Rattle.std.specs.Prelude.{◌≡◌, ◌↔◌, ◌⊎◌, ◌+◌, ◌≤◌, ◌<◌, ℕ, max, false, None, Some, Err, IsSome, IfErr, IfOk, IfSome, MatchOption};
+ghost use Rattle.std.specs.Prelude.{◌≡◌, ◌↔◌, ◌⊎◌, ◌+◌, ◌≤◌, ◌<◌, ℕ, length, false, None, Some, Err, slice_index_or, IsSome, IfErr, IfOk, IfSome, MatchOption};
+ghost use Rattle.vol_types.specs.Faults.{RoseBy};
 ghost use Rattle.vol_types.specs.Ranges.{IsBucket, IsNode};
 ghost use Rattle.vol_types.specs.declared.pointers.Place.{Place as APlace};
+ghost use Rattle.node_store.specs.declared.reading.Unread.{Unread as AnUnread};
 ghost use Rattle.dev_model.specs.Devices.{now};
 ghost use Rattle.dev_model.specs.Disk.{as_read, block_at};
 ghost use Rattle.dev_model.specs.Frames.{AreOnlyRead, after_reads};
 ghost use Rattle.geometry.specs.Faults.{DeviceFailed, failed_device};
-ghost use Rattle.node_store.specs.Answers.{AreAlike, AreCauses, AreSeenFrom, IsNodeAnswer, IsSeenFrom, first_place};
+ghost use Rattle.node_store.specs.Answers.{AreAlike, AreCauses, AreSeenFrom, IsNodeAnswer, IsSeenFrom, LackNoMore, first_place};
 ghost use Rattle.node_store.specs.Copies.{copies_at, copy_at, shown_at};
+ghost use Rattle.node_store.specs.FailedReads.{IsFarthest, IsUnreadAt, farthest, lacking, read_from, unread_device};
 ghost use Rattle.node_store.specs.Faults.{failed_node_device};
 ghost use Rattle.node_store.specs.NodeContents.{wanted_of};
 
@@ -32,11 +35,11 @@ pub struct ReadNode {
     pub ragged: bool,
 }
 
-// Which reads failed: the first block behind all those that couldn't be read, and a device that failed.
+// A block of the bucket that couldn't be read at a place, and the device there.
 #[derive(Clone, Copy)]
-struct Failures {
-    from: u8,
-    dev: Option<u8>,
+struct Unread {
+    block: u8,
+    dev: u8,
 }
 
 // A block as it was seen: what it shows, and the device that failed.
@@ -46,18 +49,18 @@ struct SeenBlock {
     failed: Option<u8>,
 }
 
-// The copies of a bucket as they were seen.
+// The copies of a bucket as they were seen, and the farthest block that couldn't be read.
 #[derive(Drop)]
 struct SeenCopies {
     copies: Listing<Copied>,
-    failures: Failures,
+    unread: Option<Unread>,
 }
 
-// A copy as it was seen, with the failures so far.
+// A copy as it was seen, and the farthest block that couldn't be read in it or in those before.
 #[derive(Drop)]
 struct SeenCopy {
     copy: Copied,
-    failures: Failures,
+    unread: Option<Unread>,
 }
 
 // What a block of the bucket at a place shows. A place that the devices don't have shows nothing.
@@ -95,6 +98,7 @@ fn see_block<D: Devices>(
     ensures shown { D.tells → IfOk result (λ seen. (seen.shown ≡ shown_at
         (block_at (as_read (now (D.state devices.old)))) place.now n) ⊎
         ((seen.shown ≡ None) × IsSome seen.failed)) }
+    ensures unseen { IfOk result (λ seen. IsSome seen.failed → seen.shown ≡ None) }
     ensures read { AreOnlyRead D.tells (D.state devices.old) (D.state devices.new) }
     ensures cause { IfOk result (λ seen. MatchOption seen.failed ((D.state devices.new).faults
         ≡ (D.state devices.old).faults) (λ dev. (dev ≡ place.now.dev) × DeviceFailed dev
@@ -113,19 +117,19 @@ fn see_block<D: Devices>(
     }
 }
 
-// The failures with one more, or as they were.
-fn after(failures: Failures, n: u8, failed: Option<u8>) -> Failures
-    requires { n < 16 }
-    ensures { MatchOption failed (result ≡ failures) (λ dev. result
-        ≡ record { from = max failures.from (n + 1); dev = Some dev }) }
+// The farthest block that couldn't be read, after block n of a device, which failed or not.
+fn farthest(n: u8, failed: Option<u8>, before: Option<Unread>) -> Option<Unread>
+    ensures { result ≡ farthest n failed before }
 {
-    match failed {
-        None => failures,
-        Some(dev) => Failures {
-            from: failures.from.max(n + 1),
-            dev: Some(dev),
-        },
+    let Some(dev) = failed else {
+        return before;
+    };
+    if let Some(unread) = before {
+        if n < unread.block {
+            return Some(unread);
+        }
     }
+    Some(Unread { block: n, dev })
 }
 
 // What the bucket at a place shows.
@@ -133,25 +137,31 @@ fn see_copy<D: Devices>(
     alloc: Global,
     devices: &mut D,
     place: &Place,
-    before: Failures,
+    before: Option<Unread>,
 ) -> Result<SeenCopy, AllocError>
-    ensures shown { D.tells → IfOk result (λ seen. IsSeenFrom seen.failures.from
+    ensures shown { D.tells → IfOk result (λ seen. IsSeenFrom (read_from seen.unread)
         (copy_at (block_at (as_read (now (D.state devices.old)))) place.now) seen.copy) }
-    ensures all { D.tells → IfOk result (λ seen. seen.failures.dev ≡ None → seen.copy ≡ copy_at
+    ensures all { D.tells → IfOk result (λ seen. seen.unread ≡ None → seen.copy ≡ copy_at
         (block_at (as_read (now (D.state devices.old)))) place.now) }
-    ensures from { IfOk result (λ seen. before.from ≤ seen.failures.from) }
+    ensures few { D.tells → IfOk result (λ seen. RoseBy (lacking (copy_at
+        (block_at (as_read (now (D.state devices.old)))) place.now) seen.copy)
+        (slice_index_or (D.state devices.old).faults.calls place.now.dev 0)
+        (slice_index_or (D.state devices.new).faults.calls place.now.dev 0)) }
+    ensures from { IfOk result (λ seen. read_from before ≤ read_from seen.unread) }
+    ensures unread { IfOk result (λ seen. IsFarthest before seen.unread seen.copy place.now.dev) }
+    ensures size { IfOk result (λ seen. length seen.copy ≡ 16) }
     ensures read { AreOnlyRead D.tells (D.state devices.old) (D.state devices.new) }
-    ensures cause { IfOk result (λ seen. AreCauses before.dev seen.failures.dev
+    ensures cause { IfOk result (λ seen. AreCauses (unread_device before) (unread_device seen.unread)
         (D.state devices.old).faults (D.state devices.new).faults) }
 {
     let mut copy = Listing::new(alloc);
-    let mut failures = before;
+    let mut unread = before;
     for n in 0..BUCKET {
         let seen = see_block(alloc, devices, place, n)?;
-        failures = after(failures, n, seen.failed);
+        unread = farthest(n, seen.failed, unread);
         copy.push(seen.shown)?;
     }
-    Ok(SeenCopy { copy, failures })
+    Ok(SeenCopy { copy, unread })
 }
 
 // What the bucket at each place shows.
@@ -160,36 +170,41 @@ fn see_copies<D: Devices>(
     devices: &mut D,
     places: &[Place],
 ) -> Result<SeenCopies, AllocError>
-    ensures shown { D.tells → IfOk result (λ seen. AreSeenFrom seen.failures.from
+    ensures shown { D.tells → IfOk result (λ seen. AreSeenFrom (read_from seen.unread)
         (copies_at (block_at (as_read (now (D.state devices.old)))) places.now) seen.copies) }
-    ensures all { D.tells → IfOk result (λ seen. seen.failures.dev ≡ None → seen.copies ≡ copies_at
+    ensures few { D.tells → IfOk result (λ seen. LackNoMore
+        (D.state devices.old).faults (D.state devices.new).faults places.now
+        (copies_at (block_at (as_read (now (D.state devices.old)))) places.now) seen.copies) }
+    ensures all { D.tells → IfOk result (λ seen. seen.unread ≡ None → seen.copies ≡ copies_at
         (block_at (as_read (now (D.state devices.old)))) places.now) }
     ensures read { AreOnlyRead D.tells (D.state devices.old) (D.state devices.new) }
-    ensures cause { IfOk result (λ seen. AreCauses None seen.failures.dev
+    ensures cause { IfOk result (λ seen. AreCauses None (unread_device seen.unread)
         (D.state devices.old).faults (D.state devices.new).faults) }
+    ensures unread { IfOk result (λ seen. IfSome seen.unread
+        (IsUnreadAt places.now seen.copies)) }
 {
     let mut copies = Listing::new(alloc);
-    let mut failures = Failures { from: 0, dev: None };
+    let mut unread = None;
     for place in places {
-        let seen = see_copy(alloc, devices, place, failures)?;
-        failures = seen.failures;
+        let seen = see_copy(alloc, devices, place, unread)?;
+        unread = seen.unread;
         copies.push(seen.copy)?;
     }
-    Ok(SeenCopies { copies, failures })
+    Ok(SeenCopies { copies, unread })
 }
 
-// The device that failed, if a block from this one on couldn't be read.
-fn unread_from(failures: Failures, end: u8) -> Option<u8>
-    ensures { MatchOption result ((failures.dev ≡ None) ⊎ (failures.from ≤ end))
-        (λ dev. failures.dev ≡ Some dev) }
+// The block that couldn't be read, if it is this one or one behind it.
+fn unread_from(unread: Option<Unread>, end: u8) -> Option<Unread>
+    ensures { MatchOption result (read_from unread ≤ end)
+        (λ far. (unread ≡ Some far) × (end ≤ far.block)) }
 {
-    match failures.dev {
+    match unread {
         None => None,
-        Some(dev) => {
-            if failures.from <= end {
+        Some(far) => {
+            if far.block < end {
                 return None;
             }
-            Some(dev)
+            Some(far)
         }
     }
 }
@@ -199,14 +214,14 @@ fn judge_content(seen: &SeenCopies, content: Content) -> Result<ReadNode, NodeFa
     ensures read { IfOk result (λ read. (read.node ≡ content.node) × (read.end ≡ content.end)) }
     ensures ragged { IfOk result (λ read. (read.ragged
         ≡ false) ↔ AreAlike read.end seen.now.copies) }
-    ensures whole { IfOk result (λ read. (seen.now.failures.dev ≡ None) ⊎
-        (seen.now.failures.from ≤ read.end)) }
-    ensures device { IfErr result (λ fault. (dev : ℕ) × (fault ≡ NodeFault.DeviceFault dev) ×
-        (seen.now.failures.dev ≡ Some dev)) }
+    ensures whole { IfOk result (λ read. read_from seen.now.unread ≤ read.end) }
+    ensures device { IfErr result (λ fault. (far : AnUnread) × (fault
+        ≡ NodeFault.DeviceFault far.dev) × (seen.now.unread ≡ Some far) × (content.end
+        ≤ far.block)) }
 {
     let Content { node, end } = content;
-    match unread_from(seen.failures, end) {
-        Some(dev) => Err(NodeFault::DeviceFault(dev)),
+    match unread_from(seen.unread, end) {
+        Some(far) => Err(NodeFault::DeviceFault(far.dev)),
         None => {
             let ragged = !are_alike(seen.copies.as_slice(), end);
             Ok(ReadNode { node, end, ragged })
@@ -227,15 +242,16 @@ fn behind(first: Place, n: u8) -> Place
 }
 
 // The fault of a bucket whose block n is bad, as far as it could be read.
-fn fault_at(ptr: &NodePtr, failed: Option<u8>, n: u8) -> NodeFault
+fn fault_at(ptr: &NodePtr, unread: Option<Unread>, n: u8) -> NodeFault
     requires pointer { IsNode ptr.now }
     requires block { n < 16 }
-    ensures device { (dev : ℕ) → result ≡ NodeFault.DeviceFault dev → failed ≡ Some dev }
-    ensures bad { (place : APlace) → result ≡ NodeFault.BadNode place → (failed ≡ None) ×
+    ensures device { (dev : ℕ) → result ≡ NodeFault.DeviceFault dev → (far : AnUnread) × (unread
+        ≡ Some far) × (dev ≡ far.dev) }
+    ensures bad { (place : APlace) → result ≡ NodeFault.BadNode place → (unread ≡ None) ×
         (first_place ptr.now n ≡ Some place) }
 {
-    if let Some(dev) = failed {
-        return NodeFault::DeviceFault(dev);
+    if let Some(far) = unread {
+        return NodeFault::DeviceFault(far.dev);
     }
     match ptr.places.get(0) {
         Some(first) => NodeFault::BadNode(behind(*first, n)),
@@ -247,7 +263,7 @@ fn fault_at(ptr: &NodePtr, failed: Option<u8>, n: u8) -> NodeFault
 /// on each place, and takes memory for what they hold.
 ///
 /// A read that fails is made up by another place where that gives the set. Where none does, and where a block behind the sets
-/// can't be read, the device is at fault.
+/// can't be read, the device is at fault: that of the farthest block that couldn't be read.
 pub fn read_node<D: Devices>(
     alloc: Global,
     devices: &mut D,
@@ -281,7 +297,7 @@ pub fn read_node<D: Devices>(
     let seen = see_copies(alloc, devices, ptr.places.as_slice())?;
     match content_in(alloc, seen.copies.as_slice(), &layout.id, &wanted) {
         Ok(content) => judge_content(&seen, content),
-        Err(SetFault::BadBlock(n)) => Err(fault_at(ptr, seen.failures.dev, n)),
+        Err(SetFault::BadBlock(n)) => Err(fault_at(ptr, seen.unread, n)),
         Err(SetFault::NoMemory) => Err(NodeFault::NoMemory),
     }
 }

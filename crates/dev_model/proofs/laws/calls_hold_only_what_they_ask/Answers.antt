@@ -9,7 +9,7 @@ pub returns-clause-write : goal.returns-clause-write
 returns-clause-write c opens asked result old mid new dev block bytes begun so_far ask changes = hold_by_write opens (λ d b x. IsTrue (asked d b x)) old mid begun so_far result dev block bytes new ask changes
 
 pub returns-clause-flush : goal.returns-clause-flush
-returns-clause-flush c opens asked result old mid new dev begun so_far are changes = hold_by_flush opens (λ d b x. IsTrue (asked d b x)) old mid begun so_far result dev new are changes
+returns-clause-flush c opens asked result old mid new dev begun so_far changes = hold_by_flush opens (λ d b x. IsTrue (asked d b x)) old mid begun so_far result dev new changes
 
 pub returns-clause-read : goal.returns-clause-read
 returns-clause-read c opens asked result old mid new begun so_far changes = hold_by_read opens (λ d b x. IsTrue (asked d b x)) old mid begun so_far result new changes

@@ -1,4 +1,4 @@
-use Rattle.std.proofs.Common.{◌≡◌, ℕ, ◌+◌, ◌<◌, ◌^◌, List, length, Some, refl, ap, ◌∙◌, sym, subst, arith}
+use Rattle.std.proofs.Common.{◌≡◌, ℕ, ◌+◌, List, length, Some, refl, ap, ◌∙◌, sym, subst, arith}
 use Rattle.record_codec.specs.Entries.{entry_format, entry_length_of}
 use Rattle.journal_ring.specs.declared.found.FoundEntry.{FoundEntry}
 use Rattle.journal_ring.specs.EntryBlocks.{ArePartBlocks, part_count, parts_of}

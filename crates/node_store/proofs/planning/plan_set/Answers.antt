@@ -2,9 +2,11 @@ use Rattle.std.proofs.Common.{◌≡◌, ◌*◌, ℕ, List, length, sum_by, ref
 use Rattle.vol_types.specs.Lengths.{key_length_of}
 use Rattle.vol_types.specs.Sets.{set_length_of}
 use Rattle.record_codec.specs.Sets.{set_format}
-use Rattle.node_store.specs.Plans.{ArePartsBefore, blocks_for}
+use Rattle.node_store.specs.Plans.{ArePartsBefore, block_of_bytes, blocks_for}
 use Rattle.node_store.proofs.PlanFacts.{few_bytes, same_fit, some_block}
-use Rattle.node_store.proofs.PlannedReading.{read_alone, read_behind}
+use Rattle.node_store.specs.declared.planning.Blocked.{Blocked}
+use Rattle.node_store.proofs.PlannedContents.{holds_alone, holds_behind}
+use Rattle.node_store.proofs.PlannedReading.{read_alone, read_behind, zeros_behind}
 use Rattle.node_store.proofs.planning.plan_set.Goals as goal
 
 pub seal_parts-requires : goal.seal_parts-requires
@@ -40,3 +42,25 @@ returns-clause-alone c first =
     (subst (λ (p : List ℕ). length sealed ≡ 4096 * blocks_for p) same c.in_ok-parts.ensures.whole)
     c.in_ok-places.ensures refl refl (some_block payload (sum_by (λ key. key_length_of key.value) set.keys) long) (same_fit payload c.args.block (set_length_of set.keys) long c.requires.fits) c.requires.places
     first (c.in_ok-parts-2.ensures.new first)
+
+pub returns-clause-new : goal.returns-clause-new
+returns-clause-new c first =
+    let set = c.args.set.now in
+    let blocked : Blocked = record { places = c.in_ok-places.places; block = c.args.block; parts = c.in_ok-parts-2.parts } in
+    holds_alone c.args.ptr.now set c.args.block c.args.sequence c.sets_are_exact.ensures.only c.in_ok-payload.ensures.set c.requires.birth c.requires.level c.requires.first c.args.layout.now.id blocked
+    (returns-clause-alone c first)
+
+pub returns-clause-more : goal.returns-clause-more
+returns-clause-more c later =
+    let set = c.args.set.now in
+    let blocked : Blocked = record { places = c.in_ok-places.places; block = c.args.block; parts = c.in_ok-parts-2.parts } in
+    holds_behind c.args.ptr.now set c.args.block c.args.sequence c.sets_are_exact.ensures.only c.in_ok-payload.ensures.set c.requires.birth c.requires.level c.requires.first c.args.layout.now.id blocked refl
+    (returns-clause-behind c later)
+
+pub returns-clause-zeros : goal.returns-clause-zeros
+returns-clause-zeros c first part le lt =
+    let payload = set_format.encode c.args.set.now in
+    let same : c.as_slice.result.now ≡ payload = c.as_slice.ensures ∙ c.in_ok-payload.ensures.ok in
+    let sealed = c.in_ok-parts.parts in
+    ap (λ (bytes : List ℕ). block_of_bytes bytes part) (c.in_ok-parts-2.ensures.new first)
+    ∙ zeros_behind sealed (blocks_for payload) part (subst (λ (p : List ℕ). length sealed ≡ 4096 * blocks_for p) same c.in_ok-parts.ensures.whole) le lt

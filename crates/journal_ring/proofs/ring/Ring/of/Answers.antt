@@ -1,4 +1,4 @@
-use Rattle.std.proofs.Common.{◌<◌, List, ℕ, length, ap, arith}
+use Rattle.std.proofs.Common.{List, ℕ, length, ap, arith}
 use Rattle.vol_types.specs.LayoutLaws.{layout_found}
 use Rattle.journal_ring.proofs.ring.Ring.of.Goals as goal
 

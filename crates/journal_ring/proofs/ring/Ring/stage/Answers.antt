@@ -1,4 +1,4 @@
-use Rattle.std.proofs.Common.{◌≡◌, ◌<◌, ◌+◌, ◌-◌, ℕ, List, length, ap, ◌∙◌, sym, subst, arith}
+use Rattle.std.proofs.Common.{◌≡◌, ℕ, List, length, ap, ◌∙◌, subst, arith}
 use Rattle.record_codec.specs.Entries.{entry_length_of}
 use Rattle.journal_ring.specs.EntryBlocks.{part_count, parts_of}
 use Rattle.journal_ring.specs.Rings.{IsRing, RingState}

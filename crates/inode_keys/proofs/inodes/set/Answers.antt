@@ -1,18 +1,16 @@
-use Rattle.std.proofs.Common.{◌≡◌, Option, sym, subst, ap, ◌∙◌}
+use Rattle.std.proofs.Common.{Option, sym, subst, ap, ◌∙◌}
 use Rattle.std.specs.Ordering.{nat_cmp}
-use Rattle.std.specs.Prelude.{IfOk, IsSome, option_map}
+use Rattle.std.specs.Prelude.{IsSome, option_map}
 use Rattle.key_view.specs.Changes.{SeesThere, own_update, updates_to_see}
-use Rattle.key_view.specs.Seen.{IsSeen}
 use Rattle.inode_keys.proofs.Setting.{carried, inode_fits, inode_shows, not_ids, whiteout_fits}
 use Rattle.snap_tree.specs.Snaps.{IsSnapTree, Snaps}
-use Rattle.vol_types.specs.KeyMaps.{KeyMap, with_updates}
+use Rattle.vol_types.specs.KeyMaps.{with_updates}
 use Rattle.vol_types.specs.Maps.{value_at}
 use Rattle.vol_types.specs.Standing.{IsUpdate}
-use Rattle.vol_types.specs.declared.keys.Update.{Update}
 use Rattle.vol_types.specs.declared.positions.Btree.TheVariants.{Inodes}
 use Rattle.vol_types.specs.declared.values.Value.{Value}
 use Rattle.vol_types.specs.declared.values.Value.TheVariants as values
-use Rattle.inode_keys.proofs.set.Goals as goal
+use Rattle.inode_keys.proofs.inodes.set.Goals as goal
 
 pub returns-clause-updates : goal.returns-clause-updates
 returns-clause-updates g c =

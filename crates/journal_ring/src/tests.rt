@@ -1,0 +1,336 @@
+ghost use Rattle.std.specs.Prelude.{◌≡◌, ◌∷◌, [], length, IfOk};
+ghost use Rattle.dev_model.specs.Devices.{now};
+ghost use Rattle.dev_model.specs.Disk.{NothingPending};
+
+use crate::blocks::sealed_parts;
+use crate::counting::journal_of;
+use crate::parts::AreaBlocks;
+use crate::{Journal, part_count, read_journal};
+use dev_model::{Devices, MemDevices};
+use geometry::{DiskFault, is_layout_of};
+use record_codec::get_entry;
+use std::alloc::{AllocError, Global};
+use std::test::Fail;
+use vol_types::{BLOCK_SIZE, Blocks, Bytes, Layout, Listing, Place};
+
+const ID: [u8; 16] = *b"journal of tests";
+
+// Letters, and the part of an entry that each stands for: the entry's sequence, the oldest one that it needs and its session, the
+// number of its part 0, its bytes, and which of its parts.
+const PARTS: [(u8, [u8; 3], u64, u16, u16); 17] = [
+    (b'a', [1, 1, 1], 0, 216, 0),
+    // the second entry, in two parts
+    (b'B', [2, 1, 1], 1, 6456, 0),
+    (b'C', [2, 1, 1], 1, 6456, 1),
+    // the same with another payload, and so with another record digest
+    (b'R', [2, 2, 1], 1, 6456, 1),
+    // more entries of sequence 2
+    (b'd', [2, 1, 2], 3, 216, 0),
+    (b'e', [2, 1, 1], 4, 216, 0),
+    (b'f', [2, 1, 1], 5, 216, 0),
+    (b'g', [2, 2, 1], 3, 216, 0),
+    (b'h', [2, 1, 1], 3, 216, 0),
+    // entries behind it
+    (b'j', [3, 2, 1], 4, 216, 0),
+    (b'i', [4, 2, 1], 5, 216, 0),
+    (b'k', [4, 4, 1], 5, 216, 0),
+    (b'l', [4, 4, 1], 13, 216, 0),
+    // an entry around the end of an area of 8 blocks
+    (b'P', [3, 3, 1], 7, 6456, 0),
+    (b'Q', [3, 3, 1], 7, 6456, 1),
+    // the same a round later
+    (b'S', [3, 3, 1], 15, 6456, 0),
+    (b'T', [3, 3, 1], 15, 6456, 1),
+];
+
+// Appends so many updates that set the number which counter 0 comes to next, 31 bytes each, or that remove it, 23 bytes each.
+fn put_updates(payload: &mut Vec<u8>, count: u8, removes: bool) -> Result<(), AllocError> {
+    for _ in 0..count {
+        payload.extend_from_slice(&[8, 0])?;
+        payload.extend_from_slice(&[0; 20])?;
+        if removes {
+            payload.push(0)?;
+        } else {
+            payload.extend_from_slice(&[11, 7, 0, 0, 0, 0, 0, 0, 0])?;
+        }
+    }
+    Ok(())
+}
+
+// The payload of an entry: 216 bytes with nine roots on two devices, and in a long one 208 updates of 6,240 bytes.
+fn payload_of(alloc: Global, numbers: [u8; 3], bytes: u16) -> Result<Vec<u8>, AllocError> {
+    let mut payload = Vec::new(alloc);
+    for number in numbers {
+        payload.extend_from_slice(&[number, 0, 0, 0, 0, 0, 0, 0])?;
+    }
+    payload.extend_from_slice(&[0; 8])?;
+    for btree in 0..9 {
+        payload.extend_from_slice(&[btree, 0, 0, 0, 1, 0, 0, 0, 0, 2])?;
+        payload.extend_from_slice(&[0, 16, 1, 0, 0, 1, 16, 1, 0, 0])?;
+    }
+    if bytes == 216 {
+        payload.extend_from_slice(&[0; 4])?;
+    } else {
+        payload.extend_from_slice(&[208, 0, 0, 0])?;
+        put_updates(&mut payload, 182, false)?;
+        put_updates(&mut payload, 26, true)?;
+    }
+    Ok(payload)
+}
+
+// The block of a part of the entry with this payload.
+fn block_of_part(alloc: Global, number: u64, payload: &[u8], part: u16) -> Result<Bytes, Fail>
+    ensures { IfOk result (λ block. length block ≡ 4096) }
+{
+    let entry = get_entry(alloc, payload)
+        .ok()
+        .ok_or("the payload is an entry")?;
+    if part_count(payload.len() as u64) > 64 || number > 1000 {
+        return Err(Fail::from("the entry is too long"));
+    }
+    let blocks = sealed_parts(alloc, &ID, number, &entry, payload)?;
+    let block = blocks
+        .get(part as usize)
+        .ok_or("the entry has no such part")?;
+    Ok(Bytes::from_slice(alloc, block)?)
+}
+
+// The block that a letter stands for: a part, or zeros.
+fn block_of_letter(alloc: Global, letter: u8) -> Result<Bytes, Fail>
+    ensures { IfOk result (λ block. length block ≡ 4096) }
+{
+    for (name, numbers, number, bytes, part) in &PARTS {
+        if *name == letter {
+            let payload = payload_of(alloc, *numbers, *bytes)?;
+            if payload.len() != *bytes as usize {
+                return Err(Fail::from("the payload has other bytes"));
+            }
+            return block_of_part(alloc, *number, &payload, *part);
+        }
+    }
+    Ok(Bytes::from(vec![in alloc; 0; BLOCK_SIZE]?))
+}
+
+// The blocks that letters stand for.
+fn area_of(alloc: Global, letters: &str) -> Result<AreaBlocks, Fail> {
+    let mut blocks = Listing::new(alloc);
+    for letter in letters.bytes() {
+        blocks.push(block_of_letter(alloc, letter)?)?;
+    }
+    Ok(blocks)
+}
+
+// A layout on two devices with a journal area of so many blocks.
+fn layout_with(alloc: Global, journal: u32) -> Result<Layout, AllocError>
+    ensures { IfOk result (λ layout. layout.journal ≡ journal) }
+{
+    Ok(Layout {
+        id: ID,
+        blocks: Blocks::from_slice(alloc, &[1024, 1024])?,
+        journal,
+        metadata_replicas: 2,
+        data_replicas: 1,
+    })
+}
+
+// What is needed, as the sequence of each entry, its number and the one behind its end; a question mark with the sequence that
+// is missing; or a dash.
+fn letters_of(alloc: Global, journal: &Journal) -> Result<Vec<u8>, AllocError> {
+    let mut letters = Vec::new(alloc);
+    match journal {
+        Journal::NoEntry => letters.push(b'-')?,
+        Journal::Missing(sequence) => letters.extend_from_slice(&[b'?', digit(*sequence)])?,
+        Journal::Needed(entries) => {
+            for found in entries.as_slice() {
+                letters.push(digit(found.entry.sequence))?;
+                letters.push(digit(found.number))?;
+                letters.push(digit(found.end))?;
+            }
+        }
+    }
+    Ok(letters)
+}
+
+// A number below 36 as a digit or a letter, and any other one as a star.
+fn digit(number: u64) -> u8 {
+    if number < 10 {
+        return b'0' + number as u8;
+    }
+    if number < 36 {
+        return b'a' + (number - 10) as u8;
+    }
+    b'*'
+}
+
+// What two devices say that have areas of 8 blocks, of which the first ones are these.
+fn said(alloc: Global, first: &str, second: &str) -> Result<Vec<u8>, Fail> {
+    let layout = layout_with(alloc, 8)?;
+    let mut areas = Listing::new(alloc);
+    areas.push(area_of(alloc, first)?)?;
+    areas.push(area_of(alloc, second)?)?;
+    let journal = journal_of(alloc, &layout, areas.as_slice())?;
+    Ok(letters_of(alloc, &journal)?)
+}
+
+// The first row whose devices don't say what stands there.
+fn first_other(
+    alloc: Global,
+    rows: &[(&'static str, &'static str, &'static str)],
+) -> Result<Option<&'static str>, Fail> {
+    for (first, second, wanted) in rows {
+        let letters = said(alloc, first, second)?;
+        if letters.as_slice() != wanted.as_bytes() {
+            return Ok(Some(first));
+        }
+    }
+    Ok(None)
+}
+
+// Each part of the second entry is whole or torn on each device: it is whole where each part is on some device.
+#[test]
+fn torn_parts(rt: HostRuntime) -> Result<(), Fail> {
+    let rows = [
+        ("a..", "a..", "101"),
+        ("aB.", "a..", "101"),
+        ("a..", "aB.", "101"),
+        ("aB.", "aB.", "101"),
+        ("a.C", "a..", "101"),
+        ("aBC", "a..", "101213"),
+        ("a.C", "aB.", "101213"),
+        ("aBC", "aB.", "101213"),
+        ("a..", "a.C", "101"),
+        ("aB.", "a.C", "101213"),
+        ("a..", "aBC", "101213"),
+        ("aB.", "aBC", "101213"),
+        ("a.C", "a.C", "101"),
+        ("aBC", "a.C", "101213"),
+        ("a.C", "aBC", "101213"),
+        ("aBC", "aBC", "101213"),
+    ];
+    assert_eq!(rt; first_other(rt.alloc(), &rows)?, None);
+    Ok(())
+}
+
+#[test]
+fn which_entries_count(rt: HostRuntime) -> Result<(), Fail> {
+    let rows = [
+        // nothing is whole
+        ("", "", "-"),
+        (".B", ".B", "-"),
+        ("..C", "..C", "-"),
+        // the greater session, then the greater number, then the lower device
+        ("a..de", "", "101234"),
+        ("a...e", "a..d", "101234"),
+        ("a...ef", "a", "101256"),
+        ("a....f", "a...e", "101256"),
+        ("a..g", "a..h", "234"),
+        ("a..h", "a..g", "101234"),
+        // around the end of the area, and a round later
+        ("Q......P", "", "379"),
+        ("Q", ".......P", "379"),
+        ("T......S", "Q......P", "3fh"),
+        ("Q......S", "T......P", "3fh"),
+        ("Q......S", "Q......P", "379"),
+        // a number that isn't its place
+        (".a", "", "-"),
+        ("da", "", "-"),
+        // a part of another record
+        ("aBR", "a", "101"),
+        ("aBR", "a.C", "101213"),
+        ("aBC", "a.R", "101213"),
+        // what is needed besides the newest one
+        ("....ji", "", "?2"),
+        ("...d.i", "", "?3"),
+        ("...dji", "", "234345456"),
+        ("...d.i", "....j", "234345456"),
+        ("...djk", "", "456"),
+        (".....k", ".....l", "4de"),
+    ];
+    assert_eq!(rt; first_other(rt.alloc(), &rows)?, None);
+    Ok(())
+}
+
+// Sets a block between two sessions.
+fn put(devices: &mut MemDevices, dev: u8, block: u32, bytes: &[u8]) -> Result<(), Fail>
+    requires { NothingPending (now (⟦<MemDevices as Devices>⟧.state devices.old)) }
+    ensures quiet { NothingPending (now (⟦<MemDevices as Devices>⟧.state devices.new)) }
+    ensures sizes { (⟦<MemDevices as Devices>⟧.state devices.new).sizes
+        ≡ (⟦<MemDevices as Devices>⟧.state devices.old).sizes }
+{
+    if dev >= devices.count() || block >= devices.blocks(dev) || bytes.len() != 4096 {
+        return Err(Fail::from("there is no such block"));
+    }
+    devices.patch(&Place { dev, block }, bytes)?;
+    Ok(())
+}
+
+// Two devices with areas of 256 blocks. The second entry has its first part on the first one and the other part on the second,
+// which has the first entry too.
+fn two_devices(alloc: Global) -> Result<MemDevices, Fail>
+    ensures { IfOk result (λ devices. (⟦<MemDevices as Devices>⟧.state devices).sizes
+        ≡ 1024 ∷ 1024 ∷ []) }
+{
+    let mut devices = MemDevices::blank(alloc, &[1024, 1024])?;
+    put(
+        &mut devices,
+        0,
+        17,
+        block_of_letter(alloc, b'B')?.as_slice(),
+    )?;
+    put(
+        &mut devices,
+        1,
+        18,
+        block_of_letter(alloc, b'C')?.as_slice(),
+    )?;
+    put(
+        &mut devices,
+        1,
+        16,
+        block_of_letter(alloc, b'a')?.as_slice(),
+    )?;
+    Ok(devices)
+}
+
+// What the journal of two devices holds, where they have room for the layout.
+fn read_from(alloc: Global, devices: &mut MemDevices, layout: &Layout) -> Result<Journal, DiskFault>
+    requires { (⟦<MemDevices as Devices>⟧.state devices.old).sizes ≡ 1024 ∷ 1024 ∷ [] }
+{
+    if !is_layout_of(&[1024, 1024], layout) {
+        return Err(DiskFault::NoMemory);
+    }
+    read_journal(alloc, devices, layout)
+}
+
+// What the devices say where the call with this number fails, and how many calls there were.
+fn read_with_fault(alloc: Global, fault: u64) -> Result<(Result<Vec<u8>, DiskFault>, u64), Fail> {
+    let layout = layout_with(alloc, 256)?;
+    let mut devices = two_devices(alloc)?;
+    devices.fail_at(&[fault])?;
+    match read_from(alloc, &mut devices, &layout) {
+        Ok(journal) => Ok((Ok(letters_of(alloc, &journal)?), devices.calls())),
+        Err(fault) => Ok((Err(fault), devices.calls())),
+    }
+}
+
+// There are two areas of 256 blocks, each of which is read once.
+#[test]
+fn each_block_is_read_once(rt: HostRuntime) -> Result<(), Fail> {
+    let alloc = rt.alloc();
+    let (said, calls) = read_with_fault(alloc, 512)?;
+    let letters = said.ok().ok_or("no read fails")?;
+    assert_eq!(rt; letters.as_slice(), b"101213".as_slice());
+    assert_eq!(rt; calls, 512);
+    Ok(())
+}
+
+#[test]
+fn reads_that_fail(rt: HostRuntime) -> Result<(), Fail> {
+    let alloc = rt.alloc();
+    for (fault, dev) in [(0, 0), (255, 0), (256, 1), (511, 1)] {
+        let (said, calls) = read_with_fault(alloc, fault)?;
+        assert_eq!(rt; said.err(), Some(DiskFault::DeviceFault(dev)));
+        assert_eq!(rt; calls, fault + 1);
+    }
+    Ok(())
+}

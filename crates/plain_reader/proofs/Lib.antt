@@ -1,0 +1,12 @@
+pub mod Counts
+pub mod FoundTold
+pub mod LevelTold
+pub mod NodeTold
+pub mod LoopsTold
+pub mod Making
+pub mod Noted
+pub mod RaggedTold
+pub mod Ranges
+pub mod Steps
+pub mod TreeTold
+pub mod TwinsTold

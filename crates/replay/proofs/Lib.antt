@@ -1,0 +1,12 @@
+mod Contents
+mod LevelsRead
+mod BtreesRead
+mod OwnBirths
+mod FoundKeys
+mod Made
+mod Making
+mod Loading
+pub mod Images
+pub mod Sessions
+pub mod Handed
+pub mod MendedEntry

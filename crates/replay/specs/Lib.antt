@@ -1,0 +1,4 @@
+pub mod Volumes
+pub mod Answers
+pub mod Beginning
+pub mod Mending

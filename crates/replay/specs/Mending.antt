@@ -1,0 +1,56 @@
+-- What it is that the journal of a volume is mended: each needed entry stands on every metadata device, and the image means the same.
+use Rattle.std.specs.Prelude.{◌≡◌, ℕ, ◌+◌, ◌<◌, ◌≤◌, List, length, Ok, slice_index_or}
+use Rattle.dev_model.specs.Devices.{DevicesState, now}
+use Rattle.dev_model.specs.Disk.{Disk, Image, IsCrashImage, as_read}
+use Rattle.dev_model.specs.HeldBlocks.{HasNoChanceMatch}
+use Rattle.geometry.specs.Mirrors.{AreAtRest}
+use Rattle.image_view.specs.CrashEntries.{OnlyHeldEntriesOpen, opens}
+use Rattle.image_view.specs.Found.{Found, IsInOrder, found}
+use Rattle.image_view.specs.Mends.{HasNoEqualDigest}
+use Rattle.journal_ring.specs.declared.found.FoundEntry.{FoundEntry}
+use Rattle.journal_ring.specs.Entries.{IsWhole}
+use Rattle.journal_ring.specs.EntryBlocks.{AreEntryBlocks, HoldBlocks}
+use Rattle.journal_ring.specs.Parts.{Area, area_of}
+use Rattle.vol_types.specs.declared.layout.Layout.{Layout}
+use Rattle.replay.specs.Beginning.{IsFoundOn}
+
+-- The entry was whole in some journal areas of the volume: where it was read.
+abbrev pub WasWhole : Layout → FoundEntry → Type 0
+WasWhole layout entry = (area : Area) × IsWhole layout area entry
+
+-- No torn block of the journal areas opens by chance: neither in what was read at each moment up to this one, nor in this image
+-- that a crash left then.
+pub record IsUntorn (layout : Layout) (first moment : ℕ) (state : DevicesState) (image : Image) : Type 0 where
+  pub reads : (dev place : ℕ) → dev < layout.metadata_replicas → place < layout.journal → HasNoChanceMatch opens dev (16 + place) first moment state
+  pub left : OnlyHeldEntriesOpen layout (state.disks moment) image
+
+-- This is found on the disks in order. Nothing is pending on the metadata devices, and no two records of their journal areas have
+-- one digest.
+pub record IsInOrderOn (f : Found) (disks : List Disk) : Type 0 where
+  pub on : IsFoundOn f disks
+  pub rest : AreAtRest f.layout.metadata_replicas disks
+  pub order : IsInOrder f (as_read disks)
+  pub digests : HasNoEqualDigest f.layout (area_of (as_read disks))
+
+-- Whatever a crash left between two states has the same found, in order, where no torn block opens by chance.
+abbrev pub KeepsFound : Found → DevicesState → DevicesState → Type 0
+KeepsFound f old new =
+    (moment : ℕ) → old.moment ≤ moment → moment ≤ new.moment → (image : Image) → IsCrashImage (new.disks moment) image
+    → IsUntorn f.layout old.moment moment new image → (found image ≡ Ok f) × IsInOrder f image
+
+-- The entry stands on each metadata device.
+pub record StandsOnAll (layout : Layout) (image : Image) (entry : FoundEntry) : Type 0 where
+  pub blocks : List (List ℕ)
+  pub sealed : AreEntryBlocks layout.id entry.number entry.entry blocks
+  pub stand : HoldBlocks layout.metadata_replicas layout.journal entry.number blocks (length blocks) image
+
+-- The first so many needed entries stand on each metadata device, and what was found is found in order.
+pub record HasMended (f : Found) (count : ℕ) (disks : List Disk) : Type 0 where
+  pub found_on : IsInOrderOn f disks
+  pub stand : (index : ℕ) → index < count → StandsOnAll f.layout (as_read disks) (slice_index_or f.needed index f.last)
+
+-- From one state to a later one the first so many needed entries were mended.
+pub record IsMendedTo (f : Found) (count : ℕ) (first here : DevicesState) : Type 0 where
+  pub keeps : KeepsFound f first here
+  pub mended : HasMended f count (now here)
+  pub past : (m : ℕ) → m ≤ first.moment → here.disks m ≡ first.disks m

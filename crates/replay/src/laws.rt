@@ -1,0 +1,27 @@
+ghost use Rattle.std.specs.Prelude.{◌≡◌, ◌<◌, Ok, length};
+ghost use Rattle.birth_index.specs.Births.{BirthsDiffer};
+ghost use Rattle.btree_map.specs.Trees.{IsTrees, keys_in};
+ghost use Rattle.dev_model.specs.Disk.{Image};
+ghost use Rattle.image_view.specs.Found.{Found, found};
+ghost use Rattle.replay.specs.Volumes.{trees_read};
+
+use journal_ring::{leading_entries_are_needed, whole_entries_are_made_of_blocks};
+use record_codec::{entries_are_exact, sets_are_exact};
+use sealed_block::opened_blocks_are_sealed;
+
+/// What is found in an image is a key map: the nodes of each level of a btree rise and cover all positions, those of a level
+/// above the leaves are made of nodes of the level below, under one root; the leaves cut the keys, which may stand in their
+/// btree; and no two nodes have one birth. Its newest entry is one of those that are needed.
+pub fn found_btrees_are_a_key_map()
+    ensures trees { (image : Image) (f : Found) → found image ≡ Ok f → IsTrees (trees_read f.trees) }
+    ensures newest { (image : Image) (f : Found) → found image ≡ Ok f → 0 < length f.needed }
+    ensures births { (image : Image) (f : Found) → found image ≡ Ok f → BirthsDiffer f.trees.nodes }
+    ensures keys { (image : Image) (f : Found) → found image ≡ Ok f
+        → keys_in (trees_read f.trees) ≡ f.trees.keys }
+{
+    leading_entries_are_needed();
+    whole_entries_are_made_of_blocks();
+    entries_are_exact();
+    sets_are_exact();
+    opened_blocks_are_sealed();
+}

@@ -1,0 +1,24 @@
+//! Loading a volume and beginning a session: what is found in the image that its devices hold, with its keys as a key map in
+//! memory, the next session's number, and the mirrors of the journal.
+//!
+//! `plain_reader` reads what is found as lists. What is found is a key map, so `load` makes one of it, and writes nothing.
+//! `begin_session` seals the next session's number, and `mend_journal` writes the needed entries where a mirror lacks them:
+//! whatever a crash leaves meanwhile means what the image did.
+#![tactic(auto)]
+
+mod beginning;
+mod btrees;
+mod entries;
+mod laws;
+mod mending;
+mod reading;
+mod volume;
+
+pub use beginning::{BeginFault, begin_session};
+pub use laws::found_btrees_are_a_key_map;
+pub use mending::mend_journal;
+pub use reading::load;
+pub use volume::Loaded;
+
+#[cfg(test)]
+mod tests;

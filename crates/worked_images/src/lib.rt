@@ -1,0 +1,17 @@
+//! Images of volumes that are made by hand, block by block, and what the plain reader finds in them or refuses: entries that are
+//! torn, that stand on one mirror alone or that wrap around the ring, and nodes of one and of two levels. The crate holds tests
+//! alone.
+#![tactic(auto)]
+
+#[cfg(test)]
+mod bytes;
+#[cfg(test)]
+mod found;
+#[cfg(test)]
+mod images;
+#[cfg(test)]
+mod journals;
+#[cfg(test)]
+mod losses;
+#[cfg(test)]
+mod trees;
