@@ -1,0 +1,2 @@
+pub mod WrittenPlaces
+pub mod PassedPlaces
