@@ -1,0 +1,14 @@
+pub mod Outside
+pub mod Members
+pub mod Gaps
+pub mod Pieces
+pub mod Cuts
+pub mod Keyed
+pub mod Taken
+pub mod Fresh
+pub mod Chosen
+pub mod Hiding
+pub mod Punched
+pub mod Owned
+pub mod Showing
+pub mod Reached

@@ -1,0 +1,6 @@
+pub mod Content
+pub mod Stretches
+pub mod Cutting
+pub mod Nearest
+pub mod Above
+pub mod Looking

@@ -1,0 +1,20 @@
+//! Which extent of a file a block belongs to in a snapshot, and the updates by which an id takes blocks over: fresh ones, or holes.
+//! An id's own extents and holes are cut; those of its ancestors never are.
+#![tactic(auto)]
+
+mod above;
+mod covering;
+mod cutting;
+mod laws;
+mod looking;
+mod parts;
+mod stretches;
+mod taking;
+
+pub use covering::cover;
+pub use laws::taken_blocks_show;
+pub use looking::{reach, reached_keys_are_looked_at};
+pub use taking::{overwrite, punch};
+
+#[cfg(test)]
+mod tests;

@@ -1,0 +1,122 @@
+ghost use Rattle.std.specs.Prelude.{◌≡◌, ◌++◌, ◌-◌, ◌^◌, ◌<◌, ◌&&◌, ℕ, All, IfOk, is_some, nat_le, option_map, slice_get};
+ghost use Rattle.extent_ops.specs.Content.{AreFreshWithin, AreLookedAt, AreOfContent, HavePlaces, TakesBlocks, given_by, hidden_if, is_covered_above};
+ghost use Rattle.extent_ops.specs.Above.{holes_to_hide};
+ghost use Rattle.extent_ops.specs.Cutting.{cut_all, updates_of};
+ghost use Rattle.extent_ops.specs.Stretches.{RiseFrom};
+ghost use Rattle.key_meaning.specs.Checks.{IsCoveredOnce};
+ghost use Rattle.key_meaning.specs.Visible.{snaps_of};
+ghost use Rattle.snap_tree.specs.Snaps.{parent_of};
+ghost use Rattle.vol_types.specs.KeyMaps.{IsKeyMap, KeyMap, with_updates};
+
+use crate::above::{covered_above, holes_of};
+use crate::cutting::{Changes, changes_of, cut_all, stretches_of, updates_of};
+use crate::stretches::Stretch;
+use snap_tree::SnapTree;
+use std::alloc::{AllocError, Global};
+use vol_types::{Key, Keys, Updates};
+
+/// The updates after which an id has fresh extents in a file, and nothing else is seen to change. The keys are those of the file
+/// that cover a block from the first fresh one to the last, and maybe others of the file. Those of other ids cost a step each, those
+/// of the id and the fresh ones some logarithms.
+pub fn overwrite(alloc: Global, keys: &Keys, id: u32, fresh: &Keys) -> Result<Updates, AllocError>
+    ensures taken { IfOk result (λ updates. (map : KeyMap) (file first last : ℕ) → IsKeyMap map
+        → IsCoveredOnce map file id → All (λ entry. HavePlaces entry.1) map.extents
+        → AreFreshWithin file id first last fresh.now → AreLookedAt map file first last keys.now
+        → TakesBlocks map (with_updates updates map) file id
+        (λ block. is_some (given_by fresh.now block)) (given_by fresh.now)) }
+    ensures own { IfOk result (AreOfContent id) }
+{
+    let Some(file) = file_of(fresh.as_slice()) else {
+        return Ok(Updates::new(alloc));
+    };
+    let stretches = stretches_of(alloc, fresh.as_slice())?;
+    let given = changes_of(alloc, fresh.as_slice())?;
+    updates_to_take(
+        alloc,
+        keys.as_slice(),
+        file,
+        id,
+        stretches.as_slice(),
+        given,
+    )
+}
+
+/// The updates after which an id of the tree shows nothing of some blocks of a file, from the first to the last one: it has holes where
+/// an ancestor has an extent, and else nothing of its own. The keys are those of the file that cover one of the blocks, and maybe others
+/// of the file. Each costs some logarithms.
+pub fn punch(
+    alloc: Global,
+    keys: &Keys,
+    tree: &SnapTree,
+    id: u32,
+    first: u64,
+    last: u64,
+) -> Result<Updates, AllocError>
+    ensures taken { IfOk result (λ updates. (map : KeyMap) (file : ℕ) → IsKeyMap map
+        → snaps_of map ≡ tree.now → IsCoveredOnce map file id
+        → All (λ entry. HavePlaces entry.1) map.extents → last < 2 ^ 64 - 1
+        → AreLookedAt map file first last keys.now
+        → TakesBlocks map (with_updates updates map) file id
+        (λ block. nat_le first block && nat_le block last)
+        (λ block. hidden_if (is_covered_above map id file block))) }
+    ensures own { IfOk result (AreOfContent id) }
+{
+    if last < first {
+        return Ok(Updates::new(alloc));
+    }
+    let Some(file) = file_of(keys.as_slice()) else {
+        return Ok(Updates::new(alloc));
+    };
+    let stretch = Stretch {
+        first,
+        end: last.saturating_add(1),
+    };
+    let given = holes_to_hide(alloc, keys.as_slice(), tree, id, stretch)?;
+    updates_to_take(alloc, keys.as_slice(), file, id, &[stretch], given)
+}
+
+// The changes that put holes over what ancestors of an id have in a stretch.
+fn holes_to_hide(
+    alloc: Global,
+    keys: &[Key],
+    tree: &SnapTree,
+    id: u32,
+    stretch: Stretch,
+) -> Result<Changes, AllocError>
+    ensures { IfOk result (λ changes.
+        changes ≡ holes_to_hide tree.now (parent_of tree.now id) stretch keys.now) }
+{
+    let Some(parent) = tree.parent(id) else {
+        return Ok(Changes::new(alloc));
+    };
+    let parts = covered_above(alloc, keys, tree, parent, stretch)?;
+    holes_of(alloc, parts.as_slice())
+}
+
+// The updates that cut some stretches out of the keys of an id, and put what is given over them.
+fn updates_to_take(
+    alloc: Global,
+    keys: &[Key],
+    file: u64,
+    id: u32,
+    stretches: &[Stretch],
+    mut given: Changes,
+) -> Result<Updates, AllocError>
+    ensures are { RiseFrom 0 stretches.now → IfOk result (λ updates.
+        updates ≡ updates_of file id (cut_all id stretches.now keys.now ++ given)) }
+    ensures own { IfOk result (AreOfContent id) }
+{
+    let mut changes = cut_all(alloc, keys, id, stretches)?;
+    changes.append(&mut given)?;
+    updates_of(alloc, file, id, changes)
+}
+
+// The file that the first of some keys is of.
+fn file_of(keys: &[Key]) -> Option<u64>
+    ensures { result ≡ option_map (λ key. key.pos.inode) (slice_get keys.now 0) }
+{
+    match keys.first() {
+        None => None,
+        Some(key) => Some(key.pos.inode),
+    }
+}
