@@ -4,16 +4,16 @@ use Rattle.std.specs.Prelude.{option_and_then, option_map, ◌==◌, slice_index
 use Rattle.std.specs.List.{AllZip}
 use Rattle.std.specs.Option.{option_or}
 use Rattle.std.specs.Result.{IsErrAnd}
-use Rattle.std.proofs.lemmas.Bool.{cases_lt, ltb-false, ltb-true, eqb-true, eq-eqb, false≢true}
+use Rattle.std.proofs.lemmas.Bool.{cases_lt, eqb-true, eq-eqb}
 use Rattle.std.proofs.lemmas.List.{map-append, take-append-drop, take_more}
 use Rattle.std.proofs.lemmas.List.Elements.{All-append, All-cons, All-head, All-nil, All-tail}
-use Rattle.std.proofs.lemmas.Option.{none-some, same_Some, slice_get_past, slice_get-get_or}
+use Rattle.std.proofs.lemmas.Option.{none-some, same_Some, slice_get_past}
 use Rattle.vol_digest.specs.Digests.{short_of}
 use Rattle.vol_types.specs.Faults.{RoseBy}
 use Rattle.vol_types.specs.declared.pointers.Place.{Place}
 use Rattle.vol_types.specs.declared.pointers.Pointer.{Pointer}
 use Rattle.dev_model.specs.Disk.{Disk, Image, as_read, block_at, changed, sizes_of}
-use Rattle.dev_model.specs.Devices.{DevicesState, FaultCounts, IsPlace, now, risen, with_read_fault}
+use Rattle.dev_model.specs.Devices.{DevicesState, FaultCounts, IsPlace, now, risen}
 use Rattle.dev_model.specs.Frames.{AreNoFewer, AreOnlyRead}
 use Rattle.dev_model.specs.FrameLaws.{stay_now}
 use Rattle.geometry.specs.Faults.{DeviceFailed, SomeFailed}

@@ -136,7 +136,7 @@ fn outcome(alloc: Global, held: [u8; 2], failing: [bool; 2]) -> Result<Seen, Fai
     get(alloc, &mut devices)
 }
 
-// The first place with the right block counts, a later one makes up for an earlier one, and what was got is told where none has it.
+// The first place with the right block counts, a later one makes up for earlier ones, and if none has it what was got is told.
 #[test]
 fn places_make_up_for_others(rt: HostRuntime) -> Result<(), Fail> {
     let alloc = rt.alloc();
@@ -145,7 +145,11 @@ fn places_make_up_for_others(rt: HostRuntime) -> Result<(), Fail> {
         ([7, 8], [false, true], Seen::Block(7, 1)),
         ([8, 7], [false, false], Seen::Block(7, 2)),
         ([7, 7], [true, false], Seen::Block(7, 2)),
-        ([8, 9], [false, false], Seen::Nothing([Some(EIGHTS), Some(NINES)])),
+        (
+            [8, 9],
+            [false, false],
+            Seen::Nothing([Some(EIGHTS), Some(NINES)]),
+        ),
         ([7, 8], [true, false], Seen::Nothing([None, Some(EIGHTS)])),
         ([8, 7], [false, true], Seen::Nothing([Some(EIGHTS), None])),
         ([7, 7], [true, true], Seen::Nothing([None, None])),

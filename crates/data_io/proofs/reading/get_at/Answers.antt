@@ -1,4 +1,4 @@
-use Rattle.std.proofs.Common.{◌<◌, ◌≤◌, length, subst, sym, arith}
+use Rattle.std.proofs.Common.{◌<◌, length, subst, sym, arith}
 use Rattle.dev_model.specs.Devices.{FaultCounts}
 use Rattle.dev_model.specs.FrameLaws.{only_read_by}
 use Rattle.geometry.specs.Faults.{DeviceFailed}

@@ -27,8 +27,8 @@ loop-pointer-preserved g c =
     let so_far = c.loop-pointer.invariant in
     let got = c.loop-pointer.got ++ c.get_at-found.result ∷ [] in
     let passed = passed_more D.tells old mid new c.args.want (places_of pointers) i place c.loop-pointer.got c.get_at-found.result
-        (is_within pointers slice same i c.loop-pointer-test.true) (is_there pointers slice same i c.loop-pointer-test.true)
-        so_far.read c.get_at-found.ensures.read c.get_at-found.ensures.got c.get_at-found.ensures.faults (c.is_right.ensures.wrong c.if-is_right.false) so_far.passed in
+    (is_within pointers slice same i c.loop-pointer-test.true) (is_there pointers slice same i c.loop-pointer-test.true)
+    so_far.read c.get_at-found.ensures.read c.get_at-found.ensures.got c.get_at-found.ensures.faults (c.is_right.ensures.wrong c.if-is_right.false) so_far.passed in
     record {
       passed = subst (λ (list : List (Option ℕ)). ArePassed D.tells old new c.args.want (take (i + 1) (places_of pointers)) list) (sym c.in_ok-push.ensures.ok) passed;
       read = only_read_then D.tells old mid new so_far.read c.get_at-found.ensures.read;
@@ -51,7 +51,7 @@ returns-then-is_right-clause-answer g c =
     let right : c.get_at-found.result ≡ Some c.args.want = c.is_right.ensures.right c.if-is_right.true in
     let still : new.faults ≡ mid.faults = subst (λ (o : Option ℕ). new.faults ≡ after_read mid.sizes place o mid.faults) right c.get_at-found.ensures.faults in
     let stands : slice_get (places_of pointers) i ≡ Some place =
-        slice_get-get_or (places_of pointers) i place (is_within pointers slice same i c.loop-pointer-test.true) ∙ ap Some (is_there pointers slice same i c.loop-pointer-test.true) in
+    slice_get-get_or (places_of pointers) i place (is_within pointers slice same i c.loop-pointer-test.true) ∙ ap Some (is_there pointers slice same i c.loop-pointer-test.true) in
     record {
       place = i;
       within = is_within pointers slice same i c.loop-pointer-test.true;

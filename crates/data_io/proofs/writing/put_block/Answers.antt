@@ -1,5 +1,4 @@
-use Rattle.std.proofs.Common.{◌≡◌, ◌<◌, ◌∙◌, List, ℕ, length, get_or, ap, arith, refl, subst, sym}
-use Rattle.vol_types.specs.declared.pointers.Place.{Place}
+use Rattle.std.proofs.Common.{◌≡◌, ◌<◌, ◌∙◌, List, ℕ, length, get_or, arith, refl, subst, sym}
 use Rattle.vol_types.specs.declared.pointers.Pointer.{Pointer}
 use Rattle.dev_model.specs.Disk.{sizes_of, changed, written}
 use Rattle.dev_model.specs.Devices.{now, Is, IsPlace, MayBeWritten}

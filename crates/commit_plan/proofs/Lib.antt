@@ -1,0 +1,5 @@
+pub mod Members
+pub mod Pinning
+pub mod Marking
+pub mod Splitting
+pub mod Records

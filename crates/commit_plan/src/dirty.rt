@@ -1,0 +1,174 @@
+ghost use Rattle.std.specs.Option.{option_to_list};
+ghost use Rattle.std.specs.Prelude.{◌≡◌, ◌≤◌, ◌==◌, ◌++◌, [], IfOk, OnErr, OnOk, length};
+ghost use Rattle.commit_plan.specs.Dirty.{birth_at, changed_nodes, path_of, paths_of, with_pins};
+ghost use Rattle.pin_list.specs.Pins.{least_pin};
+
+use btree_map::KeyMap;
+use pin_list::PinList;
+use std::alloc::{AllocError, Global};
+use std::marker::Model;
+use vol_types::{Btree, Pos, Update};
+
+/// The nodes that updates change, and those above them.
+#[derive(Drop)]
+pub struct Paths {
+    /// The births of the nodes that are changed, in the order of the updates.
+    pub changed: Vec<u64>,
+    /// The births of these and of the nodes above them, up to the roots.
+    pub over: Vec<u64>,
+}
+
+/// The nodes that updates change, and those above them. Each update costs a logarithm for each level of its btree.
+pub fn paths_of(alloc: Global, map: &KeyMap, updates: &[Update]) -> Result<Paths, AllocError>
+    ensures changed { IfOk result (λ paths. paths.changed.items ≡ changed_nodes map.now.nodes updates.now) }
+    ensures over { IfOk result (λ paths. paths.over.items ≡ paths_of map.now.nodes updates.now) }
+{
+    let mut paths = Paths {
+        changed: Vec::new(alloc),
+        over: Vec::new(alloc),
+    };
+    for update in updates {
+        add_node(
+            map,
+            &mut paths.changed,
+            update.btree,
+            update.level,
+            &update.pos,
+        )?;
+        add_path(map, &mut paths.over, update)?;
+    }
+    Ok(paths)
+}
+
+// Adds the births of the node that an update changes, and of those above it.
+fn add_path(map: &KeyMap, births: &mut Vec<u64>, update: &Update) -> Result<(), AllocError>
+    ensures { OnOk result (births.new.items ≡ births.old.items ++ path_of map.now.nodes update.now) }
+{
+    for level in update.level..map.height(update.btree) {
+        add_node(map, births, update.btree, level, &update.pos)?;
+    }
+    Ok(())
+}
+
+// Adds the birth of the node of a level of a btree that covers a position, if there is such a level.
+fn add_node(
+    map: &KeyMap,
+    births: &mut Vec<u64>,
+    btree: Btree,
+    level: u8,
+    pos: &Pos,
+) -> Result<(), AllocError>
+    ensures { OnOk result (births.new.items ≡ births.old.items
+        ++ option_to_list (birth_at map.now.nodes btree level pos.now)) }
+{
+    match map.node_at(btree, level, pos) {
+        None => Ok(()),
+        Some((_, node)) => {
+            births.push(node.birth)?;
+            Ok(())
+        }
+    }
+}
+
+/// The dirty nodes of a volume, which have keys of entries that they haven't written, and the marked ones: those that are dirty or
+/// have a dirty node under them. Each is known by its birth.
+#[derive(Drop)]
+pub struct DirtyNodes {
+    pins: PinList,
+    marks: PinList,
+}
+
+impl Model for DirtyNodes {
+    ghost use Rattle.commit_plan.specs.Dirty.{AreKept, DirtyNodes as TheDirtyNodes};
+
+    ghost Value = { TheDirtyNodes };
+
+    ghost view = { λ dirty. record { pins = dirty.pins; marks = dirty.marks } };
+
+    ghost invariant = { λ dirty. AreKept dirty.pins.numbers dirty.marks.numbers };
+}
+
+impl DirtyNodes {
+    /// No dirty nodes.
+    pub fn new(alloc: Global) -> Result<DirtyNodes, AllocError>
+        ensures pins { IfOk result (λ dirty. dirty.pins.numbers ≡ []) }
+        ensures marks { IfOk result (λ dirty. dirty.marks.numbers ≡ []) }
+    {
+        Ok(DirtyNodes {
+            pins: PinList::new(alloc)?,
+            marks: PinList::new(alloc)?,
+        })
+    }
+
+    /// How many nodes are marked.
+    pub fn marked(&self) -> usize
+        ensures { result ≡ length self.now.marks.numbers }
+    {
+        self.marks.len()
+    }
+
+    /// Whether no node is dirty.
+    pub fn is_clean(&self) -> bool
+        ensures { result ≡ (length self.now.pins.numbers == 0) }
+    {
+        self.pins.is_empty()
+    }
+
+    /// The oldest entry with keys that a node hasn't written, by its sequence number.
+    pub fn oldest(&self) -> Option<u64>
+        ensures { result ≡ least_pin self.now.pins.numbers }
+    {
+        self.pins.oldest()
+    }
+
+    /// How many nodes will be marked once these are too. It takes memory for each node that isn't marked.
+    pub fn marked_with(&self, alloc: Global, paths: &Paths, seq: u64) -> Result<usize, AllocError>
+        ensures { IfOk result (λ count. count ≡ length (with_pins seq paths.now.over.items
+            self.now.marks.numbers)) }
+    {
+        let mut fresh = PinList::new(alloc)?;
+        for birth in &paths.over {
+            if self.marks.get(*birth).is_none() {
+                fresh.reserve(1)?;
+                fresh.pin(*birth, seq);
+            }
+        }
+        // More nodes than can be counted have no room either.
+        self.marks.len().checked_add(fresh.len()).ok_or(AllocError)
+    }
+
+    /// Makes room to dirty these nodes. An `Err` changes no pin and no mark, and takes no room back.
+    pub fn reserve(&mut self, paths: &Paths) -> Result<(), AllocError>
+        ensures pins { self.new.pins.numbers ≡ self.old.pins.numbers }
+        ensures marks { self.new.marks.numbers ≡ self.old.marks.numbers }
+        ensures pins_kept { self.old.pins.spare ≤ self.new.pins.spare }
+        ensures marks_kept { self.old.marks.spare ≤ self.new.marks.spare }
+        ensures pin_room { OnOk result (length paths.now.changed.items ≤ self.new.pins.spare) }
+        ensures mark_room { OnOk result (length paths.now.over.items ≤ self.new.marks.spare) }
+    {
+        self.pins.reserve(paths.changed.len())?;
+        self.marks.reserve(paths.over.len())
+    }
+
+    /// Says that the entry of this number changes these nodes: they are dirty, and those above them are marked. Each moves at most
+    /// 16 bytes for each dirty or marked node.
+    pub fn dirty(&mut self, paths: &Paths, seq: u64)
+        requires pin_room { length paths.now.changed.items ≤ self.old.pins.spare }
+        requires mark_room { length paths.now.over.items ≤ self.old.marks.spare }
+        ensures pins { self.new.pins.numbers ≡ with_pins seq paths.now.changed.items self.old.pins.numbers }
+        ensures marks { self.new.marks.numbers ≡ with_pins seq paths.now.over.items self.old.marks.numbers }
+    {
+        pin_all(&mut self.pins, &paths.changed, seq);
+        pin_all(&mut self.marks, &paths.over, seq);
+    }
+}
+
+// Pins nodes at a number.
+fn pin_all(pins: &mut PinList, births: &[u64], seq: u64)
+    requires { length births.now ≤ pins.old.spare }
+    ensures { pins.new.numbers ≡ with_pins seq births.now pins.old.numbers }
+{
+    for birth in births {
+        pins.pin(*birth, seq);
+    }
+}

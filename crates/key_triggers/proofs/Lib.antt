@@ -1,0 +1,14 @@
+pub mod Handing
+pub mod Looping
+pub mod Sums
+pub mod Emitted
+pub mod Looking
+pub mod Counting
+pub mod Changing
+pub mod Placing
+pub mod Stamping
+pub mod Owning
+pub mod Following
+pub mod Space
+pub mod Zeros
+pub mod Fitting
