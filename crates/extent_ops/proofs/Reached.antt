@@ -41,7 +41,6 @@ at_most a b same le ids = ap (λ r. is_le (ordering_then r (ordering_then (nat_c
     by Equal is Greater is' = absurd (omega (arith, ranked a.snapshot b.snapshot Greater (sym is'), ids (ranked a.offset b.offset Equal (sym is))))
     by Greater is q is' = absurd (omega (arith, ranked a.offset b.offset Greater (sym is), le))
 
-
 -- the first and the last position of those that are asked for
 abbrev low_of : ℕ → ℕ → Pos
 low_of file first = record { inode = file; offset = min (first + 1) (2 ^ 64 - 1); snapshot = 0 }
@@ -61,5 +60,5 @@ looked_at_reach keys_map file first last keys fit are = record {
       let covered = covers-range entry.0.offset entry.1 block over in
       let few = range.few in let offset = range.fits.offset in let id = range.fits.snapshot in
       (λ i. at_most (low_of file first) entry.0 (sym of_file) (omega (arith, covered.1, from)) (λ same. omega arith) i
-        && at_most entry.0 (high_of file last) of_file (omega (arith, covered.0, to, few, offset)) (λ same. omega (arith, id)) i);
+      && at_most entry.0 (high_of file last) of_file (omega (arith, covered.0, to, few, offset)) (λ same. omega (arith, id)) i);
 }
