@@ -10,3 +10,5 @@ pub mod Images
 pub mod Sessions
 pub mod Handed
 pub mod MendedEntry
+pub mod MendedMeaning
+pub mod Opened

@@ -1,5 +1,6 @@
 -- What it is that the journal of a volume is mended: each needed entry stands on every metadata device, and the image means the same.
 use Rattle.std.specs.Prelude.{◌≡◌, ℕ, ◌+◌, ◌<◌, ◌≤◌, List, length, Ok, slice_index_or}
+use Rattle.dev_model.specs.Crashes.{EachCrash, SameBut}
 use Rattle.dev_model.specs.Devices.{DevicesState, now}
 use Rattle.dev_model.specs.Disk.{Disk, Image, IsCrashImage, as_read}
 use Rattle.dev_model.specs.HeldBlocks.{HasNoChanceMatch}
@@ -12,7 +13,7 @@ use Rattle.journal_ring.specs.Entries.{IsWhole}
 use Rattle.journal_ring.specs.EntryBlocks.{AreEntryBlocks, HoldBlocks}
 use Rattle.journal_ring.specs.Parts.{Area, area_of}
 use Rattle.vol_types.specs.declared.layout.Layout.{Layout}
-use Rattle.replay.specs.Beginning.{IsFoundOn}
+use Rattle.replay.specs.Beginning.{IsFoundOn, MeansTheSame}
 
 -- The entry was whole in some journal areas of the volume: where it was read.
 abbrev pub WasWhole : Layout → FoundEntry → Type 0
@@ -37,6 +38,22 @@ abbrev pub KeepsFound : Found → DevicesState → DevicesState → Type 0
 KeepsFound f old new =
     (moment : ℕ) → old.moment ≤ moment → moment ≤ new.moment → (image : Image) → IsCrashImage (new.disks moment) image
     → IsUntorn f.layout old.moment moment new image → (found image ≡ Ok f) × IsInOrder f image
+
+-- Whatever a crash left between two states means what the devices did at first, where no torn block opens by chance.
+abbrev pub KeepsMeaning : Found → DevicesState → DevicesState → Type 0
+KeepsMeaning f old new =
+    (moment : ℕ) → old.moment ≤ moment → moment ≤ new.moment → (image : Image) → IsCrashImage (new.disks moment) image
+    → IsUntorn f.layout old.moment moment new image → MeansTheSame f (as_read (now old)) image
+
+-- It is a block of the journal area of a metadata device.
+pub record IsJournalBlock (layout : Layout) (dev block : ℕ) : Type 0 where
+  pub mirror : dev < layout.metadata_replicas
+  pub behind : 16 ≤ block
+  pub within : block < 16 + layout.journal
+
+-- Whatever a crash left between two states is what was read at first, but in the journal areas.
+abbrev pub ChangesJournal : Layout → DevicesState → DevicesState → Type 0
+ChangesJournal layout old new = EachCrash (λ _ _ image. SameBut (IsJournalBlock layout) (as_read (now old)) image) old new
 
 -- The entry stands on each metadata device.
 pub record StandsOnAll (layout : Layout) (image : Image) (entry : FoundEntry) : Type 0 where

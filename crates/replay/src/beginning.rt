@@ -117,6 +117,8 @@ pub fn begin_session<D: Devices>(
         → OnOk result (IsFoundOn (with_session (session + 1) f) (now (D.state devices.new))) }
     ensures rest { D.tells → OnOk result (AreAtRest layout.now.metadata_replicas
         (now (D.state devices.new))) }
+    ensures elsewhere { D.tells → SameBut (IsSessionPlace layout.now (session + 1))
+        (as_read (now (D.state devices.old))) (as_read (now (D.state devices.new))) }
     ensures asks { D.tells → (opens : List ℕ → Bool)
         → HoldOnly opens (IsSessionBlock layout.now (session + 1)) (D.state devices.old)
         (D.state devices.new) }

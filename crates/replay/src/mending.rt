@@ -1,10 +1,11 @@
 ghost use Rattle.std.specs.Prelude.{◌≡◌, ◌<◌, All, IfSome, OnOk, length, true};
+ghost use Rattle.dev_model.specs.Crashes.{IsQuiet};
 ghost use Rattle.dev_model.specs.Devices.{now};
 ghost use Rattle.dev_model.specs.Frames.{AreAfterCalls, GoOn};
 ghost use Rattle.geometry.specs.Faults.{failed_device};
 ghost use Rattle.geometry.specs.Layouts.{is_layout_of};
 ghost use Rattle.image_view.specs.Found.{Found};
-ghost use Rattle.replay.specs.Mending.{HasMended, IsInOrderOn, KeepsFound, WasWhole};
+ghost use Rattle.replay.specs.Mending.{ChangesJournal, HasMended, IsInOrderOn, KeepsFound, KeepsMeaning, WasWhole};
 
 use dev_model::Devices;
 use geometry::DiskFault;
@@ -33,6 +34,12 @@ pub fn mend_journal<D: Devices>(
     ensures keeps { D.tells → (f : Found) → IsInOrderOn f (now (D.state devices.old))
         → f.layout ≡ layout.now → f.needed ≡ needed.now
         → KeepsFound f (D.state devices.old) (D.state devices.new) }
+    // It mounts as the same volume, if it does.
+    ensures means { D.tells → (f : Found) → IsInOrderOn f (now (D.state devices.old))
+        → f.layout ≡ layout.now → f.needed ≡ needed.now
+        → KeepsMeaning f (D.state devices.old) (D.state devices.new) }
+    ensures elsewhere { D.tells → IsQuiet (now (D.state devices.old))
+        → ChangesJournal layout.now (D.state devices.old) (D.state devices.new) }
     ensures mended { D.tells → (f : Found) → IsInOrderOn f (now (D.state devices.old))
         → f.layout ≡ layout.now → f.needed ≡ needed.now
         → OnOk result (HasMended f (length needed.now) (now (D.state devices.new))) }

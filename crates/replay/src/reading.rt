@@ -24,6 +24,9 @@ use vol_types::{Listing, Place};
 /// The volume that is found in the image that the devices hold, with its keys in memory, or the first fault. It reads what
 /// `read_plain` reads, and takes memory for each node and each value; a value costs a logarithm of their number.
 ///
+/// No call mounts besides. An image that is found mounts as its volume where its keys are sound (`Mounts`), which isn't tested; one
+/// that isn't found is refused with the fault that this answers.
+///
 /// A read of a superblock, a session or the journal that fails is a device fault, and ends it. One of a node is made up by
 /// another place of it. Where the places of a node disagree, and one that counts couldn't be read, other nodes may be read than
 /// the image has, and a node is told as bad that isn't.

@@ -1,0 +1,79 @@
+-- What a session's beginning and the mending of the journal come to together.
+use Rattle.std.proofs.Common.{◌≡◌, ℕ, ◌+◌, ◌<◌, ◌≤◌, ⊎_elim, List, ap, ◌∙◌, sym, subst, arith, All}
+use Rattle.std.proofs.lemmas.Bool.{cases_lt}
+use Rattle.std.proofs.lemmas.List.Elements.{All-weaker}
+use Rattle.dev_model.specs.CrashLaws.{as_read_may_be_left}
+use Rattle.dev_model.specs.Crashes.{EachCrash, SameBut}
+use Rattle.dev_model.specs.Devices.{DevicesState, now}
+use Rattle.dev_model.specs.Disk.{Disk, Image, IsCrashImage, IsDisk, as_read}
+use Rattle.geometry.specs.Mirrors.{AreAtRest}
+use Rattle.geometry.specs.SessionLaws.{place_is_low}
+use Rattle.geometry.specs.Sessions.{IsSessionPlace}
+use Rattle.image_view.specs.Found.{Found, IsInOrder, with_session}
+use Rattle.image_view.specs.Mends.{HasNoEqualDigest, StandsIn}
+use Rattle.journal_ring.specs.Parts.{area_of}
+use Rattle.key_codec.specs.Combined.{ok_is}
+use Rattle.vol_types.specs.declared.layout.Layout.{Layout}
+use Rattle.replay.specs.Beginning.{IsFoundOn, MeansTheSame}
+use Rattle.replay.specs.Mending.{IsInOrderOn, KeepsMeaning}
+
+-- ---- one meaning after another
+
+-- What means the same as an image that means the same means the same.
+pub means_then : (f : Found) (one mid image : Image) (session : ℕ) → (first : MeansTheSame f one mid) → first.session ≡ session → MeansTheSame (with_session session f) mid image → MeansTheSame f one image
+means_then f one mid image session first is second =
+    let later = first.later in
+    let more = second.later in
+    record {
+      session = second.session;
+      later = omega (arith, later, more, is);
+      finds = second.finds;
+      in_order = λ order. second.in_order (subst (λ s. IsInOrder (with_session s f) mid) is (first.in_order order));
+      mounts = λ volume mounts. second.mounts volume (first.mounts volume mounts);
+      unsound = λ check unsound. second.unsound check (first.unsound check unsound);
+    }
+
+-- ---- the session has begun
+
+-- The journal areas are as they were.
+area_same : (layout : Layout) (session : ℕ) (one other : Image) → SameBut (IsSessionPlace layout session) one other → (dev place : ℕ) → area_of other dev place ≡ area_of one dev place
+area_same layout session one other same dev place = sym (same dev (16 + place) (λ at. let low = place_is_low session in let here = at.1 in omega (arith, low, here)))
+
+-- So no two records there have one digest.
+digests_same : (layout : Layout) (session : ℕ) (one other : Image) → SameBut (IsSessionPlace layout session) one other → HasNoEqualDigest layout (area_of one) → HasNoEqualDigest layout (area_of other)
+digests_same layout session one other same apart these those payload second digest standing others record_is other_is =
+    apart these those payload second digest (All-weaker (StandsIn layout (area_of other)) (StandsIn layout (area_of one)) stood these standing) (All-weaker (StandsIn layout (area_of other)) (StandsIn layout (area_of one)) stood those others) record_is other_is
+  where
+    stood : (bytes : List ℕ) → StandsIn layout (area_of other) bytes → StandsIn layout (area_of one) bytes
+    stood bytes there = record { dev = there.dev; place = there.place; mirror = there.mirror; within = there.within; stands = sym (area_same layout session one other same there.dev there.place) ∙ there.stands }
+
+module _ (f : Found) (layout : Layout) (session : ℕ) (layouts : f.layout ≡ layout) (sessions : f.session ≡ session) (old mid : DevicesState) (on : IsInOrderOn f (now old)) (crashes : EachCrash (λ _ _ image. MeansTheSame f (as_read (now old)) image) old mid) where
+  -- Whatever a crash leaves until then means the same.
+  pub keeps_begun : KeepsMeaning f old mid
+  keeps_begun m lo hi image may untorn = crashes.each m lo hi image may
+
+  module _ (are : All IsDisk (now mid)) (begun : IsFoundOn (with_session (session + 1) f) (now mid)) (rest : AreAtRest layout.metadata_replicas (now mid)) (elsewhere : SameBut (IsSessionPlace layout (session + 1)) (as_read (now old)) (as_read (now mid))) where
+    means : MeansTheSame f (as_read (now old)) (as_read (now mid))
+    means = crashes.each mid.moment crashes.later (omega arith) (as_read (now mid)) (as_read_may_be_left (now mid) are)
+
+    session_is : means.session ≡ session + 1
+    session_is = ap (λ (g : Found). g.session) (ok_is (with_session means.session f) (with_session (session + 1) f) (sym means.finds ∙ begun.finds))
+
+    -- The devices show it in order, in the next session.
+    pub in_order_begun : IsInOrderOn (with_session (session + 1) f) (now mid)
+    in_order_begun = record {
+      on = begun;
+      rest = subst (λ (l : Layout). AreAtRest l.metadata_replicas (now mid)) (sym layouts) rest;
+      order = subst (λ s. IsInOrder (with_session s f) (as_read (now mid))) session_is (means.in_order on.order);
+      digests = digests_same f.layout (session + 1) (as_read (now old)) (as_read (now mid)) (subst (λ (l : Layout). SameBut (IsSessionPlace l (session + 1)) (as_read (now old)) (as_read (now mid))) (sym layouts) elsewhere) on.digests;
+    }
+
+    -- ---- and the journal is mended
+
+    -- Whatever a crash leaves from the beginning on means the same.
+    pub keeps_both : (new : DevicesState) → ((m : ℕ) → m ≤ mid.moment → new.disks m ≡ mid.disks m) → KeepsMeaning (with_session (session + 1) f) mid new → KeepsMeaning f old new
+    keeps_both new past keeps m lo hi image may untorn = ⊎_elim
+        (λ (after : mid.moment < m). means_then f (as_read (now old)) (as_read (now mid)) image (session + 1) means session_is
+        (keeps m (omega (arith, after)) hi image may (record { reads = λ dev place mirror within n from to. untorn.reads dev place mirror within n (omega (arith, from, crashes.later)) to; left = untorn.left })))
+        (λ (earlier : m ≤ mid.moment). crashes.each m lo earlier image (subst (λ (ds : List Disk). IsCrashImage ds image) (past m earlier) may))
+        (cases_lt mid.moment m)

@@ -1,0 +1,48 @@
+use Rattle.std.proofs.Common.{◌+◌}
+use Rattle.image_view.specs.Found.{with_session}
+use Rattle.replay.proofs.Opened.{in_order_begun, keeps_begun, keeps_both}
+use Rattle.replay.proofs.opening.begin_and_mend.Goals as goal
+
+pub returns-in_err-next-clause-crashes : goal.returns-in_err-next-clause-crashes
+returns-in_err-next-clause-crashes g c tells f on layouts sessions needs =
+    let D = g.D.Devices in
+    keeps_begun f c.args.layout.now c.args.session layouts sessions (D.state c.args.devices.now) (D.state c.begin_session.new.devices) on (c.begin_session.ensures.crashes tells f on.on layouts sessions)
+
+pub returns-in_err-mend_journal-clause-crashes : goal.returns-in_err-mend_journal-clause-crashes
+returns-in_err-mend_journal-clause-crashes g c tells f on layouts sessions needs =
+    let D = g.D.Devices in
+    let old = D.state c.args.devices.now in
+    let mid = D.state c.begin_session.new.devices in
+    let crashes = c.begin_session.ensures.crashes tells f on.on layouts sessions in
+    let are = g.met.D.Devices.sound tells c.begin_session.new.devices in
+    let begun = c.in_ok-next.ensures.begun tells f on.on layouts sessions in
+    let rest = c.in_ok-next.ensures.rest tells in
+    let elsewhere = c.begin_session.ensures.elsewhere tells in
+    let order = in_order_begun f c.args.layout.now c.args.session layouts sessions old mid on crashes are begun rest elsewhere in
+    keeps_both f c.args.layout.now c.args.session layouts sessions old mid on crashes are begun rest elsewhere (D.state c.mend_journal.new.devices) (c.mend_journal.ensures.elsewhere tells begun.quiet).past
+    (c.mend_journal.ensures.means tells (with_session (c.args.session + 1) f) order layouts needs)
+
+pub returns-clause-crashes : goal.returns-clause-crashes
+returns-clause-crashes g c tells f on layouts sessions needs =
+    let D = g.D.Devices in
+    let old = D.state c.args.devices.now in
+    let mid = D.state c.begin_session.new.devices in
+    let crashes = c.begin_session.ensures.crashes tells f on.on layouts sessions in
+    let are = g.met.D.Devices.sound tells c.begin_session.new.devices in
+    let begun = c.in_ok-next.ensures.begun tells f on.on layouts sessions in
+    let rest = c.in_ok-next.ensures.rest tells in
+    let elsewhere = c.begin_session.ensures.elsewhere tells in
+    let order = in_order_begun f c.args.layout.now c.args.session layouts sessions old mid on crashes are begun rest elsewhere in
+    keeps_both f c.args.layout.now c.args.session layouts sessions old mid on crashes are begun rest elsewhere (D.state c.mend_journal.new.devices) (c.mend_journal.ensures.elsewhere tells begun.quiet).past
+    (c.mend_journal.ensures.means tells (with_session (c.args.session + 1) f) order layouts needs)
+
+pub returns-clause-ready : goal.returns-clause-ready
+returns-clause-ready g c tells f on layouts sessions needs =
+    let D = g.D.Devices in
+    let old = D.state c.args.devices.now in
+    let mid = D.state c.begin_session.new.devices in
+    let crashes = c.begin_session.ensures.crashes tells f on.on layouts sessions in
+    let are = g.met.D.Devices.sound tells c.begin_session.new.devices in
+    let begun = c.in_ok-next.ensures.begun tells f on.on layouts sessions in
+    let order = in_order_begun f c.args.layout.now c.args.session layouts sessions old mid on crashes are begun (c.in_ok-next.ensures.rest tells) (c.begin_session.ensures.elsewhere tells) in
+    c.in_ok-mend_journal.ensures.mended tells (with_session (c.args.session + 1) f) order layouts needs

@@ -1,0 +1,143 @@
+//! The payloads of sets and entries, byte by byte from the tables of the format.
+
+use std::alloc::{AllocError, Global};
+use vol_types::{Bytes, Pos};
+
+/// The session and the count of the root of btree 0.
+pub const BIRTH: u64 = 0x1_0000_0000;
+
+/// A key of the btree Counters, at its offset of inode 0. The greatest offset stands for the greatest position.
+#[derive(Clone, Copy)]
+pub enum Change {
+    /// A counter with its value.
+    Counter(u64, u64),
+    /// A key that is removed.
+    Removed(u64),
+    /// The node of this level with this count of its birth, whose bucket begins at this block of each device.
+    Node(u64, u8, u64, u32),
+}
+
+/// The position at an offset.
+pub fn pos_at(offset: u64) -> Pos {
+    if offset == u64::MAX {
+        return Pos::GREATEST;
+    }
+    Pos {
+        inode: 0,
+        offset,
+        snapshot: 0,
+    }
+}
+
+fn put_pos(into: &mut Bytes, pos: Pos) -> Result<(), AllocError> {
+    into.extend_from_slice(&pos.inode.to_le_bytes())?;
+    into.extend_from_slice(&pos.offset.to_le_bytes())?;
+    into.extend_from_slice(&pos.snapshot.to_le_bytes())
+}
+
+// The birth, the level and the places of a node: the same block on both devices.
+fn put_node(into: &mut Bytes, count: u64, level: u8, block: u32) -> Result<(), AllocError> {
+    into.extend_from_slice(&BIRTH.wrapping_add(count).to_le_bytes())?;
+    into.extend_from_slice(&[level, 2])?;
+    for dev in [0, 1] {
+        into.extend_from_slice(&[dev])?;
+        into.extend_from_slice(&block.to_le_bytes())?;
+    }
+    Ok(())
+}
+
+// A key, with the number of its kind: 0 for one that is removed, 11 for a counter, 12 for a node.
+fn put_key(into: &mut Bytes, change: Change) -> Result<(), AllocError> {
+    match change {
+        Change::Removed(offset) => {
+            put_pos(into, pos_at(offset))?;
+            into.extend_from_slice(&[0])
+        }
+        Change::Counter(offset, value) => {
+            put_pos(into, pos_at(offset))?;
+            into.extend_from_slice(&[11])?;
+            into.extend_from_slice(&value.to_le_bytes())
+        }
+        Change::Node(offset, level, count, block) => {
+            put_pos(into, pos_at(offset))?;
+            into.extend_from_slice(&[12])?;
+            put_node(into, count, level, block)
+        }
+    }
+}
+
+// How many there are, as four bytes.
+fn put_count(into: &mut Bytes, count: usize) -> Result<(), AllocError> {
+    let count = count.min(u32::MAX as usize) as u32;
+    into.extend_from_slice(&count.to_le_bytes())
+}
+
+/// What a set says of its node, and where the node begins and ends.
+#[derive(Clone, Copy)]
+pub struct SetOf {
+    pub btree: u8,
+    /// The count of the node's birth.
+    pub count: u64,
+    pub level: u8,
+    pub least: Pos,
+    pub greatest: Pos,
+    pub keys: &'static [Change],
+}
+
+/// The payload of a set.
+pub fn set_payload(alloc: Global, set: &SetOf) -> Result<Bytes, AllocError> {
+    let mut payload = Bytes::new(alloc);
+    payload.extend_from_slice(&BIRTH.wrapping_add(set.count).to_le_bytes())?;
+    payload.extend_from_slice(&[set.btree, set.level, 0, 0])?;
+    put_pos(&mut payload, set.least)?;
+    put_pos(&mut payload, set.greatest)?;
+    put_count(&mut payload, set.keys.len())?;
+    for key in set.keys {
+        put_key(&mut payload, *key)?;
+    }
+    Ok(payload)
+}
+
+/// An entry; a long one sets 130 counters besides, and so takes two blocks.
+#[derive(Clone, Copy)]
+pub struct EntryOf {
+    pub sequence: u64,
+    pub oldest: u64,
+    pub session: u64,
+    pub commits: u64,
+    pub is_long: bool,
+    /// The updates of Counters, each with its level.
+    pub updates: &'static [(u8, Change)],
+}
+
+// The roots, in the buckets behind a journal area of 256 blocks; that of Counters has leaves below it.
+fn put_roots(into: &mut Bytes) -> Result<(), AllocError> {
+    for count in 0..8u32 {
+        put_node(into, u64::from(count), 0, 272 + 16 * count)?;
+    }
+    put_node(into, 8, 1, 400)
+}
+
+/// The payload of an entry.
+pub fn entry_payload(alloc: Global, entry: &EntryOf) -> Result<Bytes, AllocError> {
+    let mut payload = Bytes::new(alloc);
+    payload.extend_from_slice(&entry.sequence.to_le_bytes())?;
+    payload.extend_from_slice(&entry.oldest.to_le_bytes())?;
+    payload.extend_from_slice(&entry.session.to_le_bytes())?;
+    payload.extend_from_slice(&entry.commits.to_le_bytes())?;
+    put_roots(&mut payload)?;
+    let more = if entry.is_long { 130 } else { 0 };
+    put_count(&mut payload, entry.updates.len().saturating_add(more))?;
+    for (level, change) in entry.updates {
+        payload.extend_from_slice(&[8, *level])?;
+        put_key(&mut payload, *change)?;
+    }
+    for offset in 0..more as u64 {
+        payload.extend_from_slice(&[8, 0])?;
+        put_key(
+            &mut payload,
+            Change::Counter(offset.wrapping_add(100), entry.sequence),
+        )?;
+    }
+    Ok(payload)
+}
