@@ -12,8 +12,8 @@ use Rattle.vol_types.specs.declared.keys.Update.{Update}
 use Rattle.vol_types.specs.declared.positions.Btree.{Btree}
 use Rattle.vol_types.specs.declared.positions.Pos.{Pos}
 
--- the dirty nodes by birth, each with the oldest entry that has keys of it which it hasn't written, and the marked ones: those that are
--- dirty or have a dirty node under them, each with the oldest such entry of these
+-- the dirty nodes by birth, each with the oldest entry that has keys of it which it hasn't written, and the marked ones: those
+-- that are dirty or have a dirty node under them, each with the oldest such entry of these
 pub record DirtyNodes : Type 0 where
   pub pins : Pins
   pub marks : Pins
@@ -47,8 +47,8 @@ abbrev pub with_pins : ℕ → List ℕ → List (ℕ × ℕ) → List (ℕ × �
 with_pins seq [] numbers = numbers
 with_pins seq (birth ∷ births) numbers = with_pins seq births (with_pin birth seq numbers)
 
--- The node that covers a position at the upper level has this birth, and a dirty node covers it there or at a level below: the node is
--- dirty, or has a dirty node under it.
+-- The node that covers a position at the upper level has this birth, and a dirty node covers it there or at a level below: the
+-- node is dirty, or has a dirty node under it.
 pub record IsOverDirty (nodes : List Levels) (pins : List (ℕ × ℕ)) (birth : ℕ) : Type 0 where
   pub btree : Btree
   pub pos : Pos

@@ -70,8 +70,8 @@ fn add_node(
     }
 }
 
-/// The dirty nodes of a volume, which have keys of entries that they haven't written, and the marked ones: those that are dirty or
-/// have a dirty node under them. Each is known by its birth.
+/// The dirty nodes of a volume, which have keys of entries that they haven't written, and the marked ones: those that are dirty
+/// or have a dirty node under them. Each is known by its birth.
 #[derive(Drop)]
 pub struct DirtyNodes {
     pins: PinList,
@@ -150,13 +150,15 @@ impl DirtyNodes {
         self.marks.reserve(paths.over.len())
     }
 
-    /// Says that the entry of this number changes these nodes: they are dirty, and those above them are marked. Each moves at most
-    /// 16 bytes for each dirty or marked node.
+    /// Says that the entry of this number changes these nodes: they are dirty, and those above them are marked. Each moves at
+    /// most 16 bytes for each dirty or marked node.
     pub fn dirty(&mut self, paths: &Paths, seq: u64)
         requires pin_room { length paths.now.changed.items ≤ self.old.pins.spare }
         requires mark_room { length paths.now.over.items ≤ self.old.marks.spare }
-        ensures pins { self.new.pins.numbers ≡ with_pins seq paths.now.changed.items self.old.pins.numbers }
-        ensures marks { self.new.marks.numbers ≡ with_pins seq paths.now.over.items self.old.marks.numbers }
+        ensures pins { self.new.pins.numbers ≡ with_pins seq paths.now.changed.items
+            self.old.pins.numbers }
+        ensures marks { self.new.marks.numbers ≡ with_pins seq paths.now.over.items
+            self.old.marks.numbers }
     {
         pin_all(&mut self.pins, &paths.changed, seq);
         pin_all(&mut self.marks, &paths.over, seq);

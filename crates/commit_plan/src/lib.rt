@@ -1,5 +1,5 @@
-//! What a commit of updates would need, before it is made: whether a leaf has to be split first, which nodes it makes dirty, and the
-//! snapshot ids that there will be.
+//! What a commit of updates would need, before it is made: whether a leaf has to be split first, which nodes it makes dirty,
+//! and the snapshot ids that there will be.
 #![tactic(auto)]
 
 mod dirty;
@@ -11,3 +11,6 @@ pub use dirty::{DirtyNodes, Paths, paths_of};
 pub use ids::{changes_ids, trees_after};
 pub use laws::{dirty_nodes_are_marked, other_updates_leave_ids};
 pub use splits::{NeedSplit, split_needed};
+
+#[cfg(test)]
+mod tests;

@@ -27,8 +27,8 @@ pub struct NeedSplit {
     pub at: Pos,
 }
 
-/// The first leaf that updates would make larger than nodes may be, if there is one. It takes a few steps for each update, times a
-/// logarithm, and memory for each position that is changed; where there is such a leaf, it copies that one.
+/// The first leaf that updates would make larger than nodes may be, if there is one. It takes a few steps for each update, times
+/// a logarithm, and memory for each position that is changed; where there is such a leaf, it copies that one.
 pub fn split_needed(
     alloc: Global,
     map: &KeyMap,

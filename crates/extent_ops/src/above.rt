@@ -9,8 +9,8 @@ use snap_tree::SnapTree;
 use std::alloc::{AllocError, Global};
 use vol_types::{Key, Value};
 
-/// The stretches of a given one over which an ancestor has an extent, falling, where the keys rise. An ancestor is one of the chain
-/// of this id. Each key costs a search in the tree.
+/// The stretches of a given one over which an ancestor has an extent, falling, where the keys rise. An ancestor is one of the
+/// chain of this id. Each key costs a search in the tree.
 pub(crate) fn covered_above(
     alloc: Global,
     keys: &[Key],

@@ -7,8 +7,8 @@ ghost use Rattle.snap_tree.specs.Snaps.{IsSnapTree};
 ghost use Rattle.vol_types.specs.KeyMaps.{KeyMap};
 ghost use Rattle.vol_types.specs.Maps.{value_at};
 
-/// What an id shows of a file in which it took blocks over: of those that were cut out what is given, or what its parent shows where
-/// nothing is; nothing where what ancestors have is hidden; and of the others what it showed.
+/// What an id shows of a file in which it took blocks over: of those that were cut out what is given, or what its parent shows
+/// where nothing is; nothing where what ancestors have is hidden; and of the others what it showed.
 pub fn taken_blocks_show()
     ensures taken { (old new : KeyMap) (file id : ℕ) (cut : ℕ → Bool)
         (given : ℕ → Option (Option Block)) → TakesBlocks old new file id cut given

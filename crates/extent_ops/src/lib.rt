@@ -1,5 +1,5 @@
-//! Which extent of a file a block belongs to in a snapshot, and the updates by which an id takes blocks over: fresh ones, or holes.
-//! An id's own extents and holes are cut; those of its ancestors never are.
+//! Which extent of a file a block belongs to in a snapshot, and the updates by which an id takes blocks over: fresh ones, or
+//! holes. An id's own extents and holes are cut; those of its ancestors never are.
 #![tactic(auto)]
 
 mod above;

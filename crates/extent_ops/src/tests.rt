@@ -252,6 +252,21 @@ fn id_at(place: u64) -> u32 {
     }
 }
 
+// A write or a punch in an id.
+fn take_step(
+    alloc: Global,
+    map: &mut BTreeMap<Pos, Value>,
+    plain: &mut Plain,
+    tree: &SnapTree,
+    seed: &mut u64,
+) -> Result<(), AllocError> {
+    let id = id_at(draw(seed, 6));
+    if draw(seed, 3) == 0 {
+        return punched(alloc, map, plain, tree, id, seed);
+    }
+    write(alloc, map, plain, id, seed)
+}
+
 #[test]
 fn drawn_steps(rt: HostRuntime) -> Result<(), Fail> {
     let alloc = rt.alloc();
@@ -260,12 +275,7 @@ fn drawn_steps(rt: HostRuntime) -> Result<(), Fail> {
     let mut plain = Plain::new(alloc);
     let mut seed = 5;
     for step in 0..20 {
-        let id = id_at(draw(&mut seed, 6));
-        if draw(&mut seed, 3) == 0 {
-            punched(alloc, &mut map, &mut plain, &tree, id, &mut seed)?;
-        } else {
-            write(alloc, &mut map, &mut plain, id, &mut seed)?;
-        }
+        take_step(alloc, &mut map, &mut plain, &tree, &mut seed)?;
         assert!(rt; agrees(alloc, &map, &tree, &plain)?, "step {step}");
     }
     Ok(())
