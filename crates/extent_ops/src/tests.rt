@@ -91,6 +91,11 @@ fn draw(seed: &mut u64, bound: u64) -> u64 {
     (*seed >> 33).checked_rem(bound).unwrap_or(0)
 }
 
+// The block at which a copy begins whose first digest is this number.
+fn block_for(digest: u64) -> u32 {
+    u32::try_from(digest).unwrap_or(0)
+}
+
 // An extent up to a block, whose digests are numbers drawn upwards.
 fn extent(alloc: Global, id: u32, first: u64, blocks: u64, digest: u64) -> Result<Key, AllocError> {
     let mut digests = Digests::new(alloc);
@@ -101,7 +106,7 @@ fn extent(alloc: Global, id: u32, first: u64, blocks: u64, digest: u64) -> Resul
     pointers.push(Pointer {
         place: Place {
             dev: 1,
-            block: digest as u32,
+            block: block_for(digest),
         },
         generation: 3,
     })?;
@@ -162,7 +167,7 @@ fn is_block(found: Option<&(Pointers, u64)>, wanted: Option<u64>) -> bool {
     match (found, wanted) {
         (None, None) => true,
         (Some((pointers, digest)), Some(wanted)) => {
-            *digest == wanted && is_at(pointers.as_slice(), wanted as u32)
+            *digest == wanted && is_at(pointers.as_slice(), block_for(wanted))
         }
         _ => false,
     }

@@ -102,13 +102,9 @@ fn apply(keys: &mut PlainKeys, update: Update) -> Result<(), Fail> {
 fn commit(alloc: Global, keys: &PlainKeys, changes: &[Change]) -> Result<PlainKeys, Fail> {
     let tree = Arc::new(alloc, SnapTree::new(alloc))?;
     let mut view = PlainView::new(alloc, copied(alloc, keys)?, tree);
-    let mut all = expand(alloc, &mut view, &plan(alloc, changes)?)?;
+    let all = expand(alloc, &mut view, &plan(alloc, changes)?)?;
     let mut next = copied(alloc, keys)?;
-    let mut turned = Updates::new(alloc);
-    while let Some(update) = all.pop() {
-        turned.push(update)?;
-    }
-    while let Some(update) = turned.pop() {
+    for update in Vec::from(all) {
         apply(&mut next, update)?;
     }
     Ok(next)
