@@ -1,18 +1,16 @@
 -- What was read of a level so far, and what its rest gives, is what the whole level gives; and so for the children of its nodes.
-use Rattle.std.proofs.Common.{◌≡◌, ℕ, Bool, true, false, cond, ◌&&◌, List, [], ◌∷◌, ◌++◌, Option, None, Some, Result, Ok, Err, refl, ap, sym, ◌∙◌, append_assoc, is_some}
+use Rattle.std.proofs.Common.{◌≡◌, Bool, cond, ◌&&◌, List, [], ◌∷◌, ◌++◌, Option, None, Some, Result, Ok, Err, refl, ap, sym, ◌∙◌, append_assoc, is_some}
 use Rattle.std.specs.Prelude.{unwrap_or}
-use Rattle.std.specs.List.{filter_map, flat_map, list_all}
-use Rattle.image_view.specs.Trees.{NodeRead, SetsOf, Wanted, are_children, child_in, children_of, each_of, ends_at, first_place, read_level, read_node}
+use Rattle.std.specs.List.{filter_map, list_all}
+use Rattle.image_view.specs.Trees.{NodeRead, SetsOf, Wanted, each_of, read_level, read_node}
 use Rattle.key_codec.specs.Formats.{◌>>=◌}
 use Rattle.tree_nodes.specs.Levels.{Level}
-use Rattle.vol_types.specs.KeyMaps.{Entries}
 use Rattle.vol_types.specs.Positions.{greatest_pos, next_pos}
 use Rattle.vol_types.specs.declared.keys.Update.{Update}
 use Rattle.vol_types.specs.declared.pointers.NodePtr.{NodePtr}
 use Rattle.vol_types.specs.declared.pointers.Place.{Place}
 use Rattle.vol_types.specs.declared.positions.Btree.{Btree}
 use Rattle.vol_types.specs.declared.positions.Pos.{Pos}
-use Rattle.vol_types.specs.declared.values.Value.{Value}
 
 -- what comes, behind what was done
 abbrev pub behind_done : {F X : Type 0} → List X → Result (List X) F → Result (List X) F

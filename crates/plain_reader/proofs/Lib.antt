@@ -10,3 +10,4 @@ pub mod Ranges
 pub mod Steps
 pub mod TreeTold
 pub mod TwinsTold
+pub mod WholeTold

@@ -1,5 +1,5 @@
 -- A node that was read, with the changes of its keys, is the one that is defined, and ragged where it is.
-use Rattle.std.proofs.Common.{◌≡◌, ◌⊎◌, ⊎_elim, ℕ, ◌+◌, Bool, true, false, List, [], ◌∷◌, Option, None, Some, Result, Ok, Err, refl, ap, sym, ◌∙◌, subst}
+use Rattle.std.proofs.Common.{◌≡◌, ⊎_elim, ℕ, ◌+◌, Bool, true, false, List, [], ◌∷◌, Option, Some, Result, Ok, Err, refl, ap, sym, ◌∙◌, subst}
 use Rattle.std.specs.Prelude.{◌↔◌, option_map, slice_get, slice_index_or}
 use Rattle.std.specs.List.{filter}
 use Rattle.std.specs.List.Sorted.{IsStrictlySortedBy}
@@ -12,7 +12,7 @@ use Rattle.image_view.specs.Trees.{NodeRead, Wanted, is_of_node, read_node, upda
 use Rattle.key_codec.specs.Combined.{ok_is}
 use Rattle.key_codec.specs.Formats.{◌>>=◌, carried}
 use Rattle.node_mem.specs.Nodes.{IsNode}
-use Rattle.node_store.specs.Answers.{AgreeOn, AreAlike, IsBadAt, IsReadAs, first_place}
+use Rattle.node_store.specs.Answers.{AreAlike, IsBadAt, IsReadAs}
 use Rattle.node_store.specs.Copies.{copies_at}
 use Rattle.node_store.specs.NodeContents.{NodeContent, content_if, content_in, content_with, entries_after, wanted_of}
 use Rattle.node_store.specs.StoredSets.{Copies, sets_in as stored_in}
@@ -29,7 +29,7 @@ use Rattle.vol_types.specs.declared.pointers.Place.{Place}
 use Rattle.vol_types.specs.declared.positions.Btree.{Btree}
 use Rattle.vol_types.specs.declared.positions.Pos.{Pos}
 use Rattle.vol_types.specs.declared.values.Value.{Value}
-use Rattle.plain_reader.specs.Answers.{IsRagged, PlacesAgree}
+use Rattle.plain_reader.specs.Answers.{IsRagged}
 use Rattle.plain_reader.specs.Changes.{Changes, all_noted, changes_within, with_changes}
 use Rattle.plain_reader.specs.Nodes.{node_in}
 use Rattle.plain_reader.specs.declared.nodes.FoundNode.{FoundNode}

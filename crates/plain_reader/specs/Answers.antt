@@ -2,18 +2,26 @@
 use Rattle.std.specs.Prelude.{◌≡◌, ◌↔◌, ℕ, ⊤, List, map, All, Contains, Result, Ok, Err}
 use Rattle.std.specs.List.{flat_map}
 use Rattle.std.specs.Map.{values_of}
+use Rattle.std.specs.Option.{ok_or}
 use Rattle.dev_model.specs.Disk.{Image, block_at}
-use Rattle.image_view.specs.Found.{Found, found}
+use Rattle.geometry.specs.Sessions.{session_in}
+use Rattle.geometry.specs.Superblocks.{layout_in}
+use Rattle.image_view.specs.Found.{Found, found, super_fault}
 use Rattle.image_view.specs.Trees.{BtreeRead, TreesRead, nodes_of}
 use Rattle.image_view.specs.declared.fault.MountFault.{MountFault}
 use Rattle.image_view.specs.declared.fault.MountFault.TheVariants.{NoSuper, Version, Mixed, BadLayout, NoEntry, MissingEntry, BadNode, Unsound, DeviceFault, NoMemory}
+use Rattle.journal_ring.specs.declared.found.FoundEntry.{FoundEntry}
+use Rattle.journal_ring.specs.Entries.{IsWhole}
+use Rattle.journal_ring.specs.Parts.{Area, area_of}
+use Rattle.key_codec.specs.Formats.{carried}
 use Rattle.node_store.specs.Answers.{AgreeOn, AreAlike}
 use Rattle.node_store.specs.Copies.{copies_at}
 use Rattle.node_store.specs.StoredSets.{sets_of}
 use Rattle.node_store.specs.declared.sets.StoredSets.{StoredSets}
+use Rattle.vol_types.specs.declared.layout.Layout.{Layout}
 use Rattle.vol_types.specs.declared.pointers.NodePtr.{NodePtr}
 use Rattle.vol_types.specs.declared.pointers.Place.{Place}
-use Rattle.plain_reader.specs.Volumes.{found_of}
+use Rattle.plain_reader.specs.Volumes.{entries_in, found_of, with_last}
 use Rattle.plain_reader.specs.declared.fault.TreeFault.{TreeFault}
 use Rattle.plain_reader.specs.declared.fault.TreeFault.TheVariants as trees
 use Rattle.plain_reader.specs.declared.found.FoundVolume.{FoundVolume}
@@ -75,6 +83,16 @@ pub record HasRagged (id : List ℕ) (image : Image) (pointers : List NodePtr) (
   pub one : Contains pointers pointer
   pub born : pointer.birth ≡ birth
   pub ragged : IsRagged id image pointer
+
+-- The layout, the session and the needed entries of a volume are those of the image.
+pub record IsFront (image : Image) (layout : Layout) (session : ℕ) (needed : List FoundEntry) : Type 0 where
+  pub layout_is : carried super_fault (layout_in image) ≡ Ok layout
+  pub session_is : ok_or (session_in layout image) NoEntry ≡ Ok session
+  pub entries_are : entries_in layout (area_of image) ≡ Ok (with_last needed)
+
+-- The entry was whole in some journal areas of the volume: where it was read.
+abbrev pub WasWhole : Layout → FoundEntry → Type 0
+WasWhole layout found = (area : Area) × IsWhole layout area found
 
 -- A part of a btree was read as expected, seen by view, unless a device failed or it was out of memory.
 abbrev pub Tells : {X Y : Type 0} → (X → Y) → Result Y Place → Result X TreeFault → Type 0

@@ -1,8 +1,6 @@
 -- The updates of one level of a btree as what they leave at each position, and what that makes of a node's entries.
 use Rattle.std.specs.Prelude.{ℕ, Bool, ◌&&◌, ◌==◌, if◌then◌else◌, List, [], ◌∷◌, Option}
 use Rattle.std.specs.List.{filter}
-use Rattle.image_view.specs.Trees.{SetsOf, NodeRead, Wanted}
-use Rattle.key_codec.specs.Formats.{◌>>=◌}
 use Rattle.vol_types.specs.Btrees.{btree_code}
 use Rattle.vol_types.specs.KeyMaps.{Entries}
 use Rattle.vol_types.specs.Maps.{put_at, with_value}

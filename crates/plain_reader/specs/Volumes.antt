@@ -1,7 +1,7 @@
 -- What was found in an image, as the value that is defined.
 use Rattle.std.specs.List.{flat_map}
 use Rattle.std.specs.Option.{ok_or}
-use Rattle.std.specs.Prelude.{ℕ, ◌-◌, List, [], length, map, slice_index_or, Result, Ok, Err}
+use Rattle.std.specs.Prelude.{ℕ, ◌-◌, List, [], length, map, slice_index_or, Result, Ok}
 use Rattle.image_view.specs.Found.{Found}
 use Rattle.image_view.specs.Trees.{BtreeRead, joined}
 use Rattle.image_view.specs.declared.fault.MountFault.{MountFault}

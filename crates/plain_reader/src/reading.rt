@@ -14,7 +14,7 @@ ghost use Rattle.image_view.specs.Trees.{joined, nodes_of, trees_of};
 ghost use Rattle.image_view.specs.declared.fault.MountFault.{MountFault as AFault};
 ghost use Rattle.journal_ring.specs.Parts.{area_of};
 ghost use Rattle.key_codec.specs.Formats.{carried};
-ghost use Rattle.plain_reader.specs.Answers.{AreRagged, AreSureTrees, IsAnswer, IsEarly, IsNotLate, IsRead, NodesAgree, Finds, Tells};
+ghost use Rattle.plain_reader.specs.Answers.{AreRagged, AreSureTrees, IsAnswer, IsEarly, IsFront, IsNotLate, IsRead, NodesAgree, Finds, Tells, WasWhole};
 ghost use Rattle.plain_reader.specs.Faults.{failed_mount_device, failed_tree_device};
 ghost use Rattle.plain_reader.specs.Volumes.{btree_in, entries_in, found_of, last_of, ragged_of, with_last};
 ghost use Rattle.record_codec.specs.Entries.{IsEntryInRange};
@@ -26,7 +26,7 @@ use crate::twins::with_own_births;
 use dev_model::Devices;
 use geometry::{read_session, read_super};
 use image_view::MountFault;
-use journal_ring::{FoundEntry, Journal, read_journal};
+use journal_ring::{FoundEntry, Journal, leading_entries_are_needed, read_journal};
 use std::alloc::Global;
 use vol_types::{Layout, Listing};
 
@@ -94,6 +94,7 @@ fn needed_of<D: Devices>(
     ensures found { D.tells → Finds with_last (entries_in layout.now
         (area_of (as_read (now (D.state devices.old))))) result }
     ensures in_range { IfOk result (All (λ found. IsEntryInRange found.entry)) }
+    ensures whole { IfOk result (All (WasWhole layout.now)) }
     ensures some { IfOk result (λ entries. 0 < length entries) }
     ensures early { IfErr result IsNotLate }
     ensures read { AreOnlyRead D.tells (D.state devices.old) (D.state devices.new) }
@@ -102,6 +103,7 @@ fn needed_of<D: Devices>(
     ensures device { IfSome (failed_mount_device result)
         (λ dev. dev < length (D.state devices.old).sizes) }
 {
+    leading_entries_are_needed();
     match read_journal(alloc, devices, layout) {
         Ok(Journal::Needed(entries)) => some_entry(entries),
         Ok(Journal::NoEntry) => Err(MountFault::NoEntry),
@@ -160,6 +162,13 @@ pub fn read_plain<D: Devices>(alloc: Global, devices: &mut D) -> Result<FoundVol
     ensures ragged { D.tells → ¬ SomeFailed (D.state devices.old).faults (D.state devices.new).faults
         → IfOk result (λ read. AreRagged read.layout.id (as_read (now (D.state devices.old)))
         (nodes_of (found_of read).trees.nodes) (ragged_of read)) }
+    // The layout is one of these devices, and the needed entries were whole where they were read, also where the devices don't
+    // tell what they hold.
+    ensures fits { IfOk result (λ read. is_layout_of (D.state devices.new).sizes read.layout ≡ true) }
+    ensures whole { IfOk result (λ read. All (WasWhole read.layout) read.needed) }
+    // Also where reads of nodes failed, the layout, the session and the needed entries are the image's.
+    ensures front { D.tells → IfOk result (λ read. IsFront (as_read (now (D.state devices.old)))
+        read.layout read.session read.needed) }
     // A device that is named has failed.
     ensures cause { IfSome (failed_mount_device result) (λ dev. DeviceFailed dev
         (D.state devices.old).faults (D.state devices.new).faults) }

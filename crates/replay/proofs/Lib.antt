@@ -12,3 +12,5 @@ pub mod Handed
 pub mod MendedEntry
 pub mod MendedMeaning
 pub mod Opened
+mod LoadedFront
+pub mod OpenedVolume

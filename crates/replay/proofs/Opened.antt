@@ -1,21 +1,21 @@
 -- What a session's beginning and the mending of the journal come to together.
-use Rattle.std.proofs.Common.{◌≡◌, ℕ, ◌+◌, ◌<◌, ◌≤◌, ⊎_elim, List, ap, ◌∙◌, sym, subst, arith, All}
+use Rattle.std.proofs.Common.{◌≡◌, ℕ, ◌+◌, ◌<◌, ◌≤◌, ⊎_elim, List, Some, Ok, ap, ◌∙◌, sym, subst, arith, All}
 use Rattle.std.proofs.lemmas.Bool.{cases_lt}
 use Rattle.std.proofs.lemmas.List.Elements.{All-weaker}
 use Rattle.dev_model.specs.CrashLaws.{as_read_may_be_left}
 use Rattle.dev_model.specs.Crashes.{EachCrash, SameBut}
 use Rattle.dev_model.specs.Devices.{DevicesState, now}
-use Rattle.dev_model.specs.Disk.{Disk, Image, IsCrashImage, IsDisk, as_read}
+use Rattle.dev_model.specs.Disk.{Disk, Image, IsCrashImage, IsDisk, as_read, block_at}
 use Rattle.geometry.specs.Mirrors.{AreAtRest}
 use Rattle.geometry.specs.SessionLaws.{place_is_low}
-use Rattle.geometry.specs.Sessions.{IsSessionPlace}
-use Rattle.image_view.specs.Found.{Found, IsInOrder, with_session}
+use Rattle.geometry.specs.Sessions.{IsSessionPlace, session_place}
+use Rattle.image_view.specs.Found.{Found, IsInOrder, found, with_session}
 use Rattle.image_view.specs.Mends.{HasNoEqualDigest, StandsIn}
 use Rattle.journal_ring.specs.Parts.{area_of}
 use Rattle.key_codec.specs.Combined.{ok_is}
 use Rattle.vol_types.specs.declared.layout.Layout.{Layout}
 use Rattle.replay.specs.Beginning.{IsFoundOn, MeansTheSame}
-use Rattle.replay.specs.Mending.{IsInOrderOn, KeepsMeaning}
+use Rattle.replay.specs.Mending.{IsInOrderOn, KeepsMeaning, KeepsPast}
 
 -- ---- one meaning after another
 
@@ -77,3 +77,9 @@ module _ (f : Found) (layout : Layout) (session : ℕ) (layouts : f.layout ≡ l
         (keeps m (omega (arith, after)) hi image may (record { reads = λ dev place mirror within n from to. untorn.reads dev place mirror within n (omega (arith, from, crashes.later)) to; left = untorn.left })))
         (λ (earlier : m ≤ mid.moment). crashes.each m lo earlier image (subst (λ (ds : List Disk). IsCrashImage ds image) (past m earlier) may))
         (cases_lt mid.moment m)
+
+-- ---- what was
+
+-- What was up to the first of two parts stays in the second.
+pub past_then : (old mid new : DevicesState) → old.moment ≤ mid.moment → KeepsPast old mid → KeepsPast mid new → KeepsPast old new
+past_then old mid new later first second moment le = second moment (omega (arith, le, later)) ∙ first moment le

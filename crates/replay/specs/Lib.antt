@@ -2,3 +2,4 @@ pub mod Volumes
 pub mod Answers
 pub mod Beginning
 pub mod Mending
+pub mod Opening

@@ -9,15 +9,10 @@ use Rattle.image_view.specs.CrashEntries.{OnlyHeldEntriesOpen, opens}
 use Rattle.image_view.specs.Found.{Found, IsInOrder, found}
 use Rattle.image_view.specs.Mends.{HasNoEqualDigest}
 use Rattle.journal_ring.specs.declared.found.FoundEntry.{FoundEntry}
-use Rattle.journal_ring.specs.Entries.{IsWhole}
 use Rattle.journal_ring.specs.EntryBlocks.{AreEntryBlocks, HoldBlocks}
-use Rattle.journal_ring.specs.Parts.{Area, area_of}
+use Rattle.journal_ring.specs.Parts.{area_of}
 use Rattle.vol_types.specs.declared.layout.Layout.{Layout}
 use Rattle.replay.specs.Beginning.{IsFoundOn, MeansTheSame}
-
--- The entry was whole in some journal areas of the volume: where it was read.
-abbrev pub WasWhole : Layout → FoundEntry → Type 0
-WasWhole layout entry = (area : Area) × IsWhole layout area entry
 
 -- No torn block of the journal areas opens by chance: neither in what was read at each moment up to this one, nor in this image
 -- that a crash left then.
@@ -32,6 +27,10 @@ pub record IsInOrderOn (f : Found) (disks : List Disk) : Type 0 where
   pub rest : AreAtRest f.layout.metadata_replicas disks
   pub order : IsInOrder f (as_read disks)
   pub digests : HasNoEqualDigest f.layout (area_of (as_read disks))
+
+-- What the disks were up to a state stays.
+abbrev pub KeepsPast : DevicesState → DevicesState → Type 0
+KeepsPast old new = (moment : ℕ) → moment ≤ old.moment → new.disks moment ≡ old.disks moment
 
 -- Whatever a crash left between two states has the same found, in order, where no torn block opens by chance.
 abbrev pub KeepsFound : Found → DevicesState → DevicesState → Type 0

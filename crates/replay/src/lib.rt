@@ -3,7 +3,8 @@
 //!
 //! `plain_reader` reads what is found as lists. What is found is a key map, so `load` makes one of it, and writes nothing.
 //! `begin_session` seals the next session's number, and `mend_journal` writes the needed entries where a mirror lacks them:
-//! whatever a crash leaves meanwhile means what the image did. `begin_and_mend` does both, in this order.
+//! whatever a crash leaves meanwhile means what the image did. `begin_and_mend` does both, in this order, and `open_volume` loads
+//! a volume first: so one is opened for writing.
 #![tactic(auto)]
 
 mod beginning;
@@ -18,7 +19,7 @@ mod volume;
 pub use beginning::{BeginFault, begin_session};
 pub use laws::found_btrees_are_a_key_map;
 pub use mending::mend_journal;
-pub use opening::begin_and_mend;
+pub use opening::{begin_and_mend, open_volume};
 pub use reading::load;
 pub use volume::Loaded;
 

@@ -5,7 +5,8 @@ ghost use Rattle.dev_model.specs.Frames.{AreAfterCalls, GoOn};
 ghost use Rattle.geometry.specs.Faults.{failed_device};
 ghost use Rattle.geometry.specs.Layouts.{is_layout_of};
 ghost use Rattle.image_view.specs.Found.{Found};
-ghost use Rattle.replay.specs.Mending.{ChangesJournal, HasMended, IsInOrderOn, KeepsFound, KeepsMeaning, WasWhole};
+ghost use Rattle.plain_reader.specs.Answers.{WasWhole};
+ghost use Rattle.replay.specs.Mending.{ChangesJournal, HasMended, IsInOrderOn, KeepsFound, KeepsMeaning};
 
 use dev_model::Devices;
 use geometry::DiskFault;

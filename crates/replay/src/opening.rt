@@ -1,16 +1,140 @@
-ghost use Rattle.std.specs.Prelude.{◌≡◌, ◌+◌, ◌<◌, ◌≤◌, ◌↔◌, All, Err, IfOk, IfSome, OnOk, length, true};
+ghost use Rattle.std.specs.Prelude.{◌≡◌, ◌+◌, ◌<◌, ◌≤◌, ◌↔◌, ◌⊎◌, ℕ, All, Ok, Err, IfOk, IfSome, OnOk, length, true};
 ghost use Rattle.dev_model.specs.Devices.{now};
-ghost use Rattle.dev_model.specs.Frames.{AreAfterCalls, GoOn};
+ghost use Rattle.dev_model.specs.Disk.{as_read};
+ghost use Rattle.dev_model.specs.Frames.{AreAfterCalls, AreOnlyRead, GoOn};
+ghost use Rattle.geometry.specs.Faults.{DeviceFailed, SomeFailed};
 ghost use Rattle.geometry.specs.Layouts.{is_layout_of};
-ghost use Rattle.image_view.specs.Found.{Found, with_session};
+ghost use Rattle.image_view.specs.Found.{Found, found, with_session};
+ghost use Rattle.image_view.specs.Trees.{nodes_of};
+ghost use Rattle.image_view.specs.declared.fault.MountFault.{MountFault as AFault};
+ghost use Rattle.plain_reader.specs.Answers.{AreRagged, Finds, IsEarly, NodesAgree, WasWhole};
+ghost use Rattle.plain_reader.specs.Faults.{failed_mount_device};
 ghost use Rattle.replay.specs.Beginning.{failed_begin_device};
-ghost use Rattle.replay.specs.Mending.{HasMended, IsInOrderOn, KeepsMeaning, WasWhole};
+ghost use Rattle.replay.specs.Mending.{HasMended, IsInOrderOn, KeepsMeaning, KeepsPast};
+ghost use Rattle.replay.specs.Opening.{IsRefusal, IsSpent, in_next_session, opening_fault};
+ghost use Rattle.replay.specs.Volumes.{found_in};
 
-use crate::{BeginFault, begin_session, mend_journal};
+use crate::{BeginFault, Loaded, begin_session, load, mend_journal};
 use dev_model::Devices;
+use image_view::MountFault;
 use journal_ring::FoundEntry;
 use std::alloc::Global;
 use vol_types::Layout;
+
+/// Opens the volume on devices for writing: loads it, begins its next session, and mends its journal, in this order. Where no
+/// number of a session is left it answers `NoEntry`, as where no session is named. It costs what `load` and `begin_and_mend` do.
+///
+/// Where the devices showed an orderly volume, whatever a crash leaves meanwhile means the same volume, in the session that was
+/// found or a later one, as far as no torn block opens by chance. After `Ok` the devices hold it in the next session, nothing of
+/// the metadata devices is pending, and each needed entry stands on all of them. Both hold also where reads of nodes failed.
+pub fn open_volume<D: Devices>(alloc: Global, devices: &mut D) -> Result<Loaded, MountFault>
+    // Where no call failed, it is what the image means, in its next session.
+    ensures found { D.tells → ¬ SomeFailed (D.state devices.old).faults (D.state devices.new).faults
+        → Finds found_in (in_next_session (found (as_read (now (D.state devices.old))))) result }
+    // So it is where reads of nodes failed, in an image on whose nodes their places agree.
+    ensures made_up { D.tells → (f : Found) → found (as_read (now (D.state devices.old))) ≡ Ok f
+        → NodesAgree (as_read (now (D.state devices.old))) f
+        → Finds found_in (in_next_session (Ok f)) result }
+    ensures crashes { D.tells → (f : Found) → IsInOrderOn f (now (D.state devices.old))
+        → KeepsMeaning f (D.state devices.old) (D.state devices.new) }
+    ensures ready { D.tells → (f : Found) → IsInOrderOn f (now (D.state devices.old))
+        → OnOk result (HasMended (with_session (f.session + 1) f) (length f.needed)
+        (now (D.state devices.new))) }
+    // A fault before the nodes is the image's, and comes only where no call failed, or no number of a session is left.
+    ensures early { D.tells → (fault : AFault) → result ≡ Err fault → IsEarly fault
+        → (found (as_read (now (D.state devices.old))) ≡ Err fault)
+        ⊎ ((fault ≡ MountFault.NoEntry) × IsSpent (as_read (now (D.state devices.old)))) }
+    ensures unfailed { (fault : AFault) → result ≡ Err fault → IsEarly fault
+        → ¬ (fault ≡ MountFault.NoEntry)
+        → (D.state devices.new).faults ≡ (D.state devices.old).faults }
+    // Nothing is written where what the devices hold is refused.
+    ensures refused { (fault : AFault) → result ≡ Err fault → IsRefusal fault
+        → AreOnlyRead D.tells (D.state devices.old) (D.state devices.new) }
+    // The layout is one of these devices, also where they don't tell what they hold.
+    ensures fits { IfOk result (λ opened. is_layout_of (D.state devices.new).sizes opened.layout
+        ≡ true) }
+    ensures ragged { D.tells → ¬ SomeFailed (D.state devices.old).faults (D.state devices.new).faults
+        → IfOk result (λ opened. AreRagged opened.layout.id (as_read (now (D.state devices.old)))
+        (nodes_of opened.map.nodes) opened.ragged) }
+    ensures cause { IfSome (failed_mount_device result) (λ dev. DeviceFailed dev
+        (D.state devices.old).faults (D.state devices.new).faults) }
+    // Whether the keys are sound isn't tested.
+    ensures untested { (check : ℕ) → result ≡ Err (MountFault.Unsound check) → ⊥ }
+    ensures goes_on { GoOn (D.state devices.old) (D.state devices.new) }
+{
+    match load(alloc, devices) {
+        Ok(loaded) => begin_loaded(alloc, devices, loaded),
+        Err(fault) => Err(fault),
+    }
+}
+
+// Makes a volume that was loaded ready for writing.
+fn begin_loaded<D: Devices>(
+    alloc: Global,
+    devices: &mut D,
+    loaded: Loaded,
+) -> Result<Loaded, MountFault>
+    requires layout { is_layout_of (D.state devices.old).sizes loaded.layout ≡ true }
+    requires whole { All (WasWhole loaded.layout) loaded.needed }
+    ensures found { Finds found_in (in_next_session (Ok (found_in loaded))) result }
+    ensures layout { IfOk result (λ opened. opened.layout ≡ loaded.layout) }
+    ensures nodes { IfOk result (λ opened. opened.map.nodes ≡ loaded.map.nodes) }
+    ensures ragged { IfOk result (λ opened. opened.ragged ≡ loaded.ragged) }
+    ensures past { D.tells → (f : Found) → IsInOrderOn f (now (D.state devices.old))
+        → f.layout ≡ loaded.layout → f.session ≡ loaded.session → f.needed ≡ loaded.needed
+        → KeepsPast (D.state devices.old) (D.state devices.new) }
+    ensures crashes { D.tells → (f : Found) → IsInOrderOn f (now (D.state devices.old))
+        → f.layout ≡ loaded.layout → f.session ≡ loaded.session → f.needed ≡ loaded.needed
+        → KeepsMeaning f (D.state devices.old) (D.state devices.new) }
+    ensures ready { D.tells → (f : Found) → IsInOrderOn f (now (D.state devices.old))
+        → f.layout ≡ loaded.layout → f.session ≡ loaded.session → f.needed ≡ loaded.needed
+        → OnOk result (HasMended (with_session (loaded.session + 1) f) (length loaded.needed)
+        (now (D.state devices.new))) }
+    ensures refused { (fault : AFault) → result ≡ Err fault → IsRefusal fault
+        → devices.new ≡ devices.old }
+    ensures spent { (fault : AFault) → result ≡ Err fault → IsRefusal fault
+        → (fault ≡ MountFault.NoEntry) × (4294967295 ≤ loaded.session) }
+    ensures untested { (check : ℕ) → result ≡ Err (MountFault.Unsound check) → ⊥ }
+    ensures goes_on { GoOn (D.state devices.old) (D.state devices.new) }
+    ensures cause { AreAfterCalls (failed_mount_device result) (D.state devices.old).faults
+        (D.state devices.new).faults }
+    ensures device { IfSome (failed_mount_device result)
+        (λ dev. dev < loaded.layout.metadata_replicas) }
+{
+    match begin_and_mend(
+        alloc,
+        devices,
+        &loaded.layout,
+        loaded.session,
+        loaded.needed.as_slice(),
+    ) {
+        Ok(session) => Ok(in_session(loaded, session)),
+        Err(fault) => Err(opening_fault(fault)),
+    }
+}
+
+// A volume that was loaded, in another session.
+fn in_session(loaded: Loaded, session: u64) -> Loaded
+    ensures found { found_in result ≡ with_session session (found_in loaded) }
+    ensures layout { result.layout ≡ loaded.layout }
+    ensures nodes { result.map.nodes ≡ loaded.map.nodes }
+    ensures ragged { result.ragged ≡ loaded.ragged }
+{
+    let mut opened = loaded;
+    opened.session = session;
+    opened
+}
+
+// The fault of a beginning as one of opening.
+fn opening_fault(fault: BeginFault) -> MountFault
+    ensures { result ≡ opening_fault fault }
+{
+    match fault {
+        BeginFault::Spent => MountFault::NoEntry,
+        BeginFault::DeviceFault(dev) => MountFault::DeviceFault(dev),
+        BeginFault::NoMemory => MountFault::NoMemory,
+    }
+}
 
 /// Makes a volume that was loaded ready for writing: begins its next session, whose number it gives, and then mends the journal.
 /// Where no number is left it answers `Spent`, and nothing is written. It costs what `begin_session` and `mend_journal` do.
@@ -33,6 +157,9 @@ pub fn begin_and_mend<D: Devices>(
     ensures crashes { D.tells → (f : Found) → IsInOrderOn f (now (D.state devices.old))
         → f.layout ≡ layout.now → f.session ≡ session → f.needed ≡ needed.now
         → KeepsMeaning f (D.state devices.old) (D.state devices.new) }
+    ensures past { D.tells → (f : Found) → IsInOrderOn f (now (D.state devices.old))
+        → f.layout ≡ layout.now → f.session ≡ session → f.needed ≡ needed.now
+        → KeepsPast (D.state devices.old) (D.state devices.new) }
     ensures ready { D.tells → (f : Found) → IsInOrderOn f (now (D.state devices.old))
         → f.layout ≡ layout.now → f.session ≡ session → f.needed ≡ needed.now
         → OnOk result (HasMended (with_session (session + 1) f) (length needed.now)

@@ -1,12 +1,13 @@
-ghost use Rattle.std.specs.Prelude.{◌≡◌, ℕ, Ok, Err, IfErr, IfOk, IfSome};
+ghost use Rattle.std.specs.Prelude.{◌≡◌, ℕ, true, All, Ok, Err, IfErr, IfOk, IfSome};
 ghost use Rattle.dev_model.specs.Devices.{now};
 ghost use Rattle.dev_model.specs.Disk.{as_read};
 ghost use Rattle.dev_model.specs.Frames.{AreOnlyRead};
 ghost use Rattle.geometry.specs.Faults.{DeviceFailed, SomeFailed};
+ghost use Rattle.geometry.specs.Layouts.{is_layout_of};
 ghost use Rattle.image_view.specs.Found.{Found, found};
 ghost use Rattle.image_view.specs.Trees.{nodes_of};
 ghost use Rattle.image_view.specs.declared.fault.MountFault.{MountFault as AFault};
-ghost use Rattle.plain_reader.specs.Answers.{AreRagged, Finds, IsEarly, NodesAgree};
+ghost use Rattle.plain_reader.specs.Answers.{AreRagged, Finds, IsEarly, IsFront, NodesAgree, WasWhole};
 ghost use Rattle.plain_reader.specs.Faults.{failed_mount_device};
 ghost use Rattle.plain_reader.specs.Volumes.{found_of, ragged_of};
 ghost use Rattle.replay.specs.Answers.{IsLoaded, IsUnmade};
@@ -45,6 +46,14 @@ pub fn load<D: Devices>(alloc: Global, devices: &mut D) -> Result<Loaded, MountF
     ensures ragged { D.tells → ¬ SomeFailed (D.state devices.old).faults (D.state devices.new).faults
         → IfOk result (λ loaded. AreRagged loaded.layout.id (as_read (now (D.state devices.old)))
         (nodes_of loaded.map.nodes) loaded.ragged) }
+    // The layout is one of these devices, and the needed entries were whole where they were read, also where the devices don't
+    // tell what they hold.
+    ensures fits { IfOk result (λ loaded. is_layout_of (D.state devices.new).sizes loaded.layout
+        ≡ true) }
+    ensures whole { IfOk result (λ loaded. All (WasWhole loaded.layout) loaded.needed) }
+    // Also where reads of nodes failed, the layout, the session and the needed entries are the image's.
+    ensures front { D.tells → IfOk result (λ loaded. IsFront (as_read (now (D.state devices.old)))
+        loaded.layout loaded.session loaded.needed) }
     ensures cause { IfSome (failed_mount_device result) (λ dev. DeviceFailed dev
         (D.state devices.old).faults (D.state devices.new).faults) }
     // Whether the keys are sound isn't tested.

@@ -1,7 +1,5 @@
 use Rattle.std.proofs.Common.{◌≡◌, ◌<◌, ◌∙◌, [], List, length, get_or, subst, sym}
-use Rattle.std.specs.Map.{values_of}
 use Rattle.image_view.specs.Trees.{ends_at, first_place}
-use Rattle.tree_nodes.specs.Levels.{IsNodeOf}
 use Rattle.vol_types.specs.Ranges.{IsValue}
 use Rattle.vol_types.specs.declared.positions.Pos.{Pos}
 use Rattle.vol_types.specs.declared.values.Value.{Value}

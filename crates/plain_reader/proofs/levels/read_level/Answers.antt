@@ -1,4 +1,4 @@
-use Rattle.std.proofs.Common.{◌≡◌, [], All, List, Ok, Err, map, ap, sym, subst, ◌∙◌, true}
+use Rattle.std.proofs.Common.{◌≡◌, [], All, Ok, Err, map, ap, sym, subst, ◌∙◌, true}
 use Rattle.std.specs.Prelude.{◌↔◌}
 use Rattle.std.specs.Map.{values_of}
 use Rattle.dev_model.specs.Devices.{now}

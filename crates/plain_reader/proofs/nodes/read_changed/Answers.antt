@@ -1,4 +1,4 @@
-use Rattle.std.proofs.Common.{◌≡◌, true, sym, ◌∙◌, subst}
+use Rattle.std.proofs.Common.{◌≡◌, true, sym, subst}
 use Rattle.std.specs.Prelude.{◌↔◌}
 use Rattle.dev_model.specs.Devices.{now}
 use Rattle.dev_model.specs.Disk.{as_read, block_at}

@@ -1,11 +1,15 @@
-use Rattle.std.proofs.Common.{◌≡◌, ◌<◌, ◌≤◌, ℕ, List, length, arith, sym, subst}
-use Rattle.std.specs.Prelude.{IfSome}
+use Rattle.std.proofs.Common.{◌≡◌, ◌<◌, ◌≤◌, ℕ, All, List, Result, Ok, Err, length, arith, sym, subst}
+use Rattle.std.specs.Prelude.{IfOk, IfSome}
 use Rattle.geometry.specs.Faults.{fault_device}
 use Rattle.geometry.specs.LayoutFacts.{has_places}
 use Rattle.geometry.specs.declared.fault.DiskFault.{DiskFault}
 use Rattle.geometry.specs.declared.fault.DiskFault.TheVariants as disks
 use Rattle.image_view.specs.declared.fault.MountFault.{MountFault}
+use Rattle.journal_ring.specs.Counting.{IsJournalOf}
+use Rattle.journal_ring.specs.declared.found.FoundEntry.{FoundEntry}
+use Rattle.plain_reader.specs.Answers.{WasWhole}
 use Rattle.plain_reader.specs.Faults.{disk_fault, mount_fault_device}
+use Rattle.plain_reader.proofs.WholeTold.{needed_were_whole}
 use Rattle.plain_reader.proofs.reading.needed_of.Goals as goal
 
 -- A metadata device is one of all devices.
@@ -18,3 +22,17 @@ returns-in-Err-clause-device g c =
     let sizes = (g.D.Devices.state c.args.devices.now).sizes in
     subst (λ (fault : MountFault). IfSome (mount_fault_device fault) (λ dev. dev < length sizes)) (sym c.disk_fault.ensures)
     (one_of_all c.in-Err.fault c.args.layout.now.metadata_replicas (length sizes) (has_places sizes c.args.layout.now c.requires.layout).mirrors c.in-Err.ensures.device)
+
+-- What is said of each element of the entries is said of some that are the same.
+of_same : (P : FoundEntry → Type 0) (entries : List FoundEntry) (result : Result (List FoundEntry) MountFault) → IfOk result (λ some. some ≡ entries) → All P entries → IfOk result (All P)
+of_same P entries (Ok some) same all = subst (All P) (sym same) all
+of_same P entries (Err fault) same all = tt
+
+pub returns-in-Ok-Needed-clause-whole : goal.returns-in-Ok-Needed-clause-whole
+returns-in-Ok-Needed-clause-whole g c =
+    let layout = c.args.layout.now in
+    let places = has_places (g.D.Devices.state c.args.devices.now).sizes layout c.requires.layout in
+    let least = places.least in
+    let some : 0 < layout.journal = omega (arith, least) in
+    let whole = needed_were_whole c.leading_entries_are_needed.ensures.whole layout some c.in-Ok-Needed.entries (subst (IsJournalOf layout) c.in-Ok-Needed.field-0-is c.in-Ok-Needed.ensures.seen) in
+    of_same (WasWhole layout) c.in-Ok-Needed.entries c.some_entry.result c.some_entry.ensures.same whole

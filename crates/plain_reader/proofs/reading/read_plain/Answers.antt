@@ -1,24 +1,21 @@
-use Rattle.std.proofs.Common.{◌≡◌, ◌≤◌, ◌∙◌, ℕ, All, List, Ok, Err, length, map, ap, sym, subst, IfSome}
+use Rattle.std.proofs.Common.{◌≡◌, ◌≤◌, ℕ, All, List, Ok, Err, length, map, sym, subst, true}
 use Rattle.std.specs.Option.{ok_or}
 use Rattle.std.specs.List.{flat_map}
 use Rattle.std.specs.Map.{values_of}
-use Rattle.dev_model.specs.Devices.{DevicesState, now}
+use Rattle.dev_model.specs.Devices.{now}
 use Rattle.dev_model.specs.Disk.{Image, as_read}
 use Rattle.dev_model.specs.FrameLaws.{only_read_then}
-use Rattle.dev_model.specs.Frames.{AreOnlyRead}
 use Rattle.geometry.specs.Faults.{DeviceFailed, SomeFailed}
+use Rattle.geometry.specs.Layouts.{is_layout_of}
 use Rattle.geometry.specs.Sessions.{session_in}
-use Rattle.geometry.specs.Superblocks.{layout_in}
-use Rattle.image_view.specs.Found.{found, sets_in, super_fault, updates_of}
-use Rattle.image_view.specs.Trees.{joined, nodes_of, trees_of}
+use Rattle.image_view.specs.Found.{found, sets_in, updates_of}
+use Rattle.image_view.specs.Trees.{joined, trees_of}
 use Rattle.image_view.specs.declared.fault.MountFault.{MountFault}
 use Rattle.image_view.specs.declared.fault.MountFault.TheVariants.{NoEntry}
 use Rattle.journal_ring.specs.Parts.{area_of}
 use Rattle.journal_ring.specs.declared.found.FoundEntry.{FoundEntry}
-use Rattle.key_codec.specs.Formats.{carried}
-use Rattle.vol_types.specs.declared.layout.Layout.{Layout}
 use Rattle.plain_reader.specs.Answers.{AreRagged, AreSureTrees, Finds, Tells}
-use Rattle.plain_reader.specs.Faults.{mount_fault, mount_fault_device}
+use Rattle.plain_reader.specs.Faults.{mount_fault_device}
 use Rattle.plain_reader.specs.Volumes.{btree_in, entries_in, found_of, last_of, with_last}
 use Rattle.plain_reader.specs.declared.found.FoundBtree.{FoundBtree}
 use Rattle.plain_reader.specs.declared.found.FoundVolume.{FoundVolume}
@@ -297,3 +294,32 @@ returns-in-Err-clause-made_up g c told f is agree =
     (subst (λ (es : List FoundEntry). (SomeFailed three.faults four.faults → AreSureTrees layout.id (as_read (now three)) (trees_of (sets_in layout (as_read (now three))) (updates_of es) (last_of es).entry.roots)) → Tells {X = List FoundBtree} (λ bs. joined (map btree_in bs)) (trees_of (sets_in layout (as_read (now three))) (updates_of es) (last_of es).entry.roots) (Err c.in-Err.fault)) c.as_slice.ensures (c.in-Err.ensures.found told))
     (λ failed. sure_trees image layout lays session names needed entries f is agree) in
     read_is (found image) f (Err c.mount_fault.result) is (subst (λ (e : MountFault). Finds {X = FoundVolume} found_of (found image) (Err e)) (sym c.mount_fault.ensures) (found_not image layout lays session names needed entries c.in-Err.fault trees))
+
+pub returns-in-Ok-clause-fits : goal.returns-in-Ok-clause-fits
+returns-in-Ok-clause-fits g c =
+    let D = g.D.Devices in
+    let one = D.state c.layout_of.new.devices in
+    let two = D.state c.session_of.new.devices in
+    let three = D.state c.needed_of.new.devices in
+    let four = D.state c.btrees_of.new.devices in
+    let r2 = only_read_then D.tells one two three c.session_of.ensures.read c.needed_of.ensures.read in
+    let r3 = only_read_then D.tells one three four r2 c.btrees_of.ensures.read in
+    subst (λ (sizes : List ℕ). is_layout_of sizes c.in_ok-layout.layout ≡ true) (sym r3.sizes) c.in_ok-layout.ensures.fits
+
+pub returns-in-Ok-clause-front : goal.returns-in-Ok-clause-front
+returns-in-Ok-clause-front g c told =
+    let D = g.D.Devices in
+    let old = D.state c.args.devices.now in
+    let image = as_read (now old) in
+    let one = D.state c.layout_of.new.devices in
+    let layout = c.in_ok-layout.layout in
+    let two = D.state c.session_of.new.devices in
+    let session = c.in_ok-session.session in
+    let three = D.state c.needed_of.new.devices in
+    let r2 = only_read_then D.tells old one two c.layout_of.ensures.read c.session_of.ensures.read in
+    let needed = c.in_ok-needed.needed in
+    record {
+      layout_is = c.in_ok-layout.ensures.found told;
+      session_is = of_first D.tells old one two c.layout_of.ensures.read c.session_of.ensures.read told (λ (im : Image). ok_or (session_in layout im) NoEntry ≡ Ok session) (c.in_ok-session.ensures.found told);
+      entries_are = of_first D.tells old two three r2 c.needed_of.ensures.read told (λ (im : Image). entries_in layout (area_of im) ≡ Ok (with_last needed)) (c.in_ok-needed.ensures.found told);
+    }

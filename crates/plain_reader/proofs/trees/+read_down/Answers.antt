@@ -5,7 +5,7 @@ use Rattle.dev_model.specs.Devices.{now}
 use Rattle.dev_model.specs.Disk.{Image, as_read}
 use Rattle.geometry.specs.Faults.{SomeFailed}
 use Rattle.image_view.specs.Found.{sets_in, updates_of}
-use Rattle.image_view.specs.Trees.{BtreeRead, NodeRead, children_of, each_of, ends_of, read_down, read_level}
+use Rattle.image_view.specs.Trees.{BtreeRead, children_of, each_of, ends_of, read_down, read_level}
 use Rattle.tree_nodes.specs.Levels.{Level}
 use Rattle.vol_types.specs.Positions.{least_pos}
 use Rattle.plain_reader.specs.Answers.{AreRagged, IsSureBtree, PlacesAgree, Tells}

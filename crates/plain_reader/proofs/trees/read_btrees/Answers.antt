@@ -1,4 +1,4 @@
-use Rattle.std.proofs.Common.{◌≡◌, ◌<◌, ◌∙◌, All, List, Ok, Err, length, get_or, map, ap, sym, subst, arith}
+use Rattle.std.proofs.Common.{◌≡◌, ◌<◌, ◌∙◌, Ok, Err, length, get_or, map, ap, sym, arith}
 use Rattle.std.specs.List.{flat_map}
 use Rattle.std.specs.Map.{values_of}
 use Rattle.dev_model.specs.Devices.{now}
@@ -6,8 +6,8 @@ use Rattle.dev_model.specs.Disk.{Image, as_read}
 use Rattle.dev_model.specs.FrameLaws.{only_read_then}
 use Rattle.geometry.specs.Faults.{SomeFailed}
 use Rattle.image_view.specs.Found.{sets_in, updates_of}
-use Rattle.image_view.specs.Trees.{all_btrees, btree_of, each_of, with_roots}
-use Rattle.plain_reader.specs.Answers.{AreRagged, AreSureBtrees, IsSureBtree, Tells}
+use Rattle.image_view.specs.Trees.{btree_of, each_of, with_roots}
+use Rattle.plain_reader.specs.Answers.{AreRagged, IsSureBtree, Tells}
 use Rattle.plain_reader.specs.Volumes.{btree_in}
 use Rattle.plain_reader.specs.declared.found.FoundBtree.{FoundBtree}
 use Rattle.plain_reader.proofs.Counts.{of_first, sure_before, sure_behind}

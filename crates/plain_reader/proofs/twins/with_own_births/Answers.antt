@@ -1,4 +1,4 @@
-use Rattle.std.proofs.Common.{◌≡◌, ◌∙◌, List, Ok, Err, map, ap, sym, option_map}
+use Rattle.std.proofs.Common.{◌∙◌, List, Ok, Err, map, ap}
 use Rattle.std.specs.Option.{option_map_or}
 use Rattle.image_view.specs.Trees.{joined, nodes_of}
 use Rattle.vol_types.specs.declared.pointers.Place.{Place}

@@ -3,7 +3,8 @@ use Rattle.dev_model.specs.Devices.{now}
 use Rattle.dev_model.specs.FrameLaws.{go_on_here, go_on_then}
 use Rattle.geometry.specs.Mirrors.{AreAtRest}
 use Rattle.vol_types.specs.declared.layout.Layout.{Layout}
-use Rattle.replay.specs.Mending.{HasMended, WasWhole}
+use Rattle.plain_reader.specs.Answers.{WasWhole}
+use Rattle.replay.specs.Mending.{HasMended}
 use Rattle.replay.proofs.MendedEntry.{MendLaws, keeps_more, mended_more, mended_none}
 use Rattle.replay.proofs.MendedMeaning.{journal_here, journal_more, keeps_meaning}
 use Rattle.replay.proofs.mending.mend_journal.Goals as goal

@@ -1,6 +1,8 @@
-use Rattle.std.proofs.Common.{◌+◌}
-use Rattle.image_view.specs.Found.{with_session}
-use Rattle.replay.proofs.Opened.{in_order_begun, keeps_begun, keeps_both}
+use Rattle.std.proofs.Common.{◌≡◌, ◌+◌, ℕ}
+use Rattle.dev_model.specs.Devices.{now}
+use Rattle.image_view.specs.Found.{Found, with_session}
+use Rattle.replay.specs.Mending.{IsInOrderOn}
+use Rattle.replay.proofs.Opened.{in_order_begun, keeps_begun, keeps_both, past_then}
 use Rattle.replay.proofs.opening.begin_and_mend.Goals as goal
 
 pub returns-in_err-next-clause-crashes : goal.returns-in_err-next-clause-crashes
@@ -46,3 +48,20 @@ returns-clause-ready g c tells f on layouts sessions needs =
     let begun = c.in_ok-next.ensures.begun tells f on.on layouts sessions in
     let order = in_order_begun f c.args.layout.now c.args.session layouts sessions old mid on crashes are begun (c.in_ok-next.ensures.rest tells) (c.begin_session.ensures.elsewhere tells) in
     c.in_ok-mend_journal.ensures.mended tells (with_session (c.args.session + 1) f) order layouts needs
+
+pub returns-in_err-next-clause-past : goal.returns-in_err-next-clause-past
+returns-in_err-next-clause-past g c tells f on layouts sessions needs = (c.begin_session.ensures.crashes tells f on.on layouts sessions).past
+
+pub returns-in_err-mend_journal-clause-past : goal.returns-in_err-mend_journal-clause-past
+returns-in_err-mend_journal-clause-past g c tells f on layouts sessions needs =
+    let D = g.D.Devices in
+    let crashes = c.begin_session.ensures.crashes tells f on.on layouts sessions in
+    let begun = c.in_ok-next.ensures.begun tells f on.on layouts sessions in
+    past_then (D.state c.args.devices.now) (D.state c.begin_session.new.devices) (D.state c.mend_journal.new.devices) crashes.later crashes.past (c.mend_journal.ensures.elsewhere tells begun.quiet).past
+
+pub returns-clause-past : goal.returns-clause-past
+returns-clause-past g c tells f on layouts sessions needs =
+    let D = g.D.Devices in
+    let crashes = c.begin_session.ensures.crashes tells f on.on layouts sessions in
+    let begun = c.in_ok-next.ensures.begun tells f on.on layouts sessions in
+    past_then (D.state c.args.devices.now) (D.state c.begin_session.new.devices) (D.state c.mend_journal.new.devices) crashes.later crashes.past (c.mend_journal.ensures.elsewhere tells begun.quiet).past
