@@ -247,86 +247,90 @@ fn filled_to_the_last_byte(rt: HostRuntime) -> Result<(), Fail> {
     Ok(())
 }
 
+// Commits that fill entries to their last byte, and what is then counted.
+const GROWN: [Step; 6] = [
+    Step {
+        removals: 165,
+        ..EMPTY
+    },
+    Step {
+        puts: 1,
+        growth: Some(1),
+        last_block: 101,
+        commits: 7,
+        ..EMPTY
+    },
+    Step {
+        removals: 10_856,
+        puts: 9,
+        growth: Some(62),
+        last_block: 163,
+        commits: 8,
+        ..EMPTY
+    },
+    Step {
+        removals: 11_023,
+        puts: 9,
+        growth: Some(64),
+        has_closed: true,
+        last_block: 227,
+        commits: 9,
+        ..EMPTY
+    },
+    Step {
+        removals: 11_023,
+        puts: 9,
+        growth: Some(64),
+        has_closed: true,
+        last_block: 291,
+        commits: 10,
+        ..EMPTY
+    },
+    Step {
+        removals: 1,
+        growth: Some(1),
+        has_closed: true,
+        last_block: 292,
+        commits: 11,
+        ..EMPTY
+    },
+];
+
+// The entries that they filled, as they leave.
+const LEAVING: [Taken; 4] = [
+    Taken {
+        after: 7,
+        behind: 99,
+        commits: 8,
+        updates: 11_031,
+    },
+    Taken {
+        after: 8,
+        behind: 163,
+        commits: 9,
+        updates: 11_032,
+    },
+    Taken {
+        after: 9,
+        behind: 227,
+        commits: 10,
+        updates: 11_032,
+    },
+    Taken {
+        after: 10,
+        behind: 291,
+        commits: 11,
+        updates: 1,
+    },
+];
+
 // 165 removals fill the first block but for 2 bytes. Three entries of 64 blocks are closed, and leave in their order.
 #[test]
 fn grown_by_little(rt: HostRuntime) -> Result<(), Fail> {
     let alloc = rt.alloc();
-    let steps = [
-        Step {
-            removals: 165,
-            ..EMPTY
-        },
-        Step {
-            puts: 1,
-            growth: Some(1),
-            last_block: 101,
-            commits: 7,
-            ..EMPTY
-        },
-        Step {
-            removals: 10_856,
-            puts: 9,
-            growth: Some(62),
-            last_block: 163,
-            commits: 8,
-            ..EMPTY
-        },
-        Step {
-            removals: 11_023,
-            puts: 9,
-            growth: Some(64),
-            has_closed: true,
-            last_block: 227,
-            commits: 9,
-            ..EMPTY
-        },
-        Step {
-            removals: 11_023,
-            puts: 9,
-            growth: Some(64),
-            has_closed: true,
-            last_block: 291,
-            commits: 10,
-            ..EMPTY
-        },
-        Step {
-            removals: 1,
-            growth: Some(1),
-            has_closed: true,
-            last_block: 292,
-            commits: 11,
-            ..EMPTY
-        },
-    ];
-    let entries = [
-        Taken {
-            after: 7,
-            behind: 99,
-            commits: 8,
-            updates: 11_031,
-        },
-        Taken {
-            after: 8,
-            behind: 163,
-            commits: 9,
-            updates: 11_032,
-        },
-        Taken {
-            after: 9,
-            behind: 227,
-            commits: 10,
-            updates: 11_032,
-        },
-        Taken {
-            after: 10,
-            behind: 291,
-            commits: 11,
-            updates: 1,
-        },
-    ];
     let mut queue = EntryQueue::new(alloc, 1, 7, 99, 5);
-    assert!(rt; right_steps(alloc, &mut queue, &steps)? == 6);
-    assert!(rt; right_entries(alloc, &mut queue, &entries) == 4);
+    assert!(rt; right_steps(alloc, &mut queue, &GROWN)? == 6);
+    assert!(rt; right_entries(alloc, &mut queue, &LEAVING) == 4);
     assert!(rt; queue.last_block() == 293);
     Ok(())
 }
