@@ -69,6 +69,15 @@ module _ (stretches : List Stretch) (from : ℕ) (rise : RiseFrom from stretches
   gap_of : (part : Stretch) → Has part (outside (end - blocks_of value) end stretches) → IsGap (end - blocks_of value) end stretches part
   gap_of part has = outside-sound (end - blocks_of value) end from stretches part rise has
 
+  -- A change puts a part that is left, or removes the end.
+  pub cut-from : (change : Change) → Has change (cut_value stretches end (Some value)) → ((part : Stretch) × (Has part (outside (end - blocks_of value) end stretches) × IsGap (end - blocks_of value) end stretches part × (change ≡ put_part (end - blocks_of value) value part)))
+      ⊎ (change ≡ record { end = end; value = None })
+  cut-from change has = by (origin change has)
+    where
+      by : Origin change → ((part : Stretch) × (Has part (outside (end - blocks_of value) end stretches) × IsGap (end - blocks_of value) end stretches part × (change ≡ put_part (end - blocks_of value) value part))) ⊎ (change ≡ record { end = end; value = None })
+      by (puts part there is) = inl (part, (there, gap_of part there, is))
+      by (removes none is lt) = inr is
+
   -- what is put over a part covers the part
   part_over : (part : Stretch) (block : ℕ) → IsGap (end - blocks_of value) end stretches part → part.first ≤ block → block < part.end → covers part.end (part_of (part.first - (end - blocks_of value)) (part.end - part.first) value) block ≡ true
   part_over part block gap low lt =

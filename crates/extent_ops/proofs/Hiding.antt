@@ -96,7 +96,7 @@ module _ (snaps : Snaps) (parent : ℕ) (w : Stretch) (forward : w.first ≤ w.e
       by false later = later
 
   -- Each part begins at the lowest block or behind it, and has a block.
-  parts_above : (keys : List Key) (part : Stretch) → Has part (parts_of keys) → (low keys ≤ part.first) × (part.first < part.end)
+  pub parts_above : (keys : List Key) (part : Stretch) → Has part (parts_of keys) → (low keys ≤ part.first) × (part.first < part.end)
   parts_above [] part has = elim has [ ]
   parts_above (key ∷ keys) part has = by (is_counted snaps parent key) has (λ later. parts_above keys part later)
     where

@@ -12,3 +12,10 @@ pub mod Punched
 pub mod Owned
 pub mod Showing
 pub mod Reached
+pub mod Fitting
+pub mod Lying
+pub mod Promising
+pub mod Counting
+pub mod Using
+pub mod Placing
+pub mod Keeping

@@ -1,11 +1,13 @@
 -- What a block of a file belongs to in one id itself, what some keys give to blocks, and what it is that an id takes them over.
-use Rattle.std.specs.Prelude.{◌≡◌, ◌≢◌, ℕ, ◌+◌, ◌<◌, ◌≤◌, ◌==◌, Bool, true, false, ◌&&◌, nat_eq, Option, Some, None, List, [], ◌∷◌, map, All, option_map, option_and_then, if◌then◌else◌, ⊤}
+use Rattle.std.specs.Prelude.{◌≡◌, ◌≢◌, ℕ, ◌+◌, ◌<◌, ◌≤◌, ◌==◌, Bool, true, false, ◌&&◌, nat_eq, Option, Some, None, List, [], ◌∷◌, map, All, IfSome, option_map, option_and_then, if◌then◌else◌, ⊤}
 use Rattle.std.specs.List.{filter, list_any}
 use Rattle.std.specs.List.Sorted.{IsStrictlySortedBy}
 use Rattle.std.specs.Option.{option_or}
 use Rattle.snap_tree.specs.Snaps.{chain_of_maybe, parent_of}
 use Rattle.vol_types.specs.KeyMaps.{KeyMap, entries_of, keys_in, value_in}
 use Rattle.vol_types.specs.Positions.{pos_cmp}
+use Rattle.vol_types.specs.Ranges.{IsKeyValue}
+use Rattle.vol_types.specs.Standing.{Stands}
 use Rattle.vol_types.specs.Widths.{PosFits}
 use Rattle.vol_types.specs.declared.keys.Key.{Key}
 use Rattle.vol_types.specs.declared.keys.Update.{Update}
@@ -17,7 +19,7 @@ use Rattle.vol_types.specs.declared.values.Value.{Value}
 use Rattle.vol_types.specs.declared.values.Value.TheVariants as values
 use Rattle.key_meaning.specs.Blocks.{Block, blocks_of, covers, first_cover, own_cover, shown_of}
 use Rattle.key_meaning.specs.Changes.{ChangesBlocks, ChangesOnly}
-use Rattle.key_meaning.specs.Checks.{IsCoveredOnce, pointers_of}
+use Rattle.key_meaning.specs.Checks.{HasRoom, IsCoveredOnce, pointers_of}
 use Rattle.key_meaning.specs.CoverLaws.{pos_of}
 use Rattle.key_meaning.specs.Visible.{snaps_of}
 
@@ -69,6 +71,18 @@ AreFresh file id from (key ∷ keys) = IsFresh file id from key × AreFresh file
 pub record AreFreshWithin (file id first last : ℕ) (keys : List Key) : Type 0 where
   pub fresh : AreFresh file id first keys
   pub within : All (λ (key : Key). key.pos.offset ≤ last + 1) keys
+
+-- The value is an extent or a hole in range, if there is one.
+pub record IsContent (value : Option Value) : Type 0 where
+  pub stands : Stands Extents 0 value
+  pub in_range : IsKeyValue value
+
+-- The update's position is one of the file, from the first block to 4,096 blocks behind the last one, and what it puts there has room.
+pub record IsNear (file first last : ℕ) (update : Update) : Type 0 where
+  pub of_file : update.pos.inode ≡ file
+  pub from : first ≤ update.pos.offset
+  pub to : update.pos.offset ≤ last + 4096
+  pub room : IfSome update.value (λ value. HasRoom (update.pos, value))
 
 -- The updates are of extents and holes of one id alone, and their positions rise, so that none stands twice.
 pub record AreOfContent (id : ℕ) (updates : List Update) : Type 0 where

@@ -4,3 +4,4 @@ pub mod Cutting
 pub mod Nearest
 pub mod Above
 pub mod Looking
+pub mod Placing

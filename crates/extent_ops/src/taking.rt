@@ -1,12 +1,16 @@
-ghost use Rattle.std.specs.Prelude.{◌≡◌, ◌++◌, ◌-◌, ◌^◌, ◌<◌, ◌&&◌, ℕ, All, IfOk, is_some, nat_le, option_map, slice_get};
-ghost use Rattle.extent_ops.specs.Content.{AreFreshWithin, AreLookedAt, AreOfContent, HavePlaces, TakesBlocks, given_by, hidden_if, is_covered_above};
+ghost use Rattle.std.specs.Prelude.{◌≡◌, ◌++◌, ◌-◌, ◌^◌, ◌<◌, ◌&&◌, ℕ, All, IfOk, List, is_some, nat_le, option_map, slice_get};
+ghost use Rattle.extent_ops.specs.Content.{AreFreshWithin, AreLookedAt, AreOfContent, HavePlaces, IsContent, IsNear, TakesBlocks, given_by, hidden_if, is_covered_above};
 ghost use Rattle.extent_ops.specs.Above.{holes_to_hide};
 ghost use Rattle.extent_ops.specs.Cutting.{cut_all, updates_of};
+ghost use Rattle.extent_ops.specs.Placing.{MayBePlaced};
 ghost use Rattle.extent_ops.specs.Stretches.{RiseFrom};
-ghost use Rattle.key_meaning.specs.Checks.{IsCoveredOnce};
+ghost use Rattle.key_meaning.specs.Checks.{AreBlocksPlaced, IsCoveredOnce};
 ghost use Rattle.key_meaning.specs.Visible.{snaps_of};
 ghost use Rattle.snap_tree.specs.Snaps.{parent_of};
 ghost use Rattle.vol_types.specs.KeyMaps.{IsKeyMap, KeyMap, with_updates};
+ghost use Rattle.vol_types.specs.Standing.{IsUpdate};
+ghost use Rattle.vol_types.specs.declared.layout.Layout.{Layout};
+ghost use Rattle.vol_types.specs.declared.pointers.Place.{Place};
 
 use crate::above::{covered_above, holes_of};
 use crate::cutting::{Changes, changes_of, cut_all, stretches_of, updates_of};
@@ -16,8 +20,9 @@ use std::alloc::{AllocError, Global};
 use vol_types::{Key, Keys, Updates};
 
 /// The updates after which an id has fresh extents in a file, and nothing else is seen to change. The keys are those of the file
-/// that cover a block from the first fresh one to the last, and maybe others of the file. Those of other ids cost a step each,
-/// those of the id and the fresh ones some logarithms.
+/// that cover a block from the first fresh one to the last, and maybe others of the file. Where they and the fresh ones are in
+/// range the updates may be made, and stand near the blocks; where each block had a place of its own, and the fresh ones have,
+/// each has one afterwards. Keys of other ids cost a step each, those of the id and the fresh ones some logarithms.
 pub fn overwrite(alloc: Global, keys: &Keys, id: u32, fresh: &Keys) -> Result<Updates, AllocError>
     ensures taken { IfOk result (λ updates. (map : KeyMap) (file first last : ℕ) → IsKeyMap map
         → IsCoveredOnce map file id → All (λ entry. HavePlaces entry.1) map.extents
@@ -25,6 +30,18 @@ pub fn overwrite(alloc: Global, keys: &Keys, id: u32, fresh: &Keys) -> Result<Up
         → TakesBlocks map (with_updates updates map) file id
         (λ block. is_some (given_by fresh.now block)) (given_by fresh.now)) }
     ensures own { IfOk result (AreOfContent id) }
+    ensures fits { IfOk result (λ updates. (file first last : ℕ)
+        → AreFreshWithin file id first last fresh.now → All (λ key. IsContent key.value) keys.now
+        → All (λ key. IsContent key.value) fresh.now → All IsUpdate updates) }
+    ensures near { IfOk result (λ updates. (file first last : ℕ)
+        → AreFreshWithin file id first last fresh.now → All (λ key. IsContent key.value) keys.now
+        → All (IsNear file first last) updates) }
+    ensures placed { IfOk result (λ updates. (map : KeyMap) (file first last : ℕ)
+        (nodes : List Place) (layout : Layout) → IsKeyMap map
+        → All (λ entry. HavePlaces entry.1) map.extents
+        → AreFreshWithin file id first last fresh.now → AreLookedAt map file first last keys.now
+        → AreBlocksPlaced map nodes layout → MayBePlaced map nodes layout fresh.now
+        → AreBlocksPlaced (with_updates updates map) nodes layout) }
 {
     let Some(file) = file_of(fresh.as_slice()) else {
         return Ok(Updates::new(alloc));
@@ -43,7 +60,8 @@ pub fn overwrite(alloc: Global, keys: &Keys, id: u32, fresh: &Keys) -> Result<Up
 
 /// The updates after which an id of the tree shows nothing of some blocks of a file, from the first to the last one: it has holes
 /// where an ancestor has an extent, and else nothing of its own. The keys are those of the file that cover one of the blocks, and
-/// maybe others of the file. Each costs a search in the tree and some logarithms.
+/// maybe others of the file. Where they are in range the updates may be made, and stand near the blocks; where each block had a
+/// place of its own, each has one afterwards. Each key costs a search in the tree and some logarithms.
 pub fn punch(
     alloc: Global,
     keys: &Keys,
@@ -60,6 +78,13 @@ pub fn punch(
         (λ block. nat_le first block && nat_le block last)
         (λ block. hidden_if (is_covered_above map id file block))) }
     ensures own { IfOk result (AreOfContent id) }
+    ensures fits { All (λ key. IsContent key.value) keys.now → IfOk result (All IsUpdate) }
+    ensures near { IfOk result (λ updates. (file : ℕ) → All (λ key. key.pos.inode ≡ file) keys.now
+        → All (λ key. IsContent key.value) keys.now → All (IsNear file first last) updates) }
+    ensures placed { IfOk result (λ updates. (map : KeyMap) (file : ℕ) (nodes : List Place)
+        (layout : Layout) → IsKeyMap map → All (λ entry. HavePlaces entry.1) map.extents
+        → AreLookedAt map file first last keys.now → AreBlocksPlaced map nodes layout
+        → AreBlocksPlaced (with_updates updates map) nodes layout) }
 {
     if last < first {
         return Ok(Updates::new(alloc));

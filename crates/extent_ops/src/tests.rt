@@ -40,12 +40,13 @@ fn snap_key(id: u32, parent: u32) -> Key
     }
 }
 
-fn snap_keys(alloc: Global) -> Result<Keys, AllocError>
+/// The keys of some ids, each given with its parent.
+pub(crate) fn snap_keys(alloc: Global, ids: &[(u32, u32)]) -> Result<Keys, AllocError>
     ensures { IfOk result (All IsSnapKey) }
 {
     let mut keys = Keys::new(alloc);
-    for (id, parent) in IDS {
-        keys.push(snap_key(id, parent))?;
+    for (id, parent) in ids {
+        keys.push(snap_key(*id, *parent))?;
     }
     Ok(keys)
 }
@@ -83,8 +84,8 @@ fn is_covered_above(plain: &Plain, id: u32, block: u64) -> bool {
     false
 }
 
-// The next number of a generator, below a bound.
-fn draw(seed: &mut u64, bound: u64) -> u64 {
+/// The next number of a generator, below a bound.
+pub(crate) fn draw(seed: &mut u64, bound: u64) -> u64 {
     *seed = seed
         .wrapping_mul(6_364_136_223_846_793_005)
         .wrapping_add(1_442_695_040_888_963_407);
@@ -96,8 +97,14 @@ fn block_for(digest: u64) -> u32 {
     u32::try_from(digest).unwrap_or(0)
 }
 
-// An extent up to a block, whose digests are numbers drawn upwards.
-fn extent(alloc: Global, id: u32, first: u64, blocks: u64, digest: u64) -> Result<Key, AllocError> {
+/// An extent from a block on, whose digests are numbers that rise from this one.
+pub(crate) fn extent(
+    alloc: Global,
+    id: u32,
+    first: u64,
+    blocks: u64,
+    digest: u64,
+) -> Result<Key, AllocError> {
     let mut digests = Digests::new(alloc);
     for index in 0..blocks {
         digests.push(digest.wrapping_add(index))?;
@@ -131,7 +138,8 @@ fn keys_of(alloc: Global, map: &BTreeMap<Pos, Value>) -> Result<Keys, AllocError
     Ok(keys)
 }
 
-fn apply(map: &mut BTreeMap<Pos, Value>, update: Update) -> Result<(), AllocError> {
+/// Makes an update of the extents and holes of a map.
+pub(crate) fn apply(map: &mut BTreeMap<Pos, Value>, update: Update) -> Result<(), AllocError> {
     let Update { pos, value, .. } = update;
     match value {
         None => {
@@ -163,7 +171,8 @@ fn agrees(
     Ok(true)
 }
 
-fn is_block(found: Option<&(Pointers, u64)>, wanted: Option<u64>) -> bool {
+/// Whether a block is the one with this digest, or none where none is wanted.
+pub(crate) fn is_block(found: Option<&(Pointers, u64)>, wanted: Option<u64>) -> bool {
     match (found, wanted) {
         (None, None) => true,
         (Some((pointers, digest)), Some(wanted)) => {
@@ -275,7 +284,7 @@ fn take_step(
 #[test]
 fn drawn_steps(rt: HostRuntime) -> Result<(), Fail> {
     let alloc = rt.alloc();
-    let tree = SnapTree::of(alloc, &snap_keys(alloc)?)?;
+    let tree = SnapTree::of(alloc, &snap_keys(alloc, &IDS)?)?;
     let mut map = BTreeMap::new(alloc);
     let mut plain = Plain::new(alloc);
     let mut seed = 5;

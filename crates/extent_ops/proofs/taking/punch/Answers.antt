@@ -1,8 +1,16 @@
-use Rattle.std.proofs.Common.{refl, ◌∙◌, sym, ap, subst, slice_get, arith}
-use Rattle.std.specs.Prelude.{◌&&◌, nat_le, option_map}
+use Rattle.std.proofs.Common.{◌≡◌, refl, ◌∙◌, ℕ, ◌+◌, ◌≤◌, List, sym, ap, subst, slice_get, arith}
+use Rattle.std.specs.Prelude.{◌&&◌, All, nat_le, option_map}
+use Rattle.std.proofs.lemmas.List.Elements.{All-nil}
 use Rattle.snap_tree.specs.Snaps.{parent_of}
+use Rattle.vol_types.specs.Standing.{IsUpdate}
 use Rattle.vol_types.specs.declared.keys.Key.{Key}
-use Rattle.extent_ops.specs.Content.{AreOfContent, TakesBlocks, hidden_if, is_covered_above}
+use Rattle.vol_types.specs.declared.keys.Update.{Update}
+use Rattle.key_meaning.specs.Checks.{AreBlocksPlaced}
+use Rattle.extent_ops.specs.Content.{AreOfContent, IsContent, IsNear, TakesBlocks, hidden_if, is_covered_above}
+use Rattle.extent_ops.specs.declared.stretches.Stretch.{Stretch}
+use Rattle.extent_ops.proofs.Fresh.{ok_then}
+use Rattle.extent_ops.proofs.Placing.{PlacesHoles, holes_places}
+use Rattle.extent_ops.proofs.Promising.{first_file, holes_fit, holes_for, holes_near, holes_updates}
 use Rattle.vol_types.specs.KeyMaps.{with_updates}
 use Rattle.extent_ops.proofs.Owned.{own_none}
 use Rattle.extent_ops.specs.Above.{holes_to_hide}
@@ -10,23 +18,41 @@ use Rattle.extent_ops.proofs.Punched.{Punches, punched_call, punched_none, taken
 use Rattle.extent_ops.proofs.taking.punch.Goals as goal
 
 pub returns : goal.returns
-returns c = record {
-  taken = punched_call c.args.tree.now c.args.id c.args.first c.args.last c.in-Some.file c.saturating_add.result c.args.keys.now c.as_slice-3.result.now _ c.in_ok-given.given c.updates_to_take.result
-      c.if-last-first.false
-      (sym (c.in-Some.ensures ∙ ap (λ keys. option_map (λ (key : Key). key.pos.inode) (slice_get keys 0)) c.as_slice.ensures))
-      c.as_slice-3.ensures
-      (λ small. omega (arith, c.saturating_add.ensures, small))
-      refl
-      (c.in_ok-given.ensures ∙ ap (holes_to_hide c.args.tree.now (parent_of c.args.tree.now c.args.id) (record { first = c.args.first; end = c.saturating_add.result })) c.as_slice-2.ensures)
-      c.updates_to_take.ensures.are;
-  own = c.updates_to_take.ensures.own;
-}
+returns c =
+    let w : Stretch = record { first = c.args.first; end = c.saturating_add.result } in
+    let forward : c.args.first ≤ c.saturating_add.result = omega (arith, c.if-last-first.false, c.saturating_add.ensures, c.ranges.last.fits) in
+    let within : c.saturating_add.result ≤ c.args.last + 1 = omega (arith, c.saturating_add.ensures) in
+    let of_file = sym (c.in-Some.ensures ∙ ap (λ keys. option_map (λ (key : Key). key.pos.inode) (slice_get keys 0)) c.as_slice.ensures) in
+    let made = holes_updates c.args.tree.now c.args.id c.in-Some.file w c.args.keys.now c.as_slice-3.result.now _ c.in_ok-given.given c.updates_to_take.result forward c.as_slice-3.ensures refl
+    (c.in_ok-given.ensures ∙ ap (holes_to_hide c.args.tree.now (parent_of c.args.tree.now c.args.id) w) c.as_slice-2.ensures) c.updates_to_take.ensures.are in
+    record {
+      taken = punched_call c.args.tree.now c.args.id c.args.first c.args.last c.in-Some.file c.saturating_add.result c.args.keys.now c.as_slice-3.result.now _ c.in_ok-given.given c.updates_to_take.result
+          c.if-last-first.false
+          (sym (c.in-Some.ensures ∙ ap (λ keys. option_map (λ (key : Key). key.pos.inode) (slice_get keys 0)) c.as_slice.ensures))
+          c.as_slice-3.ensures
+          (λ small. omega (arith, c.saturating_add.ensures, small))
+          refl
+          (c.in_ok-given.ensures ∙ ap (holes_to_hide c.args.tree.now (parent_of c.args.tree.now c.args.id) (record { first = c.args.first; end = c.saturating_add.result })) c.as_slice-2.ensures)
+          c.updates_to_take.ensures.are;
+      own = c.updates_to_take.ensures.own;
+      fits = λ fit. ok_then (λ (updates : List Update). updates ≡ holes_for c.args.tree.now c.in-Some.file c.args.id w c.args.keys.now) (All IsUpdate) c.updates_to_take.result made
+          (λ updates is. holes_fit c.args.tree.now c.in-Some.file c.args.id w c.args.keys.now updates is forward fit);
+      near = ok_then (λ (updates : List Update). updates ≡ holes_for c.args.tree.now c.in-Some.file c.args.id w c.args.keys.now)
+          (λ (updates : List Update). (file : ℕ) → All (λ (key : Key). key.pos.inode ≡ file) c.args.keys.now → All (λ (key : Key). IsContent key.value) c.args.keys.now → All (IsNear file c.args.first c.args.last) updates) c.updates_to_take.result made
+          (λ updates is file all fit. holes_near c.args.tree.now file c.args.id c.args.last w c.args.keys.now updates
+          (is ∙ (λ i. holes_for c.args.tree.now (first_file file c.in-Some.file c.args.keys.now of_file all i) c.args.id w c.args.keys.now)) forward within fit);
+      placed = ok_then (λ (updates : List Update). updates ≡ holes_for c.args.tree.now c.in-Some.file c.args.id w c.args.keys.now) (PlacesHoles c.args.first c.args.last c.args.keys.now)
+          c.updates_to_take.result made (λ updates is. holes_places c.args.tree.now c.in-Some.file c.args.id c.args.first c.args.last w c.args.keys.now updates is forward of_file);
+    }
 
 pub returns-in_default : goal.returns-in_default
 returns-in_default c = record {
   taken = subst (Punches c.args.tree.now c.args.id c.args.first c.args.last c.args.keys.now) (sym c.new-in_default.ensures)
       (punched_none c.args.tree.now c.args.id c.args.first c.args.last c.args.keys.now c.if-last-first.false (sym c.in_default.is ∙ c.file_of.ensures ∙ ap (λ keys. option_map (λ (key : Key). key.pos.inode) (slice_get keys 0)) c.as_slice.ensures));
   own = subst (AreOfContent c.args.id) (sym c.new-in_default.ensures) (own_none c.args.id);
+  fits = λ fit. subst (All IsUpdate) (sym c.new-in_default.ensures) (All-nil IsUpdate);
+  near = λ file all fit. subst (All (IsNear file c.args.first c.args.last)) (sym c.new-in_default.ensures) (All-nil (IsNear file c.args.first c.args.last));
+  placed = λ keys_map file nodes layout is fit looked placed. subst (λ (updates : List Update). AreBlocksPlaced (with_updates updates keys_map) nodes layout) (sym c.new-in_default.ensures) placed;
 }
 
 pub returns-then-last-first : goal.returns-then-last-first
@@ -34,4 +60,7 @@ returns-then-last-first c = record {
   taken = λ map file is snaps apart fit small looked. subst (λ updates. TakesBlocks map (with_updates updates map) file c.args.id (λ block. nat_le c.args.first block && nat_le block c.args.last) (λ block. hidden_if (is_covered_above map c.args.id file block)))
       (sym c.new.ensures) (taken_backwards map file c.args.id c.args.first c.args.last (λ block. hidden_if (is_covered_above map c.args.id file block)) apart c.if-last-first.true);
   own = subst (AreOfContent c.args.id) (sym c.new.ensures) (own_none c.args.id);
+  fits = λ fit. subst (All IsUpdate) (sym c.new.ensures) (All-nil IsUpdate);
+  near = λ file all fit. subst (All (IsNear file c.args.first c.args.last)) (sym c.new.ensures) (All-nil (IsNear file c.args.first c.args.last));
+  placed = λ keys_map file nodes layout is fit looked placed. subst (λ (updates : List Update). AreBlocksPlaced (with_updates updates keys_map) nodes layout) (sym c.new.ensures) placed;
 }
