@@ -3,3 +3,4 @@ pub mod Pinning
 pub mod Marking
 pub mod Splitting
 pub mod Records
+pub mod Following

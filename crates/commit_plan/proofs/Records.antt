@@ -55,8 +55,8 @@ records_more updates place update keys now new lt is so_far b test made =
     (sym (with_updates-append (take place updates) (update ∷ []) keys)
     ∙ ap (λ (us : List Update). with_updates us keys) (sym (take_more updates place update lt ∙ ap (λ (u : Update). take place updates ++ u ∷ []) (sym is))))
 
--- a value of the btree of ids is the record of one
-is_snap : (value : Value) → IsKindOf Snapshots (kind_of value) → IsSome (snap_of (Some value))
+-- A value of the btree of ids is the record of one.
+pub is_snap : (value : Value) → IsKindOf Snapshots (kind_of value) → IsSome (snap_of (Some value))
 is_snap (Inode inode) is = absurd (true≢false (sym is))
 is_snap (Names links) is = absurd (true≢false (sym is))
 is_snap (Extent extent) is = absurd (true≢false (sym is))

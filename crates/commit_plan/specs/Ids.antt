@@ -1,5 +1,5 @@
 -- The trees of snapshot ids that go with a key map.
-use Rattle.std.specs.Prelude.{◌==◌, ◌&&◌, ◌^◌, Bool, List, [], if◌then◌else◌, nat_lt}
+use Rattle.std.specs.Prelude.{◌==◌, ◌&&◌, ◌^◌, Bool, true, List, [], if◌then◌else◌, nat_lt}
 use Rattle.std.specs.List.{list_all, list_any}
 use Rattle.key_meaning.specs.Visible.{snaps_of}
 use Rattle.snap_tree.specs.Snaps.{Snaps, are_trees, snaps_in}
@@ -28,3 +28,7 @@ trees_of entries = if are_id_places entries && are_trees (snaps_in (as_keys entr
 -- whether an update changes the record of an id
 abbrev pub changes_ids : List Update → Bool
 changes_ids updates = list_any (is_update_of Snapshots) updates
+
+-- whether an update is at the place of an id, if it changes the record of one
+abbrev pub is_placed : Update → Bool
+is_placed update = if is_update_of Snapshots update then is_id_place update.pos else true

@@ -1,8 +1,9 @@
-ghost use Rattle.std.specs.Prelude.{◌≡◌, All, IfOk, OnOk, map};
+ghost use Rattle.std.specs.Prelude.{◌≡◌, All, IfOk, IsTrue, OnOk, false, map};
+ghost use Rattle.std.specs.List.{list_all};
 ghost use Rattle.std.specs.Map.{values_of};
 ghost use Rattle.btree_map.specs.Trees.{keys_in};
-ghost use Rattle.commit_plan.specs.Ids.{are_id_places, changes_ids, id_trees, is_id_place, trees_of};
-ghost use Rattle.vol_types.specs.KeyMaps.{entries_of, is_update_of, keys_in as as_keys, with_updates};
+ghost use Rattle.commit_plan.specs.Ids.{are_id_places, changes_ids, id_trees, is_id_place, is_placed, trees_of};
+ghost use Rattle.vol_types.specs.KeyMaps.{IsKeyMap, KeyMap as AKeyMap, entries_of, is_update_of, keys_in as as_keys, with_updates};
 ghost use Rattle.vol_types.specs.Maps.{put_at, with_value};
 ghost use Rattle.vol_types.specs.Positions.{pos_cmp};
 ghost use Rattle.vol_types.specs.Standing.{IsUpdate, MayStand};
@@ -12,7 +13,7 @@ use btree_map::KeyMap;
 use snap_tree::{SnapFault, SnapTree};
 use std::alloc::{AllocError, Global};
 use std::collections::BTreeMap;
-use vol_types::{Btree, Duplicate, Key, Keys, Pos, Update, Value};
+use vol_types::{Btree, Duplicate, Key, Keys, Pos, Update, Updates, Value};
 
 /// Whether updates change the record of a snapshot id.
 pub fn changes_ids(updates: &[Update]) -> bool
@@ -29,6 +30,29 @@ pub fn trees_after(alloc: Global, map: &KeyMap, updates: &[Update]) -> Result<Sn
 {
     let snaps = records_after(alloc, map, updates)?;
     tree_of(alloc, snaps)
+}
+
+/// Makes updates to the records of snapshot ids in their trees, in place, and passes over those of other keys: the trees of
+/// a key map become those that it has after the updates. `false` says that it couldn't, and the trees are as they were: they
+/// had no id, an update of an id's record isn't at that id's place, the records would form no trees, or memory lacked. Then
+/// `trees_after` makes them anew.
+///
+/// It costs what `SnapTree::apply` does: a few logarithms of the number of ids for each update, and 32 for each id that is
+/// new or gets another parent, and for each below one of these.
+pub fn ids_updated(tree: &mut SnapTree, updates: &Updates) -> bool
+    requires { All IsUpdate updates.now }
+    ensures made { IsTrue result → (keys : AKeyMap) → IsKeyMap keys → tree.old ≡ id_trees keys
+        → tree.new ≡ id_trees (with_updates updates.now keys) }
+    ensures kept { result ≡ false → tree.new ≡ tree.old }
+{
+    // Trees without ids may stand for records that form none.
+    if tree.is_empty() {
+        return false;
+    }
+    if !are_placed(updates.as_slice()) {
+        return false;
+    }
+    tree.apply(updates).is_ok()
 }
 
 // The ids of records as trees; without ids where they form none.
@@ -55,6 +79,23 @@ fn is_of_id(update: &Update) -> bool
         return false;
     }
     update.btree.code() == Btree::Snapshots.code()
+}
+
+// Whether all updates of the records of ids are at places of ids.
+fn are_placed(updates: &[Update]) -> bool
+    ensures { result ≡ list_all is_placed updates.now }
+{
+    updates.iter().all(is_placed)
+}
+
+// Whether an update is at the place of an id, if it is one of the record of an id.
+fn is_placed(update: &Update) -> bool
+    ensures { result ≡ is_placed update.now }
+{
+    if !is_of_id(update) {
+        return true;
+    }
+    is_id_place(&update.pos)
 }
 
 // The records of ids after updates, each at its position.

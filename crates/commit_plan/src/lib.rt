@@ -8,7 +8,7 @@ mod laws;
 mod splits;
 
 pub use dirty::{DirtyNodes, Paths, paths_of};
-pub use ids::{changes_ids, trees_after};
+pub use ids::{changes_ids, ids_updated, trees_after};
 pub use laws::{dirty_nodes_are_marked, other_updates_leave_ids};
 pub use splits::{NeedSplit, split_needed};
 

@@ -7,6 +7,7 @@ ghost use Rattle.vol_types.specs.Standing.{IsUpdate};
 
 use super::*;
 use btree_map::{IndexFault, KeyMap};
+use snap_tree::SnapTree;
 use std::alloc::{AllocError, Global};
 use std::test::Fail;
 use vol_types::{
@@ -108,15 +109,15 @@ fn limit(rt: HostRuntime) -> Result<(), Fail> {
     Ok(())
 }
 
-// How many ids there are after the record of one is put, under this parent, in this snapshot.
-fn ids_after(alloc: Global, map: &KeyMap, parent: u32, snapshot: u32) -> Result<usize, AllocError> {
+// The record of an id is put, under this parent, in this snapshot.
+fn id_put(alloc: Global, id: u64, parent: u32, snapshot: u32) -> Result<Updates, AllocError> {
     let mut updates = Updates::new(alloc);
     updates.push(Update {
         btree: Btree::Snapshots,
         level: 0,
         pos: Pos {
             inode: 0,
-            offset: 5,
+            offset: id,
             snapshot,
         },
         value: Some(Value::Snap(Snap {
@@ -126,6 +127,12 @@ fn ids_after(alloc: Global, map: &KeyMap, parent: u32, snapshot: u32) -> Result<
             state: SnapState::LiveLeaf,
         })),
     })?;
+    Ok(updates)
+}
+
+// How many ids there are after the record of one is put.
+fn ids_after(alloc: Global, map: &KeyMap, parent: u32, snapshot: u32) -> Result<usize, AllocError> {
+    let updates = id_put(alloc, 5, parent, snapshot)?;
     if !may_stand(updates.as_slice()) {
         return Ok(99);
     }
@@ -143,5 +150,56 @@ fn ids(rt: HostRuntime) -> Result<(), Fail> {
     for (parent, snapshot, count) in [(0, 0, 1), (7, 0, 0), (0, 1, 0)] {
         assert_eq!(rt; ids_after(alloc, &map, parent, snapshot)?, count);
     }
+    Ok(())
+}
+
+/// A parent, a snapshot, whether id 5 is put beside id 9, and how many ids there are then.
+const PUT_BESIDE_9: [(u32, u32, (bool, usize)); 3] = [
+    (9, 0, (true, 2)),
+    (7, 0, (false, 1)),
+    (9, 1, (false, 1)),
+];
+
+// The trees of id 9 alone, or without ids where its record may not stand.
+fn alone(alloc: Global, map: &KeyMap) -> Result<SnapTree, AllocError> {
+    let updates = id_put(alloc, 9, 0, 0)?;
+    if !may_stand(updates.as_slice()) {
+        return Ok(SnapTree::new(alloc));
+    }
+    trees_after(alloc, map, updates.as_slice())
+}
+
+// Whether the record of id 5 is put into the trees in place, and how many ids there are then.
+fn put_in_place(
+    alloc: Global,
+    mut tree: SnapTree,
+    parent: u32,
+    snapshot: u32,
+) -> Result<(bool, usize), AllocError> {
+    let updates = id_put(alloc, 5, parent, snapshot)?;
+    if !may_stand(updates.as_slice()) {
+        return Ok((false, 99));
+    }
+    let made = ids_updated(&mut tree, &updates);
+    Ok((made, tree.len()))
+}
+
+// An id is made under another in place, but not under one that isn't there, nor in the place of a snapshot, nor where there
+// is no id yet.
+#[test]
+fn ids_in_place(rt: HostRuntime) -> Result<(), Fail> {
+    let alloc = rt.alloc();
+    let Some(map) = fresh(alloc)? else {
+        assert!(rt; false);
+        return Ok(());
+    };
+    for (parent, snapshot, answer) in PUT_BESIDE_9 {
+        let tree = alone(alloc, &map)?;
+        assert_eq!(rt; put_in_place(alloc, tree, parent, snapshot)?, answer);
+    }
+    assert_eq!(rt;
+        put_in_place(alloc, SnapTree::new(alloc), 0, 0)?,
+        (false, 0)
+    );
     Ok(())
 }

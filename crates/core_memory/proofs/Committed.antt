@@ -1,0 +1,142 @@
+-- What is kept of a volume stays so where a commit is made, and so what is kept of its actors.
+use Rattle.std.proofs.Common.{◌≡◌, ℕ, ◌+◌, ◌<◌, Bool, true, false, cond, not, Option, Some, None, List, [], ◌∷◌, ◌++◌, length, refl, sym, ap, ◌∙◌, subst, ⊎_elim}
+use Rattle.std.specs.Prelude.{◌≢◌, ◌==◌, ◌||◌, IfSome, is_some, slice_index_or, slice_set}
+use Rattle.std.proofs.lemmas.Bool.{cases_eq, true≢false}
+use Rattle.std.proofs.lemmas.List.{get_or-set_same, get_or-set_other, get_or_default, length-set}
+use Rattle.std.proofs.lemmas.Option.{same_Some}
+use Rattle.btree_map.specs.Trees.{Trees, keys_in}
+use Rattle.commit_plan.specs.Dirty.{AreMarked, changed_nodes, paths_of, with_pins}
+use Rattle.entry_queue.specs.Changes.{LeadTo, changes_of}
+use Rattle.entry_queue.specs.Queues.{Queue, closes, follower_of, joined, waiting}
+use Rattle.entry_queue.specs.declared.changes.KeyChanges.{KeyChanges}
+use Rattle.vol_types.specs.KeyMaps.{KeyMap, with_updates}
+use Rattle.vol_types.specs.declared.keys.Update.{Update}
+use Rattle.vol_types.specs.declared.layout.Layout.{Layout}
+use Rattle.tree_nodes.specs.Levels.{Levels}
+use Rattle.core_memory.specs.Actors.{committed, holds, idle_actor}
+use Rattle.core_memory.specs.Commits.{AreIntended, IsCommitted}
+use Rattle.core_memory.specs.Rulings.{entry_of}
+use Rattle.core_memory.specs.States.{IsActor, IsState, State, actor_count, mine, other_holder}
+use Rattle.core_memory.specs.Volumes.{IsVolume, Volume}
+use Rattle.core_memory.specs.declared.actor.Actor.{Actor}
+use Rattle.core_memory.proofs.Kept.{free-no_looks, holder-given_back, no_looks-given}
+
+-- A queue has the same metadata devices after a commit.
+mirrors-joined : (changes : KeyChanges) (counted : Bool) (queue : Queue) → (joined changes counted queue).mirrors ≡ queue.mirrors
+mirrors-joined changes counted queue = by (closes changes.updates queue)
+  where
+    by : (b : Bool) → (cond b (record { mirrors = queue.mirrors; closed = queue.closed ++ queue.open_entry ∷ []; open_entry = follower_of queue.mirrors queue.open_entry }) queue).mirrors ≡ queue.mirrors
+    by true = refl
+    by false = refl
+
+-- Updates lead from the durable keys to the keys with them.
+abbrev pub LeadsOn : List Update → Bool → Volume → Type 0
+LeadsOn updates counted old =
+    (durable keys : KeyMap) → LeadTo (waiting old.queue) durable keys → LeadTo (waiting (joined (changes_of updates keys) counted old.queue)) durable (with_updates updates keys)
+
+-- A commit keeps a volume.
+pub committed-volume : (updates : List Update) (counted : Bool) (old new : Volume) → IsVolume old → IsCommitted updates counted old new
+    → AreMarked old.trees.nodes (with_pins (entry_of old updates) (changed_nodes old.trees.nodes updates) old.pins) (with_pins (entry_of old updates) (paths_of old.trees.nodes updates) old.marks)
+    → LeadsOn updates counted old → IsVolume new
+committed-volume updates counted old new is made marked leads =
+    subst IsVolume (sym made.rest) (record {
+      placed = is.placed;
+      mirrors = mirrors-joined (changes_of updates (keys_in old.trees)) counted old.queue ∙ is.mirrors;
+      devices = is.devices;
+      marked = subst (λ (nodes : List Levels). AreMarked nodes (with_pins (entry_of old updates) (changed_nodes old.trees.nodes updates) old.pins) (with_pins (entry_of old updates) (paths_of old.trees.nodes updates) old.marks)) (sym made.nodes) marked;
+      durable_keys = is.durable_keys;
+      are_keys = is.are_keys;
+      lead = subst (λ (keys : KeyMap). LeadTo (waiting (joined (changes_of updates (keys_in old.trees)) counted old.queue)) is.durable_keys keys) (sym made.keys) (leads is.durable_keys (keys_in old.trees) is.lead);
+    })
+
+module _ (old : Volume) (is : IsVolume old) (updates : List Update) (counted : Bool) (trees : Trees) (queue : Queue) (pins marks : List (ℕ × ℕ)) where
+  -- What a commit makes, part by part, is kept.
+  pub made-kept : keys_in trees ≡ with_updates updates (keys_in old.trees) → trees.nodes ≡ old.trees.nodes
+      → queue ≡ joined (changes_of updates (keys_in old.trees)) counted old.queue
+      → pins ≡ with_pins (entry_of old updates) (changed_nodes old.trees.nodes updates) old.pins → marks ≡ with_pins (entry_of old updates) (paths_of old.trees.nodes updates) old.marks
+      → AreMarked old.trees.nodes (with_pins (entry_of old updates) (changed_nodes old.trees.nodes updates) old.pins) (with_pins (entry_of old updates) (paths_of old.trees.nodes updates) old.marks)
+      → LeadsOn updates counted old
+      → IsVolume (record old { trees = trees; queue = queue; pins = pins; marks = marks; changes = old.changes + 1 })
+  made-kept keys nodes joins pinned marks_are marked leads =
+      committed-volume updates counted old (record old { trees = trees; queue = queue; pins = pins; marks = marks; changes = old.changes + 1 }) is
+      (record {
+        keys = keys;
+        nodes = nodes;
+        rest = λ i. record old { trees = trees; queue = joins i; pins = pinned i; marks = marks_are i; changes = old.changes + 1 };
+      })
+      marked leads
+
+-- What an actor has under way that has no transaction goes with any keys.
+free-actor : (volume : Volume) (turn : Option ℕ) (number : ℕ) (actor : Actor) → holds actor ≡ false → IfSome actor.intended (AreIntended volume.layout.metadata_replicas) → IsActor volume turn number actor
+free-actor volume turn number actor free intended = record {
+  has_turn = λ held. absurd (true≢false (sym held ∙ free));
+  looks = no_looks-given volume actor.looks (free-no_looks actor free);
+  intended = intended;
+}
+
+module _ (old : State) (is : IsState old) (actor : ℕ) (there : actor < actor_count) (held : holds (mine old actor) ≡ true) (volume : Volume) (layout : volume.layout ≡ old.volume.layout) where
+  -- The others have no transaction under way, since the actor has the turn.
+  others-free : (number : ℕ) → number ≢ actor → holds (mine old number) ≡ false
+  others-free number other = by (holds (mine old number)) refl
+    where
+      by : (b : Bool) → holds (mine old number) ≡ b → b ≡ false
+      by true holds_too = absurd (other (same_Some number actor (sym ((is.each number).has_turn holds_too) ∙ (is.each actor).has_turn held)))
+      by false free = refl
+
+  -- A commit of the actor that has the turn keeps what is kept of all actors.
+  pub committed-state : IsVolume volume → (changed : Actor) → holds changed ≡ false → changed.intended ≡ None → (turn : Option ℕ) → IfSome turn (λ holder. holder < actor_count)
+      → IsState (record { volume = volume; actors = slice_set old.actors actor changed; turn = turn })
+  committed-state sound changed free none turn holder = record {
+    volume = sound;
+    count = length-set old.actors actor changed ∙ is.count;
+    holder = holder;
+    each = λ number. ⊎_elim (λ same. here number same) (λ other. elsewhere number other) (cases_eq number actor);
+  }
+    where
+      after : ℕ → Actor
+      after number = mine (record { volume = volume; actors = slice_set old.actors actor changed; turn = turn }) number
+
+      here : (number : ℕ) → number ≡ actor → IsActor volume turn number (after number)
+      here number same =
+          subst (λ (n : ℕ). IsActor volume turn n (after n)) (sym same)
+          (subst (λ (a : Actor). IsActor volume turn actor a) (sym (get_or-set_same old.actors actor changed idle_actor (subst (λ (n : ℕ). actor < n) (sym is.count) there)))
+          (free-actor volume turn actor changed free (subst (λ (i : Option (List Update)). IfSome i (AreIntended volume.layout.metadata_replicas)) (sym none) tt)))
+
+      elsewhere : (number : ℕ) → number ≢ actor → IsActor volume turn number (after number)
+      elsewhere number other =
+          subst (λ (a : Actor). IsActor volume turn number a) (sym (get_or-set_other old.actors actor number changed idle_actor other))
+          (free-actor volume turn number (mine old number) (others-free number other)
+          (subst (λ (l : Layout). IfSome (mine old number).intended (AreIntended l.metadata_replicas)) (sym layout) (is.each number).intended))
+
+-- Who intends updates has a transaction under way.
+intends-holds : (actor : Actor) (updates : List Update) → actor.intended ≡ Some updates → holds actor ≡ true
+intends-holds actor updates intends =
+    let with_them : holds actor ≡ (actor.has_ids || true || not (length actor.looks == 0)) = ap (λ (i : Option (List Update)). actor.has_ids || is_some i || not (length actor.looks == 0)) intends in
+    with_them ∙ by actor.has_ids (not (length actor.looks == 0))
+  where
+    by : (ids looks : Bool) → (ids || true || looks) ≡ true
+    by true true = refl
+    by true false = refl
+    by false true = refl
+    by false false = refl
+
+-- After a commit no transaction is under way.
+committed-free : (counted : Bool) (actor : Actor) → (holds (committed counted actor) ≡ false) × ((committed counted actor).intended ≡ None)
+committed-free true actor = (refl, refl)
+committed-free false actor = (refl, refl)
+
+module _ (volume : Volume) (actors : List Actor) (turn : Option ℕ) (is : IsState (record { volume = volume; actors = actors; turn = turn })) (actor : ℕ) (there : actor < actor_count)
+    (index : ℕ) (at : index ≡ actor) (mine_now : Actor) (value : mine_now ≡ slice_index_or actors index mine_now) (updates : List Update) (intends : mine_now.intended ≡ Some updates) where
+  held : holds (mine (record { volume = volume; actors = actors; turn = turn }) actor) ≡ true
+  held =
+      ap holds (get_or_default actors actor idle_actor mine_now (subst (λ (n : ℕ). actor < n) (sym is.count) there) ∙ ap (λ (n : ℕ). slice_index_or actors n mine_now) (sym at) ∙ sym value)
+      ∙ intends-holds mine_now updates intends
+
+  -- What is kept of a volume and its actors stays so where one of them committed.
+  pub commit-kept : (new : Volume) → IsVolume new → new.layout ≡ volume.layout → (counted : Bool) (before after : Actor) → after ≡ committed counted before → (left : Option ℕ) → left ≡ other_holder actor turn
+      → IsState (record { volume = new; actors = slice_set actors index after; turn = left })
+  commit-kept new sound layout counted before after same left given =
+      subst (λ (n : ℕ). IsState (record { volume = new; actors = slice_set actors n after; turn = left })) (sym at)
+      (committed-state (record { volume = volume; actors = actors; turn = turn }) is actor there held new layout sound after
+      (ap holds same ∙ (committed-free counted before).0) (ap (λ (a : Actor). a.intended) same ∙ (committed-free counted before).1) left
+      (subst (λ (t : Option ℕ). IfSome t (λ holder. holder < actor_count)) (sym given) (holder-given_back actor turn is.holder)))

@@ -1,0 +1,6 @@
+mod Kept
+mod Committed
+mod Pinning
+mod Spaces
+mod Opened
+mod Walking

@@ -1,0 +1,90 @@
+-- What is kept of a volume that was loaded.
+use Rattle.std.proofs.Common.{◌≡◌, ℕ, ◌-◌, ◌<◌, ◌≤◌, None, List, [], length, refl, sym, ap, ◌∙◌, subst, true, ⊎_elim}
+use Rattle.std.proofs.Math.ListN.{get_or-eq_default}
+use Rattle.std.proofs.lemmas.Bool.{cases_lt, true≢false}
+use Rattle.std.proofs.lemmas.List.{get_or-replicate, length-replicate}
+use Rattle.std.proofs.lemmas.List.Elements.{All-nil}
+use Rattle.std.specs.Prelude.{replicate, slice_index_or}
+use Rattle.bucket_pool.specs.Opening.{space_of}
+use Rattle.bucket_pool.specs.Space.{Space}
+use Rattle.core_memory.specs.Actors.{idle_actor}
+use Rattle.core_memory.specs.States.{IsActor, IsState, actor_count, mine}
+use Rattle.core_memory.specs.declared.actor.Actor.{Actor}
+use Rattle.btree_map.specs.Trees.{Trees, keys_in}
+use Rattle.commit_plan.specs.Dirty.{AreMarked, changed_nodes, paths_of, with_pins}
+use Rattle.entry_queue.specs.Changes.{LeadTo}
+use Rattle.entry_queue.specs.Queues.{Queue, empty_queue, waiting}
+use Rattle.journal_ring.specs.declared.found.FoundEntry.{FoundEntry}
+use Rattle.vol_types.specs.KeyMaps.{IsKeyMap, IsLook, KeyMap}
+use Rattle.vol_types.specs.Layouts.{is_layout}
+use Rattle.vol_types.specs.declared.keys.Update.{Update}
+use Rattle.vol_types.specs.declared.layout.Layout.{Layout}
+use Rattle.vol_types.specs.declared.pointers.Place.{Place}
+use Rattle.core_memory.specs.Opening.{keys_of_buckets, opened_by}
+use Rattle.core_memory.specs.Volumes.{IsVolume, Volume}
+use Rattle.core_memory.proofs.Spaces.{length-space_of}
+
+module _ (layout : Layout) (session : ℕ) (trees : Trees) (updates : List Update) (nodes : List Place) (oldest newest : FoundEntry) where
+  -- Nothing waits, so the keys in memory are durable.
+  pub opened-kept : is_layout layout ≡ true → IsKeyMap (keys_in trees)
+      → AreMarked trees.nodes (with_pins newest.entry.oldest (changed_nodes trees.nodes updates) []) (with_pins newest.entry.oldest (paths_of trees.nodes updates) [])
+      → ((mirrors after behind commits : ℕ) (keys : KeyMap) → LeadTo (waiting (empty_queue mirrors after behind commits)) keys keys)
+      → IsVolume (opened_by layout session trees updates nodes oldest newest)
+  opened-kept placed keys marked leads = record {
+    placed = placed;
+    mirrors = refl;
+    devices = length-space_of layout (keys_of_buckets (keys_in trees)) nodes;
+    marked = marked;
+    durable_keys = keys_in trees;
+    are_keys = keys;
+    lead = leads layout.metadata_replicas newest.entry.sequence (newest.end - 1) newest.entry.commits (keys_in trees);
+  }
+
+  -- What the parts make.
+  pub opened-same : (kept : Trees) → kept ≡ trees → (behind : ℕ) (queue : Queue) (pins marks : List (ℕ × ℕ)) (space : Space)
+      → behind ≡ newest.end - 1 → queue ≡ empty_queue layout.metadata_replicas newest.entry.sequence behind newest.entry.commits
+      → pins ≡ with_pins newest.entry.oldest (changed_nodes trees.nodes updates) [] → marks ≡ with_pins newest.entry.oldest (paths_of trees.nodes updates) []
+      → space ≡ space_of layout (keys_of_buckets (keys_in trees)) nodes
+      → record {
+        layout = layout;
+        session = session;
+        trees = kept;
+        queue = queue;
+        pins = pins;
+        marks = marks;
+        space = space;
+        durable = record { sequence = newest.entry.sequence; commits = newest.entry.commits; oldest = newest.entry.oldest; first = oldest.number };
+        halted = None;
+        changes = 0;
+      } ≡ opened_by layout session trees updates nodes oldest newest
+  opened-same kept keeps behind queue pins marks space ends queue_is pins_are marks_are space_is = λ i. record {
+    layout = layout;
+    session = session;
+    trees = keeps i;
+    queue = (queue_is ∙ ap (λ (b : ℕ). empty_queue layout.metadata_replicas newest.entry.sequence b newest.entry.commits) ends) i;
+    pins = pins_are i;
+    marks = marks_are i;
+    space = space_is i;
+    durable = record { sequence = newest.entry.sequence; commits = newest.entry.commits; oldest = newest.entry.oldest; first = oldest.number };
+    halted = None;
+    changes = 0;
+  }
+
+-- At first no actor has anything under way.
+pub idle-kept : (volume : Volume) → IsVolume volume → (actors : List Actor) → actors ≡ replicate actor_count idle_actor → IsState (record { volume = volume; actors = actors; turn = None })
+idle-kept volume sound actors idle = record {
+  volume = sound;
+  count = ap length idle ∙ length-replicate actor_count idle_actor;
+  holder = tt;
+  each = λ number. subst (λ (a : Actor). IsActor volume None number a) (sym (by number)) (record {
+    has_turn = λ held. absurd (true≢false (sym held));
+    looks = record { each = All-nil (IsLook (keys_in volume.trees)) };
+    intended = tt;
+  });
+}
+  where
+    by : (number : ℕ) → mine (record { volume = volume; actors = actors; turn = None }) number ≡ idle_actor
+    by number = ⊎_elim
+        (λ (lt : number < actor_count). ap (λ (all : List Actor). slice_index_or all number idle_actor) idle ∙ get_or-replicate actor_count number idle_actor idle_actor lt)
+        (λ (le : actor_count ≤ number). get_or-eq_default actors idle_actor (subst (λ (n : ℕ). n ≤ number) (sym (ap length idle ∙ length-replicate actor_count idle_actor)) le))
+        (cases_lt number actor_count)

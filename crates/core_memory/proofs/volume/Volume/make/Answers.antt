@@ -1,0 +1,48 @@
+use Rattle.std.proofs.Common.{◌≡◌, ◌∙◌, ◌+◌, Option, List, ℕ, [], ap, sym, subst}
+use Rattle.birth_index.specs.Births.{BirthsDiffer}
+use Rattle.btree_map.specs.Trees.{IsTrees, Trees, keys_in}
+use Rattle.commit_plan.specs.Dirty.{changed_nodes, paths_of, with_pins}
+use Rattle.entry_queue.specs.Queues.{Queue, joined, readied}
+use Rattle.vol_types.specs.Widths.{PosFits}
+use Rattle.vol_types.specs.declared.keys.Update.{Update}
+use Rattle.std.specs.Prelude.{All}
+use Rattle.vol_types.specs.declared.values.Value.{Value}
+use Rattle.core_memory.specs.Volumes.{Volume}
+use Rattle.core_memory.proofs.Committed.{made-kept}
+use Rattle.core_memory.proofs.volume.Volume.make.Goals as goal
+
+pub invariant_of-self-in-Ok : goal.invariant_of-self-in-Ok
+invariant_of-self-in-Ok c =
+    let inside = c.self.inside in
+    let keys = keys_in inside.keys in
+    let updates = c.args.updates in
+    let changed : c.args.paths.now.changed.items ≡ changed_nodes inside.keys.nodes updates = subst (λ (v : Volume). c.args.paths.now.changed.items ≡ changed_nodes v.trees.nodes updates) (sym c.self.view_is) c.requires.changed in
+    let over : c.args.paths.now.over.items ≡ paths_of inside.keys.nodes updates = subst (λ (v : Volume). c.args.paths.now.over.items ≡ paths_of v.trees.nodes updates) (sym c.self.view_is) c.requires.over in
+    let seq : c.entry_of-seq.result ≡ (readied updates inside.queue.queue).open_entry.after + 1 = c.entry_of-seq.ensures ∙ ap (λ (us : List Update). (readied us inside.queue.queue).open_entry.after + 1) c.as_slice-2.ensures in
+    made-kept (record {
+      layout = inside.layout;
+      session = inside.session;
+      trees = inside.keys;
+      queue = inside.queue.queue;
+      pins = inside.dirty.pins.numbers;
+      marks = inside.dirty.marks.numbers;
+      space = inside.pool;
+      durable = inside.durable;
+      halted = inside.halted;
+      changes = inside.changes;
+    }) c.self.invariant updates c.args.counted c.apply.new.self c.join.new.self.queue c.dirty.new.self.pins.numbers c.dirty.new.self.marks.numbers
+    c.in-Ok.ensures.keys c.in-Ok.ensures.nodes
+    (c.join.ensures.joined
+    ∙ ap (λ (q : Queue). joined (record { updates = updates; before = c.in-Ok.before }) c.args.counted q) c.reserve.ensures.queue
+    ∙ ap (λ (before : List (Option Value)). joined (record { updates = updates; before = before }) c.args.counted inside.queue.queue) c.in-Ok.ensures.before)
+    (c.dirty.ensures.pins ∙ ap (with_pins c.entry_of-seq.result c.args.paths.now.changed.items) c.reserve.ensures.pins
+    ∙ ap (λ (births : List ℕ). with_pins c.entry_of-seq.result births inside.dirty.pins.numbers) changed
+    ∙ ap (λ (seq : ℕ). with_pins seq (changed_nodes inside.keys.nodes updates) inside.dirty.pins.numbers) seq)
+    (c.dirty.ensures.marks ∙ ap (with_pins c.entry_of-seq.result c.args.paths.now.over.items) c.reserve.ensures.marks
+    ∙ ap (λ (births : List ℕ). with_pins c.entry_of-seq.result births inside.dirty.marks.numbers) over
+    ∙ ap (λ (seq : ℕ). with_pins seq (paths_of inside.keys.nodes updates) inside.dirty.marks.numbers) seq)
+    (c.dirty_nodes_are_marked.ensures.more inside.keys.nodes inside.dirty.pins.numbers inside.dirty.marks.numbers updates _ (subst (λ (t : Trees). BirthsDiffer t.nodes) c.map.ensures c.node_of.ensures.differ) (λ btree. ((subst IsTrees c.map-2.ensures c.height.ensures.sound).each btree).nodes) (subst (All (λ (update : Update). PosFits update.pos)) c.as_slice.ensures c.see_widths.ensures) c.self.invariant.marked)
+    (λ durable keys lead. c.waiting_changes_lead_from_durable_keys.ensures.joined [] inside.queue.queue updates c.args.counted durable keys lead)
+
+pub returns-in-Ok-clause-sound : goal.returns-in-Ok-clause-sound
+returns-in-Ok-clause-sound c = invariant_of-self-in-Ok c

@@ -1,0 +1,101 @@
+-- Which events an actor may make, and what each is answered and makes of the state.
+use Rattle.std.specs.Arc.{arc_value}
+use Rattle.std.specs.Prelude.{◌≡◌, ℕ, ◌<◌, ⊤, ◌⊎◌, Bool, false, Option, Some, None, IsSome, List, [], unwrap_or}
+use Rattle.btree_map.specs.Trees.{keys_in}
+use Rattle.commit_plan.specs.Ids.{id_trees}
+use Rattle.snap_tree.specs.Snaps.{Snaps}
+use Rattle.vol_types.specs.KeyMaps.{answer_of}
+use Rattle.vol_types.specs.declared.keys.Update.{Update}
+use Rattle.core_memory.specs.Actors.{begun, committed, dropped, ended, holds, noted, told_of, with_ids, with_intent, with_look}
+use Rattle.core_memory.specs.Commits.{AreIntended, IsCommitted}
+use Rattle.core_memory.specs.Rulings.{IsAllowed, IsRefused}
+use Rattle.core_memory.specs.States.{State, actor_count, mine, other_holder, with_mine, with_turn, without_turn}
+use Rattle.core_memory.specs.Volumes.{Volume, are_durable, commits_of, stage_of}
+use Rattle.core_memory.specs.declared.actor.Actor.{Actor}
+use Rattle.core_memory.specs.declared.answer.Answer.{Answer}
+use Rattle.core_memory.specs.declared.answer.Answer.TheVariants.{At, Done, Found, Ids, NoMemory, Refused, Wait}
+use Rattle.core_memory.specs.declared.event.Event.{Event}
+use Rattle.core_memory.specs.declared.event.Event.TheVariants as events
+
+-- An actor begins a transaction where it has none under way: the first one of an operation, or a further one of the operation that it has.
+pub record MayBegin (first : Bool) (actor : Actor) : Type 0 where
+  pub free : holds actor ≡ false
+  pub operation : first ≡ false → IsSome actor.operation
+
+-- The event fits what an actor has under way. It looks, intends and finishes in an operation, and commits what it intends.
+abbrev pub FitsActor : Volume → Actor → Event → Type 0
+FitsActor volume actor (events.Begin first) = MayBegin first actor
+FitsActor volume actor (events.Look query) = IsSome actor.operation
+FitsActor volume actor events.LookIds = IsSome actor.operation
+FitsActor volume actor (events.Intend updates) = IsSome actor.operation × AreIntended volume.layout.metadata_replicas updates
+FitsActor volume actor (events.Commit counted) = IsSome actor.operation × IsSome actor.intended
+FitsActor volume actor events.Finish = IsSome actor.operation
+FitsActor volume actor events.Drop = ⊤
+FitsActor volume actor (events.Next work) = ⊤
+
+-- The event is one of an actor that is there, and fits what it has under way.
+pub record Fits (state : State) (actor : ℕ) (event : Event) : Type 0 where
+  pub there : actor < actor_count
+  pub fits : FitsActor state.volume (mine state actor) event
+
+-- This answer is given, and the state is this one.
+abbrev pub Gives : Answer → State → Answer → State → Type 0
+Gives due after answer new = (answer ≡ due) × (new ≡ after)
+
+-- There was no memory, and nothing has changed.
+abbrev pub HadNoMemory : State → Answer → State → Type 0
+HadNoMemory old answer new = Gives NoMemory old answer new
+
+-- Where another actor has the turn, the answer is that it waits for that one, and nothing has changed; else what is said then holds.
+abbrev pub Waits : Option ℕ → State → Answer → State → Type 0 → Type 0
+Waits (Some holder) old answer new OrElse = Gives (Wait holder) old answer new
+Waits None old answer new OrElse = OrElse
+
+-- The answer has these ids as trees.
+abbrev pub HasIds : Answer → Snaps → Type 0
+HasIds (Ids tree) ids = arc_value tree ≡ ids
+HasIds other ids = ⊥
+
+-- the actor in the state took the turn, and changed
+abbrev pub taken : ℕ → (Actor → Actor) → State → State
+taken actor change state = with_turn actor (with_mine actor (change (mine state actor)) state)
+
+-- the actor in the state changed, and gave the turn back, if it had it
+abbrev pub left : ℕ → (Actor → Actor) → State → State
+left actor change state = without_turn actor (with_mine actor (change (mine state actor)) state)
+
+-- the updates that an actor intends
+abbrev pub intended_by : State → ℕ → List Update
+intended_by state actor = unwrap_or (mine state actor).intended []
+
+-- The updates that an actor intends are made, all of them: nothing refuses that.
+pub record IsMade (old : State) (actor : ℕ) (counted : Bool) (new : State) : Type 0 where
+  pub allowed : IsAllowed old.volume (intended_by old actor) counted
+  pub made : IsCommitted (intended_by old actor) counted old.volume new.volume
+  pub state : new ≡ record (left actor (committed counted) old) { volume = new.volume }
+
+-- A commit makes all updates, or none: then it is refused, and why is noted, or there was no memory.
+abbrev pub CommitGives : State → ℕ → Bool → Answer → State → Type 0
+CommitGives old actor counted Done new = IsMade old actor counted new
+CommitGives old actor counted (Refused refusal) new =
+    IsRefused old.volume (intended_by old actor) counted refusal × (new ≡ with_mine actor (noted refusal (mine old actor)) old)
+CommitGives old actor counted NoMemory new = new ≡ old
+CommitGives old actor counted other new = ⊥
+
+-- What an actor's event is answered, and what the state is then.
+abbrev pub EventGives : State → ℕ → Event → Answer → State → Type 0
+EventGives old actor (events.Begin first) answer new = Gives Done (with_mine actor (begun first (commits_of old.volume) (mine old actor)) old) answer new
+EventGives old actor (events.Look query) answer new =
+    Waits (other_holder actor old.turn) old answer new (
+    let found = answer_of query (keys_in old.volume.trees) in HadNoMemory old answer new ⊎ Gives (Found found) (taken actor (with_look query found) old) answer new
+    )
+EventGives old actor events.LookIds answer new =
+    Waits (other_holder actor old.turn) old answer new (HadNoMemory old answer new ⊎ (HasIds answer (id_trees (keys_in old.volume.trees)) × (new ≡ taken actor with_ids old)))
+EventGives old actor (events.Intend updates) answer new =
+    Waits (other_holder actor old.turn) old answer new (Gives Done (taken actor (with_intent (Some updates)) old) answer new)
+EventGives old actor (events.Commit counted) answer new = CommitGives old actor counted answer new
+EventGives old actor events.Finish answer new = Gives Done (left actor ended old) answer new
+EventGives old actor events.Drop answer new = Gives Done (left actor dropped old) answer new
+EventGives old actor (events.Next work) answer new =
+    let durable = are_durable (mine old actor).operation old.volume in
+    Gives (At (stage_of old.volume) durable) (with_mine actor (told_of (stage_of old.volume) durable (mine old actor)) old) answer new

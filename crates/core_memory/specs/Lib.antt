@@ -1,0 +1,10 @@
+pub mod KeptIds
+pub mod Actors
+pub mod Volumes
+pub mod Rulings
+pub mod Commits
+pub mod Uncommitted
+pub mod Opening
+pub mod States
+pub mod Events
+pub mod Nodes

@@ -1,0 +1,57 @@
+-- What is kept of a volume that was loaded, before any event.
+use Rattle.std.specs.Prelude.{◌≡◌, ℕ, ◌-◌, Some, None, List, [], length, replicate, slice_get}
+use Rattle.std.specs.List.{flat_map}
+use Rattle.bucket_pool.specs.Opening.{space_of}
+use Rattle.btree_map.specs.Trees.{Trees, keys_in}
+use Rattle.commit_plan.specs.Dirty.{changed_nodes, paths_of, with_pins}
+use Rattle.entry_queue.specs.Queues.{empty_queue}
+use Rattle.journal_ring.specs.declared.found.FoundEntry.{FoundEntry}
+use Rattle.vol_types.specs.KeyMaps.{KeyMap, answer_of}
+use Rattle.vol_types.specs.Positions.{greatest_pos, least_pos}
+use Rattle.vol_types.specs.declared.keys.Key.{Key}
+use Rattle.vol_types.specs.declared.queries.Query.TheVariants.{Span}
+use Rattle.vol_types.specs.declared.keys.Update.{Update}
+use Rattle.vol_types.specs.declared.layout.Layout.{Layout}
+use Rattle.vol_types.specs.declared.pointers.Place.{Place}
+use Rattle.vol_types.specs.declared.positions.Btree.TheVariants.{Alloc}
+use Rattle.core_memory.specs.Actors.{idle_actor}
+use Rattle.core_memory.specs.States.{State, actor_count}
+use Rattle.core_memory.specs.Volumes.{Volume}
+
+-- the updates of entries, in their order
+abbrev pub updates_in : List FoundEntry → List Update
+updates_in needed = flat_map (λ (found : FoundEntry). found.entry.updates) needed
+
+-- the keys of buckets
+abbrev pub keys_of_buckets : KeyMap → List Key
+keys_of_buckets keys = answer_of (Span Alloc least_pos greatest_pos) keys
+
+-- what is kept of a volume without its actors, given the oldest entry that is needed and the newest one
+abbrev pub opened_by : Layout → ℕ → Trees → List Update → List Place → FoundEntry → FoundEntry → Volume
+opened_by layout session trees updates nodes oldest newest = record {
+  layout = layout;
+  session = session;
+  trees = trees;
+  queue = empty_queue layout.metadata_replicas newest.entry.sequence (newest.end - 1) newest.entry.commits;
+  pins = with_pins newest.entry.oldest (changed_nodes trees.nodes updates) [];
+  marks = with_pins newest.entry.oldest (paths_of trees.nodes updates) [];
+  space = space_of layout (keys_of_buckets (keys_in trees)) nodes;
+  durable = record { sequence = newest.entry.sequence; commits = newest.entry.commits; oldest = newest.entry.oldest; first = oldest.number };
+  halted = None;
+  changes = 0;
+}
+
+-- Nothing waits to be written behind the newest of the needed entries, which is the last durable one; each node that their updates
+-- change is dirty, and pins the oldest of them; the buckets are as the keys and the places of the nodes say.
+pub record IsVolumeOpened (layout : Layout) (session : ℕ) (trees : Trees) (needed : List FoundEntry) (nodes : List Place) (volume : Volume) : Type 0 where
+  pub oldest : FoundEntry
+  pub newest : FoundEntry
+  pub first : slice_get needed 0 ≡ Some oldest
+  pub last : slice_get needed (length needed - 1) ≡ Some newest
+  pub is : volume ≡ opened_by layout session trees (updates_in needed) nodes oldest newest
+
+-- So is the volume, no actor has an operation, and none has the turn.
+pub record IsOpened (layout : Layout) (session : ℕ) (trees : Trees) (needed : List FoundEntry) (nodes : List Place) (state : State) : Type 0 where
+  pub volume : IsVolumeOpened layout session trees needed nodes state.volume
+  pub actors : state.actors ≡ replicate actor_count idle_actor
+  pub turn : state.turn ≡ None

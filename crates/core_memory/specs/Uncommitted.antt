@@ -1,0 +1,26 @@
+-- Why updates weren't committed.
+use Rattle.std.specs.Prelude.{⊤, Bool, List}
+use Rattle.vol_types.specs.declared.keys.Update.{Update}
+use Rattle.core_memory.specs.Actors.{noted}
+use Rattle.core_memory.specs.declared.actor.Actor.{Actor}
+use Rattle.core_memory.specs.declared.answer.Answer.{Answer}
+use Rattle.core_memory.specs.declared.answer.Answer.TheVariants as answers
+use Rattle.core_memory.specs.declared.commit.Why.{Why}
+use Rattle.core_memory.specs.declared.commit.Why.TheVariants.{NoMemory, Refused}
+use Rattle.core_memory.specs.Rulings.{IsRefused}
+use Rattle.core_memory.specs.Volumes.{Volume}
+
+-- The updates were refused for this cause; want of memory has none.
+abbrev pub IsWhy : Volume → List Update → Bool → Why → Type 0
+IsWhy volume updates counted (Refused refusal) = IsRefused volume updates counted refusal
+IsWhy volume updates counted NoMemory = ⊤
+
+-- an actor whose updates weren't committed
+abbrev pub noted_why : Why → Actor → Actor
+noted_why (Refused refusal) actor = noted refusal actor
+noted_why NoMemory actor = actor
+
+-- what is answered then
+abbrev pub answer_of_why : Why → Answer
+answer_of_why (Refused refusal) = answers.Refused refusal
+answer_of_why NoMemory = answers.NoMemory

@@ -1,0 +1,100 @@
+-- What is kept of a volume in memory, but for what actors have under way.
+use Rattle.std.specs.Prelude.{◌≡◌, ℕ, ◌+◌, ◌-◌, ◌*◌, ◌^◌, min, Bool, true, ◌||◌, ◌&&◌, not, ◌==◌, nat_lt, nat_le, if◌then◌else◌, Option, Some, None, List, length, sum_by}
+use Rattle.bucket_pool.specs.Space.{Space}
+use Rattle.btree_map.specs.Trees.{Trees, keys_in}
+use Rattle.commit_plan.specs.Dirty.{AreMarked}
+use Rattle.entry_queue.specs.Changes.{LeadTo}
+use Rattle.entry_queue.specs.Queues.{Queue, last_block, waiting}
+use Rattle.pin_list.specs.Pins.{least_pin}
+use Rattle.tree_nodes.specs.Levels.{Levels}
+use Rattle.vol_types.specs.KeyMaps.{IsKeyMap, KeyMap}
+use Rattle.vol_types.specs.Layouts.{is_layout}
+use Rattle.vol_types.specs.declared.layout.Layout.{Layout}
+use Rattle.core_memory.specs.declared.answer.Halt.{Halt}
+use Rattle.core_memory.specs.declared.durable.Durable.{Durable}
+use Rattle.core_memory.specs.declared.event.Stage.{Stage}
+use Rattle.core_memory.specs.declared.event.Stage.TheVariants.{Rest, Seal}
+
+-- How the volume lies on its devices; its session; its keys and nodes; the entries that wait to be written; the dirty nodes and the marked ones, each with the entry that it pins; the buckets of each device; the last durable
+-- entry; where the session stopped writing, if it did; and how many commits of updates and of nodes there were in it.
+pub record Volume : Type 0 where
+  pub layout : Layout
+  pub session : ℕ
+  pub trees : Trees
+  pub queue : Queue
+  pub pins : List (ℕ × ℕ)
+  pub marks : List (ℕ × ℕ)
+  pub space : Space
+  pub durable : Durable
+  pub halted : Option Halt
+  pub changes : ℕ
+
+-- how many commits there were since format
+abbrev pub commits_of : Volume → ℕ
+commits_of volume = volume.queue.open_entry.commits
+
+-- how many levels the btrees have in all
+abbrev pub heights : List Levels → ℕ
+heights nodes = sum_by length nodes
+
+-- how many free buckets are held back for nodes on a metadata device, as far as 32 bits go
+abbrev pub held : Volume → ℕ
+held volume = min (2 * (length volume.marks + heights volume.trees.nodes) + 4) (2 ^ 32 - 1)
+
+-- how many of a device's free buckets are held back: on the metadata devices, which are the first ones
+abbrev pub held_on : Volume → ℕ → ℕ
+held_on volume dev = if nat_lt dev volume.layout.metadata_replicas then held volume else 0
+
+-- how many blocks of the journal area are left: not from the oldest needed entry of the last durable one to the end of the open one
+abbrev pub blocks_left : Volume → ℕ
+blocks_left volume = volume.layout.journal - (last_block volume.queue + 1 - volume.durable.first)
+
+-- whether no node is dirty
+abbrev pub is_idle : Volume → Bool
+is_idle volume = length volume.pins == 0
+
+-- whether a number is below the least one that is pinned, which it is where none is
+abbrev pub is_below : ℕ → Option ℕ → Bool
+is_below number None = true
+is_below number (Some pin) = nat_lt number pin
+
+-- whether the last durable entry needs an older one that nothing pins any more
+abbrev pub can_let_go : Durable → List (ℕ × ℕ) → Bool
+can_let_go durable pins = nat_lt durable.oldest durable.sequence && is_below durable.oldest (least_pin pins)
+
+-- whether an entry of the journal is to be written: a closed one waits, or the open one has keys or commits, or lets an older one go
+abbrev pub needs_entry : Volume → Bool
+needs_entry volume =
+    not (length volume.queue.closed == 0)
+    || not (length volume.queue.open_entry.changes.updates == 0)
+    || not (commits_of volume == volume.durable.commits)
+    || can_let_go volume.durable volume.pins
+
+-- the next event that the journal needs
+abbrev pub stage_of : Volume → Stage
+stage_of volume = if needs_entry volume then Seal else Rest
+
+-- whether so many commits are durable, or all of them where no number is given
+abbrev pub are_durable : Option ℕ → Volume → Bool
+are_durable None volume = nat_le (commits_of volume) volume.durable.commits
+are_durable (Some count) volume = nat_le count volume.durable.commits
+
+-- where a session stopped writing: the first time counts
+abbrev pub first_halt : Halt → Option Halt → Option Halt
+first_halt halt None = Some halt
+first_halt halt (Some before) = Some before
+
+-- a volume whose session stops writing
+abbrev pub halted_at : Halt → Volume → Volume
+halted_at halt volume = record volume { halted = first_halt halt volume.halted }
+
+-- What is kept of a volume. The marked nodes are exactly those that are dirty or have a dirty node
+-- under them; the changes that wait lead from some key map, which the durable entries mean, to the one in memory.
+pub record IsVolume (volume : Volume) : Type 0 where
+  pub placed : is_layout volume.layout ≡ true
+  pub mirrors : volume.queue.mirrors ≡ volume.layout.metadata_replicas
+  pub devices : length volume.space ≡ length volume.layout.blocks
+  pub marked : AreMarked volume.trees.nodes volume.pins volume.marks
+  pub durable_keys : KeyMap
+  pub are_keys : IsKeyMap durable_keys
+  pub lead : LeadTo (waiting volume.queue) durable_keys (keys_in volume.trees)

@@ -1,0 +1,59 @@
+use crate::Stage;
+use commit_plan::NeedSplit;
+use journal_ring::RingFull;
+use snap_tree::SnapTree;
+use std::sync::Arc;
+use vol_types::{Keys, Short};
+
+/// Where a session stopped writing: the device of which a write or a flush failed, and the moment after that.
+#[derive(Clone, Copy, Debug, PartialEq, Eq)]
+pub struct Halt {
+    pub dev: u8,
+    pub tick: u64,
+}
+
+/// A metadata device has too few free buckets for the nodes that will have to be written.
+#[derive(Debug, PartialEq, Eq, Drop)]
+pub struct NoSpace {
+    /// For each device its free buckets and those that are held back; it needs 0, since it is no extent that lacks a place.
+    pub short: Short,
+    /// No node is dirty and no bucket waits for an entry, so that a checkpoint would free none.
+    pub idle: bool,
+    /// How many commits of updates and of nodes there were in this session.
+    pub changes: u64,
+}
+
+/// Why a commit isn't made. The transaction stands as it was.
+#[derive(Debug, PartialEq, Eq, Drop)]
+pub enum Refusal {
+    /// The session has stopped writing.
+    Halted(Halt),
+    /// A leaf would be larger than nodes may be.
+    NeedSplit(NeedSplit),
+    /// A number that the commit would draw isn't left: a sequence, a journal block, a count of commits or of changes.
+    Spent,
+    /// The journal would have fewer than 64 blocks left.
+    RingFull(RingFull),
+    /// There would be too few free buckets for nodes.
+    NoSpace(NoSpace),
+}
+
+/// What an event is answered.
+#[derive(Drop)]
+pub enum Answer {
+    /// It happened.
+    Done,
+    /// The keys that a query asks for.
+    Found(Keys),
+    /// The trees of snapshot ids, which are shared and not copied.
+    Ids(Arc<SnapTree>),
+    /// The next event that a work needs, and whether the commits are durable that stood at the actor's last `Begin`, or all
+    /// commits where it has no operation.
+    At { stage: Stage, durable: bool },
+    /// Another actor has the turn.
+    Wait { holder: u8 },
+    /// The commit isn't made.
+    Refused(Refusal),
+    /// Out of memory. Nothing has changed.
+    NoMemory,
+}

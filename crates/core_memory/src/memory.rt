@@ -1,0 +1,251 @@
+ghost use Rattle.std.specs.Prelude.{◌≡◌, ◌<◌, ◌↔◌, IsTrue};
+ghost use Rattle.core_memory.specs.Events.{CommitGives, EventGives, Fits, FitsActor, MayBegin};
+ghost use Rattle.core_memory.specs.States.{actor_count, mine, other_holder, with_halt};
+ghost use Rattle.core_memory.specs.Uncommitted.{answer_of_why, noted_why};
+ghost use Rattle.core_memory.specs.declared.event.Event.TheVariants.{Begin, Commit, Drop, Finish, Intend, Look, LookIds, Next};
+ghost use Rattle.core_memory.specs.declared.event.Work.TheVariants.{Journal};
+
+use crate::commit::{Uncommitted, Why};
+use crate::volume::Volume;
+use crate::{Actor, Answer, Event, Halt, Work};
+use std::alloc::Global;
+use std::marker::Model;
+use vol_types::{Query, Updates};
+
+/// How many actors there are.
+pub(crate) const ACTORS: usize = 17;
+
+/// What a volume keeps in memory, with what each of its 17 actors has under way: 16 clients, and the reclaimer, which is number 16.
+#[derive(Drop)]
+pub struct Memory {
+    pub(crate) alloc: Global,
+    pub(crate) volume: Volume,
+    pub(crate) actors: Vec<Actor>,
+    pub(crate) turn: Option<u8>,
+}
+
+impl Model for Memory {
+    ghost use Rattle.core_memory.specs.States.{IsState, State};
+
+    ghost Value = { State };
+
+    ghost view = { λ m. record { volume = m.volume; actors = m.actors.items; turn = m.turn } };
+
+    ghost invariant = { λ m. IsState (record { volume = m.volume; actors = m.actors.items; turn = m.turn }) };
+}
+
+impl Memory {
+    /// What an actor has under way.
+    pub fn actor(&self, actor: u8) -> &Actor
+        requires { actor < actor_count }
+        ensures { result.now ≡ mine self.now actor }
+    {
+        &self.actors[usize::from(actor)]
+    }
+
+    /// Whether an actor may make the event. It takes no memory, and looks at each update of an `Intend`.
+    pub fn may(&self, actor: u8, event: &Event) -> bool
+        ensures { IsTrue result ↔ Fits self.now actor event.now }
+    {
+        if usize::from(actor) >= ACTORS {
+            return false;
+        }
+        self.fits(&self.actors[usize::from(actor)], event)
+    }
+
+    // Whether the event fits what an actor has under way.
+    fn fits(&self, actor: &Actor, event: &Event) -> bool
+        ensures { IsTrue result ↔ FitsActor self.now.volume actor.now event.now }
+    {
+        match event {
+            Event::Begin { first } => may_begin(*first, actor),
+            Event::Look(_) | Event::LookIds | Event::Finish => actor.operation.is_some(),
+            Event::Intend(updates) => {
+                if actor.operation.is_none() {
+                    return false;
+                }
+                self.volume.may_intend(updates.as_slice())
+            }
+            Event::Commit { .. } => {
+                if actor.operation.is_none() {
+                    return false;
+                }
+                actor.intended.is_some()
+            }
+            Event::Drop | Event::Next(_) => true,
+        }
+    }
+
+    /// Says that the session stops writing, since a write or a flush failed. What it was told first stays.
+    pub fn halt(&mut self, halt: Halt)
+        ensures { self.new ≡ with_halt halt self.old }
+    {
+        self.volume.halt(halt);
+    }
+
+    /// Makes an event of an actor. Looks take a logarithm, and what they find, twice; a commit some logarithms for each update.
+    /// `Begin`, `Intend`, `Finish`, `Drop` and `Next` take no memory.
+    pub fn step(&mut self, actor: u8, event: Event) -> Answer
+        requires { Fits self.old actor event }
+        ensures { EventGives self.old actor event result self.new }
+    {
+        match event {
+            Event::Begin { first } => self.begin(actor, first),
+            Event::Look(query) => self.look(actor, &query),
+            Event::LookIds => self.look_ids(actor),
+            Event::Intend(updates) => self.intend(actor, updates),
+            Event::Commit { counted } => self.commit(actor, counted),
+            Event::Finish => self.finish(actor),
+            Event::Drop => self.drop_transaction(actor),
+            Event::Next(Work::Journal) => self.next_of_journal(actor),
+        }
+    }
+
+    fn begin(&mut self, actor: u8, first: bool) -> Answer
+        requires { Fits self.old actor (Begin first) }
+        ensures { EventGives self.old actor (Begin first) result self.new }
+    {
+        let commits = self.volume.commits();
+        let mine = &mut self.actors[usize::from(actor)];
+        mine.begin(first, commits);
+        Answer::Done
+    }
+
+    fn look(&mut self, actor: u8, query: &Query) -> Answer
+        requires { Fits self.old actor (Look query.now) }
+        ensures { EventGives self.old actor (Look query.now) result self.new }
+    {
+        if let Some(holder) = other_holder(actor, self.turn) {
+            return Answer::Wait { holder };
+        }
+        let Ok(keys) = self.volume.answer(self.alloc, query) else {
+            return Answer::NoMemory;
+        };
+        let mine = &mut self.actors[usize::from(actor)];
+        match mine.look(self.alloc, query, &keys) {
+            Err(_) => Answer::NoMemory,
+            Ok(()) => {
+                self.turn = Some(actor);
+                Answer::Found(keys)
+            }
+        }
+    }
+
+    fn look_ids(&mut self, actor: u8) -> Answer
+        requires { Fits self.old actor LookIds }
+        ensures { EventGives self.old actor LookIds result self.new }
+    {
+        if let Some(holder) = other_holder(actor, self.turn) {
+            return Answer::Wait { holder };
+        }
+        let Ok(ids) = self.volume.ids(self.alloc) else {
+            return Answer::NoMemory;
+        };
+        let mine = &mut self.actors[usize::from(actor)];
+        mine.has_ids = true;
+        self.turn = Some(actor);
+        Answer::Ids(ids)
+    }
+
+    fn intend(&mut self, actor: u8, updates: Updates) -> Answer
+        requires { Fits self.old actor (Intend updates) }
+        ensures { EventGives self.old actor (Intend updates) result self.new }
+    {
+        if let Some(holder) = other_holder(actor, self.turn) {
+            return Answer::Wait { holder };
+        }
+        let mine = &mut self.actors[usize::from(actor)];
+        mine.intend(updates);
+        self.turn = Some(actor);
+        Answer::Done
+    }
+
+    fn commit(&mut self, actor: u8, counted: bool) -> Answer
+        requires { Fits self.old actor (Commit counted) }
+        ensures { CommitGives self.old actor counted result self.new }
+    {
+        let mine = &mut self.actors[usize::from(actor)];
+        let Some(updates) = mine.intended.take() else {
+            unreachable!()
+        };
+        match self.volume.commit(self.alloc, updates, counted) {
+            Ok(()) => {
+                mine.commit(self.alloc, counted);
+                self.turn = other_holder(actor, self.turn);
+                Answer::Done
+            }
+            Err(Uncommitted { updates, why }) => {
+                mine.intended = Some(updates);
+                refuse(mine, why)
+            }
+        }
+    }
+
+    fn finish(&mut self, actor: u8) -> Answer
+        requires { Fits self.old actor Finish }
+        ensures { EventGives self.old actor Finish result self.new }
+    {
+        let mine = &mut self.actors[usize::from(actor)];
+        mine.end(self.alloc);
+        self.turn = other_holder(actor, self.turn);
+        Answer::Done
+    }
+
+    fn drop_transaction(&mut self, actor: u8) -> Answer
+        requires { Fits self.old actor Drop }
+        ensures { EventGives self.old actor Drop result self.new }
+    {
+        let mine = &mut self.actors[usize::from(actor)];
+        mine.drop_all(self.alloc);
+        self.turn = other_holder(actor, self.turn);
+        Answer::Done
+    }
+
+    fn next_of_journal(&mut self, actor: u8) -> Answer
+        requires { Fits self.old actor (Next Journal) }
+        ensures { EventGives self.old actor (Next Journal) result self.new }
+    {
+        let stage = self.volume.stage();
+        let mine = &mut self.actors[usize::from(actor)];
+        let durable = self.volume.are_durable(mine.operation);
+        mine.tell(stage, durable);
+        Answer::At { stage, durable }
+    }
+}
+
+// Whether an actor may begin a transaction.
+fn may_begin(first: bool, actor: &Actor) -> bool
+    ensures { IsTrue result ↔ MayBegin first actor.now }
+{
+    if actor.holds() {
+        return false;
+    }
+    if first {
+        return true;
+    }
+    actor.operation.is_some()
+}
+
+// The actor that has the turn, if it is another one.
+fn other_holder(actor: u8, turn: Option<u8>) -> Option<u8>
+    ensures { result ≡ other_holder actor turn }
+{
+    match turn {
+        None => None,
+        Some(holder) => { if holder == actor { None } else { Some(holder) } }
+    }
+}
+
+// Notes why updates weren't committed, and answers so.
+fn refuse(mine: &mut Actor, why: Why) -> Answer
+    ensures noted { mine.new ≡ noted_why why mine.old }
+    ensures answer { result ≡ answer_of_why why }
+{
+    match why {
+        Why::NoMemory => Answer::NoMemory,
+        Why::Refused(refusal) => {
+            mine.note(&refusal);
+            Answer::Refused(refusal)
+        }
+    }
+}

@@ -1,0 +1,431 @@
+//! Random events of four actors beside a plain table, and each cause that refuses a commit, at its limit and beyond.
+
+ghost use Rattle.std.specs.Prelude.{◌≡◌, IfOk};
+ghost use Rattle.btree_map.specs.Trees.{AreRoots};
+ghost use Rattle.tree_nodes.specs.Levels.{IsNodeOf};
+
+use super::*;
+use btree_map::{IndexFault, KeyMap};
+use commit_plan::NeedSplit;
+use journal_ring::{FoundEntry, RingFull};
+use record_codec::EntryRecord;
+use std::alloc::{AllocError, Global};
+use std::test::Fail;
+use vol_types::{
+    Blocks, Btree, Counts, Keys, Layout, Live, NodePtr, Place, Places, Pos, Query, Roots, Short,
+    Update, Updates, Value,
+};
+
+fn pointer(alloc: Global, birth: u64) -> Result<NodePtr, AllocError>
+    ensures { IfOk result (IsNodeOf 0) }
+{
+    let places = Places::from_slice(alloc, &[Place { dev: 0, block: 512 }])?;
+    Ok(NodePtr {
+        birth,
+        level: 0,
+        places,
+    })
+}
+
+fn roots(alloc: Global) -> Result<Roots, AllocError>
+    ensures { IfOk result AreRoots }
+{
+    let mut roots = Roots::new(alloc);
+    for birth in 0..9 {
+        roots.push(pointer(alloc, birth)?)?;
+    }
+    Ok(roots)
+}
+
+// A map without keys, or none where two roots have one birth.
+fn fresh(alloc: Global) -> Result<Option<KeyMap>, AllocError> {
+    match KeyMap::fresh(alloc, roots(alloc)?) {
+        Ok(map) => Ok(Some(map)),
+        Err(IndexFault::NoMemory) => Err(AllocError),
+        Err(IndexFault::SameBirth { .. }) => Ok(None),
+    }
+}
+
+// What a volume is opened with: the sequence of its newest entry, the commits up to it, where the needed blocks begin and end, and how
+// many of its 47 buckets behind the journal have nodes.
+#[derive(Clone, Copy)]
+struct Opening {
+    sequence: u64,
+    commits: u64,
+    number: u64,
+    end: u64,
+    nodes: u32,
+}
+
+const FRESH: Opening = Opening {
+    sequence: 1,
+    commits: 0,
+    number: 0,
+    end: 1,
+    nodes: 0,
+};
+
+fn entry(alloc: Global, opening: Opening) -> Result<FoundEntry, AllocError> {
+    Ok(FoundEntry {
+        number: opening.number,
+        end: opening.end,
+        entry: EntryRecord {
+            sequence: opening.sequence,
+            oldest: opening.sequence,
+            session: 1,
+            commits: opening.commits,
+            roots: roots(alloc)?,
+            updates: Updates::new(alloc),
+        },
+    })
+}
+
+fn nodes(alloc: Global, count: u32) -> Result<Places, AllocError> {
+    let mut places = Places::new(alloc);
+    for at in 0..count {
+        let block = at.saturating_mul(16).saturating_add(272);
+        places.push(Place { dev: 0, block })?;
+    }
+    Ok(places)
+}
+
+// A volume of one device with 64 buckets, of which the superblocks and the journal take 17.
+fn open(alloc: Global, opening: Opening) -> Result<Option<Memory>, AllocError> {
+    let layout = Layout {
+        id: [7; 16],
+        blocks: Blocks::from_slice(alloc, &[1024])?,
+        journal: 256,
+        metadata_replicas: 1,
+        data_replicas: 1,
+    };
+    let Some(map) = fresh(alloc)? else {
+        return Ok(None);
+    };
+    if !layout.is_valid() {
+        return Ok(None);
+    }
+    let needed = [entry(alloc, opening)?];
+    let nodes = nodes(alloc, opening.nodes)?;
+    Ok(Some(Memory::of(alloc, layout, 2, map, &needed, &nodes)?))
+}
+
+fn at(offset: u64) -> Pos {
+    Pos {
+        inode: 0,
+        offset,
+        snapshot: 0,
+    }
+}
+
+fn put(updates: &mut Updates, offset: u64, generation: Option<u32>) -> Result<(), AllocError> {
+    let value = match generation {
+        None => None,
+        Some(generation) => Some(Value::Live(Live {
+            blocks: 1,
+            generation,
+        })),
+    };
+    updates.push(Update {
+        btree: Btree::Alloc,
+        level: 0,
+        pos: at(offset),
+        value,
+    })?;
+    Ok(())
+}
+
+fn next(seed: u64) -> u64 {
+    seed.wrapping_mul(6_364_136_223_846_793_005)
+        .wrapping_add(1_442_695_040_888_963_407)
+}
+
+// One or two updates of the first eight positions.
+fn random_updates(alloc: Global, seed: u64) -> Result<Updates, AllocError> {
+    let mut updates = Updates::new(alloc);
+    let generation = (seed >> 24 & 255) as u32;
+    put(&mut updates, seed >> 40 & 7, Some(generation))?;
+    if seed >> 43 & 1 == 1 {
+        put(&mut updates, seed >> 44 & 7, None)?;
+    }
+    Ok(updates)
+}
+
+fn random_look(seed: u64) -> Event {
+    let pos = at(seed >> 40 & 7);
+    let btree = Btree::Alloc;
+    Event::Look(match seed >> 43 & 3 {
+        0 => Query::Starting { btree, pos },
+        1 => Query::Span {
+            btree,
+            first: at(2),
+            last: pos,
+        },
+        _ => Query::At { btree, pos },
+    })
+}
+
+fn random_event(alloc: Global, seed: u64) -> Result<Event, AllocError> {
+    let flag = seed >> 39 & 1 == 1;
+    Ok(match seed >> 33 & 15 {
+        0 | 1 | 2 => Event::Begin { first: flag },
+        3 | 4 | 5 | 6 => random_look(seed),
+        7 => Event::LookIds,
+        8 | 9 | 10 => Event::Intend(random_updates(alloc, seed)?),
+        11 | 12 => Event::Commit { counted: flag },
+        13 => Event::Finish,
+        14 => Event::Drop,
+        _ => Event::Next(Work::Journal),
+    })
+}
+
+fn code_of_key(value: &Option<Value>) -> u64 {
+    match value {
+        Some(Value::Live(live)) => u64::from(live.generation),
+        _ => 1000,
+    }
+}
+
+// A number for the keys that were found, in their order.
+fn code_of_keys(keys: &Keys) -> u64 {
+    let mut code = 100;
+    for key in keys.iter() {
+        code = next(code ^ key.pos.offset << 32 ^ code_of_key(&key.value));
+    }
+    code
+}
+
+fn code_of_stage(stage: Stage) -> u64 {
+    match stage {
+        Stage::Rest => 0,
+        Stage::Seal => 1,
+    }
+}
+
+// A number for an answer.
+fn code_of(answer: &Answer) -> u64 {
+    match answer {
+        Answer::Done => 1,
+        Answer::Found(keys) => code_of_keys(keys),
+        Answer::Ids(_) => 2,
+        Answer::At { stage, durable } => {
+            if *durable {
+                code_of_stage(*stage).saturating_add(10)
+            } else {
+                code_of_stage(*stage).saturating_add(20)
+            }
+        }
+        Answer::Wait { holder } => 30 + u64::from(*holder),
+        Answer::Refused(_) => 3,
+        Answer::NoMemory => 4,
+    }
+}
+
+// What an event is answered, if it fits.
+fn step(memory: &mut Memory, actor: u8, event: Event) -> Option<Answer> {
+    if !memory.may(actor, &event) {
+        return None;
+    }
+    Some(memory.step(actor, event))
+}
+
+// What a random event of one of four actors is answered, as a number: 0 where it doesn't fit.
+fn random_step(alloc: Global, memory: &mut Memory, seed: u64) -> Result<u64, AllocError> {
+    let event = random_event(alloc, seed)?;
+    Ok(match step(memory, (seed >> 50 & 3) as u8, event) {
+        None => 0,
+        Some(answer) => code_of(&answer),
+    })
+}
+
+// Another program, with a dictionary in place of btrees, has the same numbers for 2,000 events, of which 36 are commits,
+// and 275 wait for another actor.
+#[test]
+fn random_events(rt: HostRuntime) -> Result<(), Fail> {
+    let alloc = rt.alloc();
+    let Some(mut memory) = open(alloc, FRESH)? else {
+        assert!(rt; false);
+        return Ok(());
+    };
+    let mut seed = 1;
+    let mut sum = 0;
+    for _ in 0..2_000 {
+        seed = next(seed);
+        sum = next(sum ^ random_step(alloc, &mut memory, seed)?);
+    }
+    assert_eq!(rt; sum, 11_180_462_962_821_810_847);
+    Ok(())
+}
+
+// What an actor is answered whose operation commits updates that put so many keys.
+fn commit(
+    alloc: Global,
+    memory: &mut Memory,
+    keys: u64,
+    counted: bool,
+) -> Result<Option<Answer>, AllocError> {
+    let mut updates = Updates::new(alloc);
+    for offset in 0..keys {
+        put(&mut updates, offset, Some(1))?;
+    }
+    step(memory, 0, Event::Begin { first: true });
+    step(memory, 0, Event::Intend(updates));
+    Ok(step(memory, 0, Event::Commit { counted }))
+}
+
+// Why a first commit is refused that puts so many keys, if it is.
+fn refusal(
+    alloc: Global,
+    opening: Opening,
+    keys: u64,
+    counted: bool,
+) -> Result<Option<Refusal>, AllocError> {
+    let Some(mut memory) = open(alloc, opening)? else {
+        return Ok(None);
+    };
+    match commit(alloc, &mut memory, keys, counted)? {
+        Some(Answer::Refused(refusal)) => Ok(Some(refusal)),
+        _ => Ok(None),
+    }
+}
+
+// 171 bytes of the entry's only block stand before its keys, and each of these takes 28. Of 256 blocks 64 are kept: 191 up to the last
+// entry, and the open one's, leave no other.
+#[test]
+fn ring(rt: HostRuntime) -> Result<(), Fail> {
+    let alloc = rt.alloc();
+    let full = Refusal::RingFull(RingFull { left: 64, need: 1 });
+    let at_end = Opening { end: 191, ..FRESH };
+    let before_end = Opening { end: 190, ..FRESH };
+    assert!(rt; refusal(alloc, at_end, 135, true)?.is_none());
+    assert!(rt; refusal(alloc, at_end, 136, true)? == Some(full));
+    assert!(rt; refusal(alloc, before_end, 136, true)?.is_none());
+    Ok(())
+}
+
+// 56 bytes of a leaf stand before its keys, and each of these takes 26: 1,829 take 47,610 of 47,616.
+#[test]
+fn leaf(rt: HostRuntime) -> Result<(), Fail> {
+    let alloc = rt.alloc();
+    let need = Refusal::NeedSplit(NeedSplit {
+        node: 5,
+        size: 47_636,
+        at: at(914),
+    });
+    assert!(rt; refusal(alloc, FRESH, 1_829, true)?.is_none());
+    assert!(rt; refusal(alloc, FRESH, 1_830, true)? == Some(need));
+    Ok(())
+}
+
+// One leaf is marked by the commit, and four buckets are kept beside it. Nine levels hold back 22.
+#[test]
+fn buckets(rt: HostRuntime) -> Result<(), Fail> {
+    let alloc = rt.alloc();
+    let none = Refusal::NoSpace(NoSpace {
+        short: Short {
+            need: 0,
+            free: Counts::from_slice(alloc, &[4])?,
+            held: Counts::from_slice(alloc, &[22])?,
+        },
+        idle: true,
+        changes: 0,
+    });
+    let five = Opening { nodes: 42, ..FRESH };
+    let four = Opening { nodes: 43, ..FRESH };
+    assert!(rt; refusal(alloc, five, 1, true)?.is_none());
+    assert!(rt; refusal(alloc, four, 1, true)? == Some(none));
+    Ok(())
+}
+
+// The last sequence, the last count of commits, and the last journal block. A leaf that has to be split is told before.
+#[test]
+fn numbers(rt: HostRuntime) -> Result<(), Fail> {
+    let alloc = rt.alloc();
+    let last = u64::MAX;
+    let table = [
+        (
+            Opening {
+                sequence: last - 1,
+                ..FRESH
+            },
+            true,
+            false,
+        ),
+        (
+            Opening {
+                sequence: last,
+                ..FRESH
+            },
+            true,
+            true,
+        ),
+        (
+            Opening {
+                commits: last,
+                ..FRESH
+            },
+            false,
+            false,
+        ),
+        (
+            Opening {
+                commits: last,
+                ..FRESH
+            },
+            true,
+            true,
+        ),
+        (
+            Opening {
+                number: last - 2,
+                end: last - 1,
+                ..FRESH
+            },
+            true,
+            false,
+        ),
+        (
+            Opening {
+                number: last - 1,
+                end: last,
+                ..FRESH
+            },
+            true,
+            true,
+        ),
+    ];
+    let last_of_all = Opening {
+        sequence: last,
+        ..FRESH
+    };
+    let split = refusal(alloc, last_of_all, 1_830, true)?;
+    assert!(rt; matches!(split, Some(Refusal::NeedSplit(_))));
+    for (opening, counted, is_spent) in table {
+        let refusal = refusal(alloc, opening, 1, counted)?;
+        assert_eq!(rt; refusal == Some(Refusal::Spent), is_spent);
+        assert_eq!(rt; refusal.is_none(), !is_spent);
+    }
+    Ok(())
+}
+
+// A session that has stopped writing answers looks, and no commit.
+#[test]
+fn halted(rt: HostRuntime) -> Result<(), Fail> {
+    let alloc = rt.alloc();
+    let Some(mut memory) = open(alloc, FRESH)? else {
+        assert!(rt; false);
+        return Ok(());
+    };
+    memory.halt(Halt { dev: 0, tick: 9 });
+    memory.halt(Halt { dev: 0, tick: 11 });
+    let answer = commit(alloc, &mut memory, 1, true)?;
+    assert!(rt;
+        matches!(
+            answer,
+            Some(Answer::Refused(Refusal::Halted(Halt { dev: 0, tick: 9 })))
+        )
+    );
+    let look = step(&mut memory, 0, random_look(0));
+    assert!(rt; matches!(look, Some(Answer::Found(_))));
+    assert!(rt; memory.actor(0).failure == Some(Failure::Halted { dev: 0, tick: 9 }));
+    Ok(())
+}
