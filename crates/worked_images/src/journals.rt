@@ -2,7 +2,7 @@
 //! by a second reader in Python that was written by the tables of the format.
 
 use crate::bytes::{Change, EntryOf};
-use crate::found::{Found, find};
+use crate::found::{Both, Found, find};
 use crate::images::{EVERYWHERE, Stands, formatted, put_entry};
 use image_view::MountFault;
 use std::alloc::{AllocError, Global};
@@ -99,11 +99,7 @@ fn updates_of(alloc: Global, written: &Written) -> Result<Vec<(u8, Change)>, All
 }
 
 // What is found on so many devices behind the first entry of a format.
-fn found_with(
-    alloc: Global,
-    devices: u8,
-    entries: &[Written],
-) -> Result<Result<Found, MountFault>, Fail> {
+fn found_with(alloc: Global, devices: u8, entries: &[Written]) -> Result<Both, Fail> {
     let mut made = formatted(alloc, devices)?;
     for written in entries {
         let updates = updates_of(alloc, written)?;
@@ -194,7 +190,9 @@ fn entries_of_one_device(rt: HostRuntime) -> Result<(), Fail> {
         ),
     ];
     for (at, (entries, expected)) in cases.iter().enumerate() {
-        assert_eq!(rt; found_with(alloc, 1, entries)?, *expected, "case {at}");
+        let (read, loaded) = found_with(alloc, 1, entries)?;
+        assert_eq!(rt; read, *expected, "case {at}");
+        assert_eq!(rt; loaded, *expected, "case {at}, loaded");
     }
     Ok(())
 }
@@ -245,7 +243,9 @@ fn entries_of_two_mirrors(rt: HostRuntime) -> Result<(), Fail> {
         ),
     ];
     for (at, (entries, expected)) in cases.iter().enumerate() {
-        assert_eq!(rt; found_with(alloc, 2, entries)?, *expected, "case {at}");
+        let (read, loaded) = found_with(alloc, 2, entries)?;
+        assert_eq!(rt; read, *expected, "case {at}");
+        assert_eq!(rt; loaded, *expected, "case {at}, loaded");
     }
     Ok(())
 }

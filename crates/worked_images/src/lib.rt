@@ -1,4 +1,4 @@
-//! Images of volumes that are made by hand, block by block, and what the plain reader finds in them or refuses: entries that are
+//! Images of volumes that are made by hand, block by block, and what `read_plain` and `load` find in them or refuse: entries that are
 //! torn, that stand on one mirror alone or that wrap around the ring, and nodes of one and of two levels. The crate holds tests
 //! alone.
 #![tactic(auto)]

@@ -1,6 +1,6 @@
 //! Blocks of a volume on two mirrors that were lost.
 
-use crate::found::{Found, find};
+use crate::found::{Both, Found, find};
 use crate::images::{formatted, wipe};
 use image_view::MountFault;
 use std::alloc::Global;
@@ -8,7 +8,7 @@ use std::test::Fail;
 use vol_types::Place;
 
 // What is found where these blocks are zero.
-fn found_without(alloc: Global, lost: &[(u8, u32)]) -> Result<Result<Found, MountFault>, Fail> {
+fn found_without(alloc: Global, lost: &[(u8, u32)]) -> Result<Both, Fail> {
     let mut devices = formatted(alloc, 2)?;
     for (dev, block) in lost {
         wipe(alloc, &mut devices, *dev, *block)?;
@@ -45,7 +45,9 @@ fn blocks_that_were_lost(rt: HostRuntime) -> Result<(), Fail> {
         ([(1, 400), (0, 272)], empty(2)),
         ([(0, 400), (1, 400)], Err(bad)),
     ] {
-        assert_eq!(rt; found_without(alloc, &lost)?, expected, "{lost:?}");
+        let (read, loaded) = found_without(alloc, &lost)?;
+        assert_eq!(rt; read, expected, "{lost:?}");
+        assert_eq!(rt; loaded, expected, "{lost:?}, loaded");
     }
     Ok(())
 }

@@ -2,7 +2,7 @@
 //! worked out by hand, and by a second reader in Python that was written by the tables of the format.
 
 use crate::bytes::{Change, EntryOf, SetOf, pos_at};
-use crate::found::{Found, find};
+use crate::found::{Both, Found, find};
 use crate::images::{EVERYWHERE, FIRST, formatted, put_entry, put_set};
 use image_view::MountFault;
 use std::alloc::Global;
@@ -91,7 +91,7 @@ fn found_with(
     sets: &[Written],
     level: u8,
     updates: &[(u8, Change)],
-) -> Result<Result<Found, MountFault>, Fail> {
+) -> Result<Both, Fail> {
     let mut made = formatted(alloc, 1)?;
     for written in sets {
         put_set(alloc, &mut made, written.bucket, written.n, &written.set)?;
@@ -159,8 +159,9 @@ fn btrees_of_one_level(rt: HostRuntime) -> Result<(), Fail> {
         ([few, root(1, 1, &[])], none, bad_at(401)),
     ];
     for (at, (sets, updates, expected)) in cases.iter().enumerate() {
-        let given = found_with(alloc, sets, 0, updates)?;
-        assert_eq!(rt; given, *expected, "case {at}");
+        let (read, loaded) = found_with(alloc, sets, 0, updates)?;
+        assert_eq!(rt; read, *expected, "case {at}");
+        assert_eq!(rt; loaded, *expected, "case {at}, loaded");
     }
     Ok(())
 }
@@ -233,8 +234,9 @@ fn btrees_of_two_levels(rt: HostRuntime) -> Result<(), Fail> {
         ([root(0, 0, FEW), leaf, last], none, bad_at(400)),
     ];
     for (at, (sets, updates, expected)) in cases.iter().enumerate() {
-        let given = found_with(alloc, sets, 1, updates)?;
-        assert_eq!(rt; given, *expected, "case {at}");
+        let (read, loaded) = found_with(alloc, sets, 1, updates)?;
+        assert_eq!(rt; read, *expected, "case {at}");
+        assert_eq!(rt; loaded, *expected, "case {at}, loaded");
     }
     Ok(())
 }
