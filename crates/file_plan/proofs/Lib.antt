@@ -1,0 +1,12 @@
+pub mod Io
+pub mod Looked
+pub mod Giving
+pub mod Written
+pub mod Fresh
+pub mod Taking
+pub mod Bytes
+pub mod Putting
+pub mod Losing
+pub mod Sound
+pub mod Overlaying
+pub mod Ending

@@ -1,0 +1,6 @@
+pub mod BlockIo
+pub mod Sizes
+pub mod Runs
+pub mod Ends
+pub mod Content
+pub mod Writes

@@ -1,0 +1,334 @@
+//! A file that is written, cut and grown in a snapshot and beside it, with what each id shows worked by hand.
+
+ghost use Rattle.std.specs.Prelude.{◌≡◌, ◌≤◌, ◌<◌, ◌^◌, All, IfOk, length};
+ghost use Rattle.snap_tree.specs.Snaps.{IsSnapKey};
+
+use super::*;
+use key_view::{Hold, PlainKeys, View};
+use snap_tree::SnapTree;
+use std::alloc::{AllocError, Global};
+use std::collections::BTreeMap;
+use std::sync::Arc;
+use std::test::Fail;
+use vol_types::{Bytes, Duplicate, Key, Keys, Pos, Snap, SnapState, Update, Updates, Value};
+
+/// The id of the first writes, and those of a snapshot of it: the one of the source, and the one of the copy.
+const OLD: u32 = 90;
+
+const SOURCE: u32 = 80;
+
+const COPY: u32 = 70;
+
+/// The number of the file.
+const NUMBER: u64 = 2;
+
+fn snap_key(id: u32, parent: u32) -> Key
+    ensures { IsSnapKey result }
+{
+    Key {
+        pos: Pos {
+            inode: 0,
+            offset: u64::from(id),
+            snapshot: 0,
+        },
+        value: Some(Value::Snap(Snap {
+            parent,
+            first_child: 0,
+            second_child: 0,
+            state: SnapState::Interior,
+        })),
+    }
+}
+
+fn snap_keys(alloc: Global) -> Result<Keys, AllocError>
+    ensures { IfOk result (All IsSnapKey) }
+{
+    let mut keys = Keys::new(alloc);
+    for (id, parent) in [(OLD, 0), (SOURCE, OLD), (COPY, OLD)] {
+        keys.push(snap_key(id, parent))?;
+    }
+    Ok(keys)
+}
+
+/// The extents and holes of the file, and the blocks in memory.
+#[derive(Drop)]
+struct Disk {
+    keys: BTreeMap<Pos, Value>,
+    blocks: BTreeMap<u32, Bytes>,
+    next: u32,
+}
+
+fn copied(alloc: Global, map: &BTreeMap<Pos, Value>) -> Result<BTreeMap<Pos, Value>, AllocError> {
+    let mut copy = BTreeMap::new(alloc);
+    for (pos, value) in map {
+        copy.insert(*pos, value.copy(alloc)?)?;
+    }
+    Ok(copy)
+}
+
+// A view of the disk, which has the blocks from then on.
+fn view_of(alloc: Global, disk: &mut Disk) -> Result<PlainContents, Fail> {
+    let mut keys = PlainKeys::new(alloc);
+    keys.extents = copied(alloc, &disk.keys)?;
+    let tree = Arc::new(alloc, SnapTree::of(alloc, &snap_keys(alloc)?)?)?;
+    let blocks = std::mem::replace(&mut disk.blocks, BTreeMap::new(alloc));
+    Ok(PlainContents::new(alloc, keys, tree, blocks, disk.next))
+}
+
+fn apply(disk: &mut Disk, view: PlainContents, updates: Updates) -> Result<(), AllocError> {
+    let (blocks, next) = view.into_blocks();
+    disk.blocks = blocks;
+    disk.next = next;
+    for update in Vec::from(updates) {
+        let Update { pos, value, .. } = update;
+        match value {
+            None => {
+                disk.keys.remove(&pos);
+            }
+            Some(value) => {
+                disk.keys.insert(pos, value)?;
+            }
+        }
+    }
+    Ok(())
+}
+
+// Puts blocks of the file in an id, from a first one on, and the block of its end before them where it is to be written anew.
+fn put(
+    alloc: Global,
+    view: &mut PlainContents,
+    tree: &SnapTree,
+    id: u32,
+    size: u64,
+    first: u64,
+    blocks: &[Bytes],
+) -> Result<Updates, Hold>
+    requires sizes { All (λ bytes. length bytes ≡ 4096) blocks.now }
+    requires few { length blocks.now ≤ 2 }
+    requires near { first < 2 ^ 60 }
+{
+    let mut run = write_run(alloc, view, id, NUMBER, first, blocks)?;
+    if first <= size / 4096 {
+        return put_extents(alloc, view, tree, id, size, first, run);
+    }
+    let mut extents = write_end(alloc, view, tree, id, NUMBER, size)?;
+    extents.append(&mut run)?;
+    put_extents(alloc, view, tree, id, size, size / 4096, extents)
+}
+
+fn put_extents(
+    alloc: Global,
+    view: &mut PlainContents,
+    tree: &SnapTree,
+    id: u32,
+    size: u64,
+    first: u64,
+    extents: Keys,
+) -> Result<Updates, Hold> {
+    let change = Change::Put { first, extents };
+    content(alloc, view, tree, id, NUMBER, size, &change)
+}
+
+// A truncation of the file in an id, after which its old end is put where it grows.
+fn cut(
+    alloc: Global,
+    view: &mut PlainContents,
+    tree: &SnapTree,
+    id: u32,
+    size: u64,
+    new: u64,
+) -> Result<Updates, Hold> {
+    if new <= size {
+        return content(alloc, view, tree, id, NUMBER, size, &Change::Cut { new });
+    }
+    let end = write_end(alloc, view, tree, id, NUMBER, size)?;
+    put_extents(alloc, view, tree, id, size, size / 4096, end)
+}
+
+// Writes two bytes at an offset of the file in an id, in one run with the block of its end where that is the one before them and
+// is to be written anew.
+fn write(
+    alloc: Global,
+    view: &mut PlainContents,
+    tree: &SnapTree,
+    id: u32,
+    size: u64,
+    offset: u64,
+    bytes: [u8; 2],
+) -> Result<Updates, Hold>
+    requires { offset ≤ 16777216 }
+{
+    let first = offset / 4096;
+    let block = block_after(alloc, view, tree, id, NUMBER, size, first, offset, &bytes)?;
+    if size / 4096 + 1 != first {
+        return put(alloc, view, tree, id, size, first, &[block]);
+    }
+    let Some(end) = end_block(alloc, view, tree, id, NUMBER, size)? else {
+        return put(alloc, view, tree, id, size, first, &[block]);
+    };
+    put(alloc, view, tree, id, size, size / 4096, &[end, block])
+}
+
+/// A change of the file in an id, where it has this size: two bytes at an offset, in one block, or a truncation.
+#[derive(Clone, Copy, Debug, PartialEq, Eq)]
+enum Step {
+    Write {
+        id: u32,
+        size: u64,
+        offset: u64,
+        bytes: [u8; 2],
+    },
+    Cut {
+        id: u32,
+        size: u64,
+        new: u64,
+    },
+}
+
+fn take(alloc: Global, disk: &mut Disk, step: Step) -> Result<(), Fail> {
+    let mut view = view_of(alloc, disk)?;
+    let tree = view.tree()?;
+    let updates = match step {
+        Step::Write {
+            id,
+            size,
+            offset,
+            bytes,
+        } => {
+            if offset > 16_777_216 {
+                return Err(Fail::from("the file is too long"));
+            }
+            write(alloc, &mut view, &tree, id, size, offset, bytes)?
+        }
+        Step::Cut { id, size, new } => cut(alloc, &mut view, &tree, id, size, new)?,
+    };
+    apply(disk, view, updates)?;
+    Ok(())
+}
+
+/// The first two bytes of a block, if it shows.
+fn head_of(block: Option<Bytes>) -> Option<(u8, u8)> {
+    let block = block?;
+    Some((*block.get(0)?, *block.get(1)?))
+}
+
+/// What an id shows of the first three blocks.
+fn heads(alloc: Global, disk: &mut Disk, id: u32) -> Result<[Option<(u8, u8)>; 3], Fail> {
+    let mut view = view_of(alloc, disk)?;
+    let tree = view.tree()?;
+    let first = head_of(shown_block(alloc, &mut view, &tree, id, NUMBER, 0)?);
+    let second = head_of(shown_block(alloc, &mut view, &tree, id, NUMBER, 1)?);
+    let third = head_of(shown_block(alloc, &mut view, &tree, id, NUMBER, 2)?);
+    let (blocks, _) = view.into_blocks();
+    disk.blocks = blocks;
+    Ok([first, second, third])
+}
+
+// How many of the keys are extents, and how many are holes.
+fn counts(disk: &Disk) -> (u32, u32) {
+    let mut extents = 0u32;
+    let mut holes = 0u32;
+    for value in disk.keys.values() {
+        match value {
+            Value::Extent(_) => extents = extents.saturating_add(1),
+            _ => holes = holes.saturating_add(1),
+        }
+    }
+    (extents, holes)
+}
+
+/// A file of `hi`, to whose second block `j` is written: its first block is written anew, in one extent with the second. Below a
+/// snapshot the copy is cut to one byte, and grows to two blocks: the source keeps what it shows.
+#[test]
+fn cut_and_grown_below_a_snapshot(rt: HostRuntime) -> Result<(), Fail> {
+    let alloc = rt.alloc();
+    let mut disk = Disk {
+        keys: BTreeMap::new(alloc),
+        blocks: BTreeMap::new(alloc),
+        next: 16,
+    };
+    let steps = [
+        Step::Write {
+            id: OLD,
+            size: 0,
+            offset: 0,
+            bytes: [0x68, 0x69],
+        },
+        Step::Write {
+            id: OLD,
+            size: 2,
+            offset: 4096,
+            bytes: [0x6a, 0],
+        },
+        Step::Cut {
+            id: COPY,
+            size: 4097,
+            new: 1,
+        },
+        Step::Cut {
+            id: COPY,
+            size: 1,
+            new: 8192,
+        },
+    ];
+    for step in steps {
+        take(alloc, &mut disk, step)?;
+    }
+    assert_eq!(rt;
+        heads(alloc, &mut disk, SOURCE)?,
+        [Some((0x68, 0x69)), Some((0x6a, 0)), None]
+    );
+    assert_eq!(rt;
+        heads(alloc, &mut disk, COPY)?,
+        [Some((0x68, 0)), None, None]
+    );
+    assert_eq!(rt; counts(&disk), (2, 1));
+    // Two blocks further on the end is an extent of its own.
+    take(
+        alloc,
+        &mut disk,
+        Step::Write {
+            id: SOURCE,
+            size: 4097,
+            offset: 12_288,
+            bytes: [1, 2],
+        },
+    )?;
+    assert_eq!(rt; counts(&disk), (4, 1));
+    // A byte is kept before two that are written over zeros.
+    take(
+        alloc,
+        &mut disk,
+        Step::Write {
+            id: COPY,
+            size: 8192,
+            offset: 1,
+            bytes: [3, 4],
+        },
+    )?;
+    assert_eq!(rt;
+        heads(alloc, &mut disk, COPY)?,
+        [Some((0x68, 3)), None, None]
+    );
+    Ok(())
+}
+
+/// Sizes after one truncation. 256 blocks are cut at most.
+const SIZES: [(u64, u64, u64); 8] = [
+    (16_777_216, 0, 15_728_640),
+    (16_777_216, 15_728_640, 15_728_640),
+    (1_048_576, 0, 0),
+    (1_048_577, 0, 4096),
+    (1_048_577, 1, 1),
+    (5, 5, 5),
+    (0, 16_777_216, 16_777_216),
+    (u64::MAX, 1, 18_446_744_073_708_503_040),
+];
+
+#[test]
+fn truncations_in_steps(rt: HostRuntime) -> Result<(), Fail> {
+    for (size, new, cut) in SIZES {
+        assert_eq!(rt; cut_size(size, new), cut);
+    }
+    Ok(())
+}
