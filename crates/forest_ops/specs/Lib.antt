@@ -1,0 +1,13 @@
+pub mod Refusals
+pub mod Tallies
+pub mod Walking
+pub mod Names
+pub mod Content
+pub mod Trees
+pub mod Places
+pub mod Subvolumes
+pub mod Steps
+pub mod Classes
+pub mod History
+pub mod HistoryLaws
+pub mod Laws

@@ -1,0 +1,13 @@
+pub mod OneName
+pub mod OneWord
+pub mod OneVerb
+pub mod OneLine
+pub mod OneScript
+pub mod TextCuts
+pub mod Behind
+pub mod Numbers
+pub mod NameReading
+pub mod PathCuts
+pub mod LineReading
+pub mod PrintedNames
+pub mod HexWords

@@ -1,0 +1,11 @@
+pub mod Lines
+pub mod Bytes
+pub mod Words
+pub mod Arguments
+pub mod Operations
+pub mod Verbs
+pub mod Faults
+pub mod Grammar
+pub mod Scripts
+pub mod Readings
+pub mod Replies
