@@ -35,7 +35,8 @@ pub(crate) struct Uncommitted {
 impl Volume {
     /// Makes updates, all or none: they come into the keys, and into the journal's open entry, which is closed first where it
     /// would pass 64 blocks with them. All memory is taken first; an `Err` changes nothing, and hands the updates back. It costs
-    /// some logarithms for each update, and for each id whose record they change, unless somebody shares the trees of ids: then these are made anew when they are asked for.
+    /// some logarithms for each update, and for each id whose record they change, unless somebody shares the trees of ids: then these
+    /// are made anew when they are asked for. Each node that becomes dirty moves at most 16 bytes for each that is dirty already.
     pub(crate) fn commit(
         &mut self,
         alloc: Global,

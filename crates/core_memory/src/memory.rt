@@ -83,7 +83,10 @@ impl Memory {
         self.volume.halt(halt);
     }
 
-    /// Makes an event of an actor. Looks take a logarithm, and what they find, twice; a commit some logarithms for each update.
+    /// Makes an event of an actor. Looks take a logarithm, and what they find, twice; a commit some logarithms for each update, and
+    /// each node that it makes dirty moves at most 16 bytes for each that is dirty already. A `LookIds` shares the trees of ids,
+    /// which it makes anew, going over all ids, where a commit couldn't change them in place.
+    ///
     /// `Begin`, `Intend`, `Finish`, `Drop` and `Next` take no memory.
     pub fn step(&mut self, actor: u8, event: Event) -> Answer
         requires { Fits self.old actor event }

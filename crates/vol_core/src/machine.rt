@@ -81,8 +81,8 @@ impl<D: Devices> Core<D> {
         self.memory.may(actor, event)
     }
 
-    /// Makes an event of an actor, and answers it. What other actors have under way stays. Looks take a logarithm, and what they
-    /// find, twice; a commit some logarithms for each update. `Begin`, `Intend`, `Finish`, `Drop` and `Next` take no memory.
+    /// Makes an event of an actor, and answers it. What other actors have under way stays. It costs what `Memory::step` does.
+    /// `Begin`, `Intend`, `Finish`, `Drop` and `Next` take no memory.
     pub fn step(&mut self, actor: u8, event: Event) -> Answer
         requires { Fits self.old.memory actor event }
         ensures gives { StepGives self.old actor event result self.new }
