@@ -1,3 +1,13 @@
 pub mod CrashNewest
 pub mod OtherSession
 pub mod MendedImages
+pub mod JoinedPuts
+pub mod NextPositions
+pub mod LevelUpdates
+pub mod LeafUpdates
+pub mod ChildEnds
+pub mod TreeUpdates
+pub mod ReadParts
+pub mod SetRanges
+pub mod NineRoots
+pub mod FoundUpdates

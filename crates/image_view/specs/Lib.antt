@@ -5,3 +5,5 @@ pub mod Bases
 pub mod BaseLaws
 pub mod CrashEntries
 pub mod Mends
+pub mod UpdatedTrees
+pub mod EntryUpdates

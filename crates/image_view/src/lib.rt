@@ -3,9 +3,11 @@
 #![tactic(auto)]
 
 mod fault;
+mod key_updates;
 mod laws;
 
 pub use fault::MountFault;
+pub use key_updates::updates_of_leaves_join_the_keys;
 pub use laws::{
     crashes_keep_what_was_found, images_mean_their_bases, mending_changes_nothing,
     sessions_change_nothing_else, whole_entries_are_held,
