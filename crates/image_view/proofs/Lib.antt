@@ -11,3 +11,9 @@ pub mod ReadParts
 pub mod SetRanges
 pub mod NineRoots
 pub mod FoundUpdates
+pub mod NeededEntries
+pub mod NextNewest
+pub mod NextFound
+pub mod NextBlocks
+pub mod NextImages
+pub mod NextInOrder

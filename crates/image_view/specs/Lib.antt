@@ -7,3 +7,4 @@ pub mod CrashEntries
 pub mod Mends
 pub mod UpdatedTrees
 pub mod EntryUpdates
+pub mod NextEntries

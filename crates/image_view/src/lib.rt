@@ -5,6 +5,7 @@
 mod fault;
 mod key_updates;
 mod laws;
+mod next_entry;
 
 pub use fault::MountFault;
 pub use key_updates::updates_of_leaves_join_the_keys;
@@ -12,3 +13,4 @@ pub use laws::{
     crashes_keep_what_was_found, images_mean_their_bases, mending_changes_nothing,
     sessions_change_nothing_else, whole_entries_are_held,
 };
+pub use next_entry::{crashes_leave_the_next_entry_or_not, written_entries_are_found};

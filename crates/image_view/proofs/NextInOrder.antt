@@ -1,0 +1,127 @@
+-- Once the next entry stands on every metadata device it is whole and the newest, and what is found with it is in order.
+use Rattle.std.proofs.Common.{◌≡◌, ◌⊎◌, inl, ⊎_elim, ℕ, ◌+◌, ◌*◌, ◌<◌, ◌≤◌, ◌^◌, List, [], ◌∷◌, ◌++◌, length, drop, get_or, Some, Ok, sym, ap, subst, ◌∙◌, arith}
+use Rattle.std.proofs.lemmas.List.Elements.{All-drop, All-from_get_or, All-push, All-weaker}
+use Rattle.std.specs.Prelude.{All, Contains}
+use Rattle.dev_model.specs.Disk.{Image}
+use Rattle.journal_ring.specs.Entries.{IsWholeOn, entry_on}
+use Rattle.journal_ring.specs.EntryBlocks.{AreEntryBlocks, HoldBlocks, parts_of}
+use Rattle.journal_ring.specs.Leading.{IsBehind}
+use Rattle.journal_ring.specs.Parts.{area_of}
+use Rattle.journal_ring.specs.declared.found.FoundEntry.{FoundEntry}
+use Rattle.record_codec.specs.declared.entries.EntryRecord.{EntryRecord}
+use Rattle.record_codec.specs.Entries.{IsEntry}
+use Rattle.sealed_block.specs.declared.heads.Head.{Head}
+use Rattle.vol_types.specs.declared.layout.Layout.{Layout}
+use Rattle.vol_types.specs.declared.pointers.NodeEnd.{NodeEnd}
+use Rattle.vol_types.specs.declared.pointers.NodePtr.{NodePtr}
+use Rattle.image_view.proofs.NeededEntries.{AreNeeded, are_needed, places_of, some_places}
+use Rattle.image_view.proofs.NextBlocks.{BlockLaws}
+use Rattle.image_view.proofs.NextImages.{ends_before, follow_kept, made_or_next, own_head, room_for, stood}
+use Rattle.image_view.proofs.NextNewest.{EachPasses, next_newest, still_there}
+use Rattle.image_view.proofs.OtherSession.{alike-same}
+use Rattle.image_view.specs.Bases.{AgreeOnBase, IsNewest}
+use Rattle.image_view.specs.Found.{FitTogether, FollowOn, Found, IsAlike, IsBelowRoots, IsInOrder, IsMirrored, PassesNone, found}
+use Rattle.image_view.specs.NextEntries.{IsNext, IsToldApart, IsWritten, with_entry}
+use Rattle.image_view.specs.Trees.{TreesRead, nodes_of}
+
+-- What is said of an entry whose blocks stand everywhere: it is whole.
+abbrev pub StandWhole : Type 0
+StandWhole = (layout : Layout) (image : Image) (number : ℕ) (entry : EntryRecord) (blocks : List (List ℕ)) → IsEntry entry → number + parts_of entry < 2 ^ 64 → AreEntryBlocks layout.id number entry blocks
+    → HoldBlocks layout.metadata_replicas layout.journal number blocks (length blocks) image → (dev : ℕ) → dev < layout.metadata_replicas → entry_on layout (area_of image) dev number ≡ Some (record { number = number; end = number + parts_of entry; entry = entry })
+
+-- Entries that were found fit together with the next one, where that has room.
+fit_push : (layout : Layout) (entries : List FoundEntry) (next : FoundEntry) → FitTogether layout entries → All (λ (x : FoundEntry). next.end ≤ x.number + layout.journal) entries → All (λ (x : FoundEntry). x.end ≤ next.number) entries → next.end ≤ next.number + layout.journal
+    → FitTogether layout (entries ++ next ∷ [])
+fit_push layout entries next fit room before own = All-push (λ (one : FoundEntry). All (λ (other : FoundEntry). other.end ≤ one.number + layout.journal) (entries ++ next ∷ [])) entries next
+    (λ k d lower. All-push (λ (other : FoundEntry). other.end ≤ (get_or entries k d).number + layout.journal) entries next (fit k d lower) (room k d lower))
+    (All-push (λ (other : FoundEntry). other.end ≤ next.number + layout.journal) entries next (All-weaker (λ (x : FoundEntry). x.end ≤ next.number) (λ (x : FoundEntry). x.end ≤ next.number + layout.journal) (λ x less. omega (arith, less)) entries before) own)
+
+-- So do those that are left of them.
+fit_drop : (layout : Layout) (n : ℕ) (entries : List FoundEntry) → FitTogether layout entries → FitTogether layout (drop n entries)
+fit_drop layout n entries fit = All-weaker (λ (one : FoundEntry). All (λ (other : FoundEntry). other.end ≤ one.number + layout.journal) entries) (λ (one : FoundEntry). All (λ (other : FoundEntry). other.end ≤ one.number + layout.journal) (drop n entries))
+    (λ one all. All-drop (λ (other : FoundEntry). other.end ≤ one.number + layout.journal) n entries all) (drop n entries) (All-drop (λ (one : FoundEntry). All (λ (other : FoundEntry). other.end ≤ one.number + layout.journal) entries) n entries fit)
+
+-- The entry is whole, from whichever device its part 0 is taken.
+pub whole_on : StandWhole → (one other : Image) (f : Found) (passed : ℕ) (next : FoundEntry) (blocks : List (List ℕ)) → IsNext f passed next → IsWritten f.layout next blocks one other → (dev : ℕ) → dev < f.layout.metadata_replicas → IsWholeOn f.layout (area_of other) dev next
+whole_on stand one other f passed next blocks is_next written dev mirror =
+    let ends = is_next.end in
+    let fits = is_next.end_fits in
+    let here : ◌≡◌ {A = FoundEntry} (record { number = next.number; end = next.number + parts_of next.entry; entry = next.entry }) next = λ i. record { number = next.number; end = (sym ends) i; entry = next.entry } in
+    record {
+      mirror = mirror;
+      whole = stand f.layout other next.number next.entry blocks is_next.entry (omega (arith, ends, fits)) written.sealed written.stands dev mirror ∙ ap (λ (x : FoundEntry). Some x) here;
+    }
+
+-- It is the newest, where each whole entry passes none that was found, or is it.
+pub newest_written : BlockLaws → StandWhole → (one other : Image) (f : Found) (passed : ℕ) (next : FoundEntry) (blocks : List (List ℕ)) (trees : TreesRead) → found one ≡ Ok f → IsNext f passed next → AgreeOnBase f one other → IsWritten f.layout next blocks one other
+    → EachPasses f next (area_of other) → IsNewest (with_entry passed next trees f) other
+newest_written laws stand one other f passed next blocks trees is is_next agree written each =
+    let mirrored = (places_of laws.newest.read one f is).mirrored in
+    next_newest laws.newest f passed next is_next (are_needed laws.newest.read one f is) (some_places laws.newest.read one f is) other each (0, whole_on stand one other f passed next blocks is_next written 0 (omega (arith, mirrored)))
+    (λ k from lower. still_there laws.newest one other f is agree k lower) trees
+
+module _ (laws : BlockLaws) (one : Image) (f : Found) (is : found one ≡ Ok f) (order : IsInOrder f one) (passed : ℕ) (next : FoundEntry) (is_next : IsNext f passed next) (blocks : List (List ℕ)) (other : Image)
+    (agree : AgreeOnBase f one other) (written : IsWritten f.layout next blocks one other) where
+  needed : AreNeeded f
+  needed = are_needed laws.newest.read one f is
+
+  some : 0 < f.layout.journal
+  some = some_places laws.newest.read one f is
+
+  -- What passes none that was found, or is the next entry, passes none that is found with it.
+  passes_with : (trees : TreesRead) (x : FoundEntry) → PassesNone f x ⊎ (x ≡ next) → PassesNone (with_entry passed next trees f) x
+  passes_with trees x passes = ⊎_elim
+      (λ (none : PassesNone f x).
+      let least = none.sequence in
+      let later = is_next.sequence in
+      record {
+        sequence = omega (arith, least, later);
+        behind = All-push (λ (needed : FoundEntry). x.entry.sequence ≡ needed.entry.sequence → IsBehind x needed) (drop passed f.needed) next
+            (All-drop (λ (needed : FoundEntry). x.entry.sequence ≡ needed.entry.sequence → IsBehind x needed) passed f.needed none.behind)
+            (λ named. absurd (omega (arith, least, later, named)));
+      })
+      (λ (same : x ≡ next).
+      let named : x.entry.sequence ≡ next.entry.sequence = ap (λ (e : FoundEntry). e.entry.sequence) same in
+      record {
+        sequence = omega (arith, named);
+        behind = All-push (λ (needed : FoundEntry). x.entry.sequence ≡ needed.entry.sequence → IsBehind x needed) (drop passed f.needed) next
+            (All-drop (λ (needed : FoundEntry). x.entry.sequence ≡ needed.entry.sequence → IsBehind x needed) passed f.needed
+            (All-from_get_or (λ (needed : FoundEntry). x.entry.sequence ≡ needed.entry.sequence → IsBehind x needed) f.needed f.last (λ k lower at. absurd (not_needed k lower (sym named ∙ at)))))
+            (λ at. inl same);
+      })
+      passes
+    where
+      not_needed : (k : ℕ) → k < length f.needed → next.entry.sequence ≡ (get_or f.needed k f.last).entry.sequence → ⊥
+      not_needed k lower same =
+          let at = needed.sequences k f.last lower in
+          let count = needed.count in
+          let oldest = needed.oldest in
+          let later = is_next.sequence in
+          omega (arith, at, count, oldest, later, same, lower)
+
+  -- What is found with it is in order.
+  pub in_order_written : IsToldApart f (area_of one) blocks → (trees : TreesRead) → trees.nodes ≡ f.trees.nodes → trees.ends ≡ f.trees.ends → IsInOrder (with_entry passed next trees f) other
+  in_order_written told trees nodes ends = record {
+    entries = subst (λ (xs : List FoundEntry). FollowOn (drop passed xs ++ next ∷ [])) (sym needed.are) (follow_kept passed needed.before f.last next (subst FollowOn needed.are order.entries) is_next.number);
+    fits = fit_push f.layout (drop passed f.needed) next (fit_drop f.layout passed f.needed order.fits)
+        (All-drop (λ (x : FoundEntry). next.end ≤ x.number + f.layout.journal) passed f.needed (All-from_get_or (λ (x : FoundEntry). next.end ≤ x.number + f.layout.journal) f.needed f.last (room_for laws one f is order passed next is_next)))
+        (All-drop (λ (x : FoundEntry). x.end ≤ next.number) passed f.needed (All-from_get_or (λ (x : FoundEntry). x.end ≤ next.number) f.needed f.last (ends_before laws one f is order passed next is_next)))
+        (let few = is_next.parts in let end = is_next.end in let wide = (places_of laws.newest.read one f is).least in omega (arith, few, end, wide));
+    others = λ x parts made. passes_with trees x (made_or_next laws f some passed next is_next blocks one other written order told x parts made);
+    owners = λ dev place bytes head mirror within stands opens kind id. ⊎_elim
+        (λ (old : area_of one dev place ≡ Some bytes). order.owners dev place bytes head mirror within old opens kind id)
+        (λ (own : (p : ℕ) × (p < length blocks) × (bytes ≡ get_or blocks p [])).
+        let here : head.owner ≡ next.entry.session = ap (λ (h : Head). h.owner) (own_head laws f some passed next is_next blocks one other written bytes head own.0 own.1 own.2 opens) in
+        let session = is_next.session in
+        omega (arith, here, session))
+        (stood laws f some passed next is_next blocks one other written dev place bytes mirror within stands);
+    levels = All-push (λ (x : FoundEntry). IsBelowRoots x.entry) (drop passed f.needed) next (All-drop (λ (x : FoundEntry). IsBelowRoots x.entry) passed f.needed order.levels) is_next.levels;
+    places = subst (λ ns. All (IsMirrored f.layout) (nodes_of ns)) (sym nodes) order.places;
+    copies = subst (λ ns. All (IsAlike (with_entry passed next trees f) other) (nodes_of ns)) (sym nodes) alike;
+    births = subst (λ ns. All (λ (node : NodePtr). node.birth < (f.session + 1) * 2 ^ 32) (nodes_of ns)) (sym nodes) order.births;
+  }
+    where
+      alike : All (IsAlike (with_entry passed next trees f) other) (nodes_of f.trees.nodes)
+      alike = All-weaker (IsAlike f other) (IsAlike (with_entry passed next trees f) other)
+          (λ node same end is_end birth. same end (subst (λ (es : List NodeEnd). Contains es end) ends is_end) birth) (nodes_of f.trees.nodes)
+          (alike-same f one other (nodes_of f.trees.nodes) agree.nodes order.copies)
