@@ -15,5 +15,8 @@ pub mod NeededEntries
 pub mod NextNewest
 pub mod NextFound
 pub mod NextBlocks
-pub mod NextImages
+pub mod MadeWhole
+pub mod NextBase
+pub mod NextStands
 pub mod NextInOrder
+pub mod NextCrashes

@@ -34,6 +34,7 @@ pub record BlockLaws : Type 0 where
   pub head : (block : List ℕ) (h : Head) (payload : List ℕ) → Opens block h payload → opened block ≡ Some h
   pub payload : (block : List ℕ) (h : Head) (payload : List ℕ) → Opens block h payload → payload_in block ≡ payload
   pub made_sealed : (layout : Layout) (area : Area) (found : FoundEntry) (blocks : List (List ℕ)) → IsMadeOf layout area found blocks → AreEntryBlocks layout.id found.number found.entry blocks
+  pub one_sealed : (id : List ℕ) (number : ℕ) (entry : EntryRecord) (one other : List (List ℕ)) → AreEntryBlocks id number entry one → AreEntryBlocks id number entry other → one ≡ other
   pub so_long : (entry : EntryRecord) → length (entry_format.encode entry) ≡ entry_length_of entry.roots entry.updates
 
 -- ---- the record of an entry

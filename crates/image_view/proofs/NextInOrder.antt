@@ -3,25 +3,25 @@ use Rattle.std.proofs.Common.{◌≡◌, ◌⊎◌, inl, ⊎_elim, ℕ, ◌+◌,
 use Rattle.std.proofs.lemmas.List.Elements.{All-drop, All-from_get_or, All-push, All-weaker}
 use Rattle.std.specs.Prelude.{All, Contains}
 use Rattle.dev_model.specs.Disk.{Image}
-use Rattle.journal_ring.specs.Entries.{IsWholeOn, entry_on}
+use Rattle.journal_ring.specs.Entries.{IsMadeOf, IsWholeOn, entry_on}
 use Rattle.journal_ring.specs.EntryBlocks.{AreEntryBlocks, HoldBlocks, parts_of}
 use Rattle.journal_ring.specs.Leading.{IsBehind}
 use Rattle.journal_ring.specs.Parts.{area_of}
 use Rattle.journal_ring.specs.declared.found.FoundEntry.{FoundEntry}
 use Rattle.record_codec.specs.declared.entries.EntryRecord.{EntryRecord}
 use Rattle.record_codec.specs.Entries.{IsEntry}
-use Rattle.sealed_block.specs.declared.heads.Head.{Head}
 use Rattle.vol_types.specs.declared.layout.Layout.{Layout}
 use Rattle.vol_types.specs.declared.pointers.NodeEnd.{NodeEnd}
 use Rattle.vol_types.specs.declared.pointers.NodePtr.{NodePtr}
 use Rattle.image_view.proofs.NeededEntries.{AreNeeded, are_needed, places_of, some_places}
 use Rattle.image_view.proofs.NextBlocks.{BlockLaws}
-use Rattle.image_view.proofs.NextImages.{ends_before, follow_kept, made_or_next, own_head, room_for, stood}
+use Rattle.image_view.proofs.NextBase.{ends_before, follow_kept, room_for}
+use Rattle.image_view.proofs.NextStands.{made_or_next, next_made_whole, owners_stay}
 use Rattle.image_view.proofs.NextNewest.{EachPasses, next_newest, still_there}
 use Rattle.image_view.proofs.OtherSession.{alike-same}
 use Rattle.image_view.specs.Bases.{AgreeOnBase, IsNewest}
 use Rattle.image_view.specs.Found.{FitTogether, FollowOn, Found, IsAlike, IsBelowRoots, IsInOrder, IsMirrored, PassesNone, found}
-use Rattle.image_view.specs.NextEntries.{IsNext, IsToldApart, IsWritten, with_entry}
+use Rattle.image_view.specs.NextEntries.{AreNumberedBelow, AreOldOrNext, IsNext, IsToldApart, IsWritten, with_entry}
 use Rattle.image_view.specs.Trees.{TreesRead, nodes_of}
 
 -- What is said of an entry whose blocks stand everywhere: it is whole.
@@ -60,8 +60,8 @@ newest_written laws stand one other f passed next blocks trees is is_next agree 
     next_newest laws.newest f passed next is_next (are_needed laws.newest.read one f is) (some_places laws.newest.read one f is) other each (0, whole_on stand one other f passed next blocks is_next written 0 (omega (arith, mirrored)))
     (λ k from lower. still_there laws.newest one other f is agree k lower) trees
 
-module _ (laws : BlockLaws) (one : Image) (f : Found) (is : found one ≡ Ok f) (order : IsInOrder f one) (passed : ℕ) (next : FoundEntry) (is_next : IsNext f passed next) (blocks : List (List ℕ)) (other : Image)
-    (agree : AgreeOnBase f one other) (written : IsWritten f.layout next blocks one other) where
+module _ (laws : BlockLaws) (one : Image) (f : Found) (is : found one ≡ Ok f) (order : IsInOrder f one) (passed : ℕ) (next : FoundEntry) (is_next : IsNext f passed next) (blocks : List (List ℕ)) (sealed : AreEntryBlocks f.layout.id next.number next.entry blocks)
+    (other : Image) (agree : AgreeOnBase f one other) (old_or : AreOldOrNext f.layout next blocks one other) where
   needed : AreNeeded f
   needed = are_needed laws.newest.read one f is
 
@@ -100,21 +100,15 @@ module _ (laws : BlockLaws) (one : Image) (f : Found) (is : found one ≡ Ok f) 
           omega (arith, at, count, oldest, later, same, lower)
 
   -- What is found with it is in order.
-  pub in_order_written : IsToldApart f (area_of one) blocks → (trees : TreesRead) → trees.nodes ≡ f.trees.nodes → trees.ends ≡ f.trees.ends → IsInOrder (with_entry passed next trees f) other
-  in_order_written told trees nodes ends = record {
+  pub in_order_with : IsToldApart f (area_of one) blocks → (trees : TreesRead) → trees.nodes ≡ f.trees.nodes → trees.ends ≡ f.trees.ends → IsInOrder (with_entry passed next trees f) other
+  in_order_with told trees nodes ends = record {
     entries = subst (λ (xs : List FoundEntry). FollowOn (drop passed xs ++ next ∷ [])) (sym needed.are) (follow_kept passed needed.before f.last next (subst FollowOn needed.are order.entries) is_next.number);
     fits = fit_push f.layout (drop passed f.needed) next (fit_drop f.layout passed f.needed order.fits)
         (All-drop (λ (x : FoundEntry). next.end ≤ x.number + f.layout.journal) passed f.needed (All-from_get_or (λ (x : FoundEntry). next.end ≤ x.number + f.layout.journal) f.needed f.last (room_for laws one f is order passed next is_next)))
         (All-drop (λ (x : FoundEntry). x.end ≤ next.number) passed f.needed (All-from_get_or (λ (x : FoundEntry). x.end ≤ next.number) f.needed f.last (ends_before laws one f is order passed next is_next)))
         (let few = is_next.parts in let end = is_next.end in let wide = (places_of laws.newest.read one f is).least in omega (arith, few, end, wide));
-    others = λ x parts made. passes_with trees x (made_or_next laws f some passed next is_next blocks one other written order told x parts made);
-    owners = λ dev place bytes head mirror within stands opens kind id. ⊎_elim
-        (λ (old : area_of one dev place ≡ Some bytes). order.owners dev place bytes head mirror within old opens kind id)
-        (λ (own : (p : ℕ) × (p < length blocks) × (bytes ≡ get_or blocks p [])).
-        let here : head.owner ≡ next.entry.session = ap (λ (h : Head). h.owner) (own_head laws f some passed next is_next blocks one other written bytes head own.0 own.1 own.2 opens) in
-        let session = is_next.session in
-        omega (arith, here, session))
-        (stood laws f some passed next is_next blocks one other written dev place bytes mirror within stands);
+    others = λ x parts made. passes_with trees x (made_or_next laws f some passed next is_next blocks sealed one other old_or order told x parts made);
+    owners = owners_stay laws f some passed next is_next blocks sealed one other old_or order.owners;
     levels = All-push (λ (x : FoundEntry). IsBelowRoots x.entry) (drop passed f.needed) next (All-drop (λ (x : FoundEntry). IsBelowRoots x.entry) passed f.needed order.levels) is_next.levels;
     places = subst (λ ns. All (IsMirrored f.layout) (nodes_of ns)) (sym nodes) order.places;
     copies = subst (λ ns. All (IsAlike (with_entry passed next trees f) other) (nodes_of ns)) (sym nodes) alike;
@@ -125,3 +119,21 @@ module _ (laws : BlockLaws) (one : Image) (f : Found) (is : found one ≡ Ok f) 
       alike = All-weaker (IsAlike f other) (IsAlike (with_entry passed next trees f) other)
           (λ node same end is_end birth. same end (subst (λ (es : List NodeEnd). Contains es end) ends is_end) birth) (nodes_of f.trees.nodes)
           (alike-same f one other (nodes_of f.trees.nodes) agree.nodes order.copies)
+
+  -- What was found is in order too, as long as the next entry is whole on no device.
+  pub in_order_without : AreNumberedBelow f.layout f.session f.last.end (area_of one) → ((dev : ℕ) → IsWholeOn f.layout (area_of other) dev next → ⊥) → IsInOrder f other
+  in_order_without below not = record {
+    entries = order.entries;
+    fits = order.fits;
+    others = λ x parts made. ⊎_elim
+        (λ (passes : PassesNone f x). passes)
+        (λ (same : x ≡ next).
+        let whole = next_made_whole laws f some passed next is_next blocks sealed one other old_or below parts (subst (λ (y : FoundEntry). IsMadeOf f.layout (area_of other) y parts) same made) in
+        absurd (not whole.0 whole.1))
+        (made_or_next laws f some passed next is_next blocks sealed one other old_or order (inl below) x parts made);
+    owners = owners_stay laws f some passed next is_next blocks sealed one other old_or order.owners;
+    levels = order.levels;
+    places = order.places;
+    copies = alike-same f one other (nodes_of f.trees.nodes) agree.nodes order.copies;
+    births = order.births;
+  }

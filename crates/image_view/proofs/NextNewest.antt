@@ -157,18 +157,21 @@ still_there laws one other f is agree k lower =
     let same = agree.entries k f.last lower in
     (whole.0, laws.stay f.layout (area_of one) (area_of other) whole.0 (get_or f.needed k f.last) whole.1 same)
 
--- In whatever a crash leaves the newest entry is the one that was found, or the next one.
-pub either_newest : NewestLaws → (one other : Image) (f : Found) (disks : List Disk) (passed : ℕ) (next : FoundEntry) (trees : TreesRead) → found one ≡ Ok f → IsNext f passed next → AgreeOnBase f one other
-    → OnlyHeldEntriesOpen f.layout disks other → NonePassesBut f next disks other → IsNewest f other ⊎ IsNewest (with_entry passed next trees f) other
-either_newest laws one other f disks passed next trees is is_next agree only none =
+-- In whatever a crash leaves the next entry is whole and the newest, or it isn't whole, and the newest is the one that was found.
+pub whole_and_newest : NewestLaws → (one other : Image) (f : Found) (disks : List Disk) (passed : ℕ) (next : FoundEntry) (trees : TreesRead) → found one ≡ Ok f → IsNext f passed next → AgreeOnBase f one other
+    → OnlyHeldEntriesOpen f.layout disks other → NonePassesBut f next disks other
+    → (((dev : ℕ) → IsWholeOn f.layout (area_of other) dev next → ⊥) × IsNewest f other) ⊎ (IsWhole f.layout (area_of other) next × IsNewest (with_entry passed next trees f) other)
+whole_and_newest laws one other f disks passed next trees is is_next agree only none =
     let some : 0 < f.layout.journal = some_places laws.read one f is in
     let needed : AreNeeded f = are_needed laws.read one f is in
     let each : EachPasses f next (area_of other) = λ dev x whole. let held = whole-held f.layout disks other dev x some only whole in none dev x held.0 whole held.1 in
     ⊎_elim
-    (λ (whole : (dev : ℕ) × IsWholeOn f.layout (area_of other) dev next). inr (next_newest laws f passed next is_next needed some other each whole (λ k from lower. still_there laws one other f is agree k lower) trees))
-    (λ (not : (dev : ℕ) → dev < f.layout.metadata_replicas → IsWholeOn f.layout (area_of other) dev next → ⊥). inl (crash_newest laws.again laws.read.are_whole laws.stay one other f disks is agree only
-    (λ dev entry blocks whole held. ⊎_elim
-    (λ (passes : PassesNone f entry). passes)
-    (λ (same : entry ≡ next). absurd (not dev whole.mirror (subst (IsWholeOn f.layout (area_of other) dev) same whole)))
-    (none dev entry blocks whole held))))
+    (λ (whole : IsWhole f.layout (area_of other) next). inr (whole, next_newest laws f passed next is_next needed some other each whole (λ k from lower. still_there laws one other f is agree k lower) trees))
+    (λ (not : (dev : ℕ) → dev < f.layout.metadata_replicas → IsWholeOn f.layout (area_of other) dev next → ⊥). inl (
+      λ dev whole. not dev whole.mirror whole,
+      crash_newest laws.again laws.read.are_whole laws.stay one other f disks is agree only (λ dev entry blocks whole held. ⊎_elim
+          (λ (passes : PassesNone f entry). passes)
+          (λ (same : entry ≡ next). absurd (not dev whole.mirror (subst (IsWholeOn f.layout (area_of other) dev) same whole)))
+          (none dev entry blocks whole held)),
+    ))
     (whole_or_not laws f passed next is_next needed some (area_of other) each f.layout.metadata_replicas (omega arith))

@@ -70,6 +70,12 @@ AreNumberedBelow layout session number area =
 abbrev pub IsToldApart : Found → Area → List (List ℕ) → Type 0
 IsToldApart f area blocks = AreNumberedBelow f.layout f.session f.last.end area ⊎ HasNoEqualDigestWith f.layout area blocks
 
+-- Each block of the second image's journal areas that opens stood there in the first one, or it is one of the entry's blocks, at its place.
+abbrev pub AreOldOrNext : Layout → FoundEntry → List (List ℕ) → Image → Image → Type 0
+AreOldOrNext layout next blocks one other =
+    (dev place : ℕ) (bytes : List ℕ) (head : Head) → dev < layout.metadata_replicas → place < layout.journal → area_of other dev place ≡ Some bytes → opened bytes ≡ Some head
+    → (area_of one dev place ≡ Some bytes) ⊎ IsEntryBlock layout.metadata_replicas layout.journal next.number blocks dev (16 + place) bytes
+
 -- In the journal areas the second image is the first one with an entry, whose blocks these are, on every metadata device.
 pub record IsWritten (layout : Layout) (entry : FoundEntry) (blocks : List (List ℕ)) (one other : Image) : Type 0 where
   pub sealed : AreEntryBlocks layout.id entry.number entry.entry blocks

@@ -10,8 +10,8 @@ ghost use Rattle.vol_types.specs.declared.layout.Layout.{Layout as ALayout};
 ghost use Rattle.image_view.specs.Bases.{AgreeOnBase, IsNewest};
 ghost use Rattle.image_view.specs.CrashEntries.{OnlyHeldEntriesOpen};
 ghost use Rattle.image_view.specs.Found.{AreOwned, Found, IsInOrder, PassesNone, found, node_places, sets_in, updates_of};
-ghost use Rattle.image_view.specs.Mends.{IsPlaceOf};
-ghost use Rattle.image_view.specs.NextEntries.{AreNumberedBelow, HoldOldOrNext, IsNext, IsToldApart, IsWritten, NonePassesBut, with_entry};
+ghost use Rattle.image_view.specs.Mends.{HasNoEqualDigest, IsPlaceOf};
+ghost use Rattle.image_view.specs.NextEntries.{AreNumberedBelow, HasNoEqualDigestWith, HoldOldOrNext, IsNext, IsToldApart, IsWritten, NonePassesBut, with_entry};
 ghost use Rattle.image_view.specs.Trees.{TreesRead, trees_of};
 
 use journal_ring::{
@@ -49,6 +49,19 @@ pub fn crashes_leave_the_next_entry_or_not()
         → trees_of (sets_in f.layout one) (updates_of (drop passed f.needed ++ next ∷ []))
         next.entry.roots ≡ Ok trees → trees.nodes ≡ f.trees.nodes
         → (found other ≡ Ok f) ⊎ (found other ≡ Ok (with_entry passed next trees f)) }
+    // It is in order as well, so that it can be loaded and mended again, where the blocks are told apart by their numbers.
+    ensures in_order { (one other : Image) (f : Found) (disks : List Disk) (passed : ℕ)
+        (next : AFound) (blocks : List (List ℕ)) (trees : TreesRead) → found one ≡ Ok f
+        → IsInOrder f one → IsNext f passed next
+        → AreEntryBlocks f.layout.id next.number next.entry blocks
+        → AreNumberedBelow f.layout f.session f.last.end (area_of one)
+        → HoldOldOrNext f.layout one next blocks disks → AgreeOnBase f one other
+        → OnlyHeldEntriesOpen f.layout disks other
+        → trees_of (sets_in f.layout one) (updates_of (drop passed f.needed ++ next ∷ []))
+        next.entry.roots ≡ Ok trees → trees.nodes ≡ f.trees.nodes → trees.ends ≡ f.trees.ends
+        → ((found other ≡ Ok f) × IsInOrder f other)
+        ⊎ ((found other ≡ Ok (with_entry passed next trees f))
+        × IsInOrder (with_entry passed next trees f) other) }
 {
     leading_entries_are_needed();
     whole_entries_stay();
@@ -108,6 +121,10 @@ pub fn written_entries_are_found()
         → IsWritten f.layout next blocks one other
         → AreNumberedBelow f.layout f.session f.last.end (area_of one)
         → AreNumberedBelow f.layout f.session next.end (area_of other) }
+    ensures digests { (layout : ALayout) (next : AFound) (blocks : List (List ℕ))
+        (one other : Image) → IsWritten layout next blocks one other
+        → HasNoEqualDigestWith layout (area_of one) blocks
+        → HasNoEqualDigest layout (area_of other) }
 {
     leading_entries_are_needed();
     whole_entries_stay();

@@ -1,12 +1,8 @@
-use Rattle.std.proofs.Common.{inl, inr, ⊎_elim}
 use Rattle.image_view.proofs.NeededEntries.{ReadLaws, some_places}
+use Rattle.image_view.proofs.NextBase.{base_stays}
 use Rattle.image_view.proofs.NextBlocks.{BlockLaws, held_or_next}
-use Rattle.image_view.proofs.NextFound.{next_found}
-use Rattle.image_view.proofs.NextImages.{base_stays}
-use Rattle.image_view.proofs.NextNewest.{NewestLaws, either_newest}
-use Rattle.image_view.specs.BaseLaws.{found-same}
-use Rattle.image_view.specs.Bases.{IsNewest}
-use Rattle.image_view.specs.NextEntries.{with_entry}
+use Rattle.image_view.proofs.NextCrashes.{either_found, either_in_order, either_newest}
+use Rattle.image_view.proofs.NextNewest.{NewestLaws}
 use Rattle.image_view.proofs.next_entry.crashes_leave_the_next_entry_or_not.Goals as goal
 
 pub returns : goal.returns
@@ -29,14 +25,13 @@ returns c =
       head = c.sealed_blocks_open.ensures.head;
       payload = c.sealed_blocks_open.ensures.payload;
       made_sealed = c.mended_entries_stay_whole.ensures.sealed;
+      one_sealed = c.mended_entries_stay_whole.ensures.one;
       so_long = c.entry_lengths.ensures;
     } in
     record {
       base = λ one other f passed next count is order placed is_next few lengths elsewhere. base_stays laws one f is order passed next is_next placed other lengths count few elsewhere;
       held = λ one other f disks passed next blocks is order is_next sealed hold told. held_or_next laws f passed next is_next blocks sealed one order (some_places read one f is) told disks hold other;
       newest = either_newest newest_laws;
-      found = λ one other f disks passed next trees is is_next agree only none means nodes. ⊎_elim
-          (λ (same : IsNewest f other). inl (found-same one other f is agree same))
-          (λ (new : IsNewest (with_entry passed next trees f) other). inr (next_found one other f passed next trees is agree means nodes new))
-          (either_newest newest_laws one other f disks passed next trees is is_next agree only none);
+      found = either_found newest_laws;
+      in_order = either_in_order laws;
     }

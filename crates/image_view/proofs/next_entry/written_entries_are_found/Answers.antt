@@ -2,9 +2,9 @@ use Rattle.std.proofs.Common.{arith}
 use Rattle.image_view.proofs.NeededEntries.{ReadLaws, some_places}
 use Rattle.image_view.proofs.NextBlocks.{BlockLaws}
 use Rattle.image_view.proofs.NextFound.{next_found}
-use Rattle.image_view.proofs.NextImages.{each_passes, made_or_next, numbers_stay}
-use Rattle.image_view.proofs.NextInOrder.{in_order_written, newest_written, whole_on}
+use Rattle.image_view.proofs.NextInOrder.{in_order_with, newest_written, whole_on}
 use Rattle.image_view.proofs.NextNewest.{NewestLaws}
+use Rattle.image_view.proofs.NextStands.{digests_stay, each_passes, made_or_next, numbers_stay, written_old_or_next}
 use Rattle.image_view.proofs.next_entry.written_entries_are_found.Goals as goal
 
 pub returns : goal.returns
@@ -27,20 +27,26 @@ returns c =
       head = c.sealed_blocks_open.ensures.head;
       payload = c.sealed_blocks_open.ensures.payload;
       made_sealed = c.mended_entries_stay_whole.ensures.sealed;
+      one_sealed = c.mended_entries_stay_whole.ensures.one;
       so_long = c.entry_lengths.ensures;
     } in
     let stand = c.written_entries_are_whole.ensures in
     record {
       whole = whole_on stand;
-      made = λ one other f passed next blocks is order is_next written told. made_or_next laws f (some_places read one f is) passed next is_next blocks one other written order told;
+      made = λ one other f passed next blocks is order is_next written told.
+          made_or_next laws f (some_places read one f is) passed next is_next blocks written.sealed one other (written_old_or_next f.layout next blocks one other written) order told;
       newest = newest_written laws stand;
       agreeing = next_found;
       found = λ one other f passed next blocks trees is order is_next agree written told means nodes.
           next_found one other f passed next trees is agree means nodes
-          (newest_written laws stand one other f passed next blocks trees is is_next agree written (each_passes laws f (some_places read one f is) passed next is_next blocks one other written order told));
-      in_order = λ one other f passed next blocks trees is order is_next agree written told nodes ends. in_order_written laws one f is order passed next is_next blocks other agree written told trees nodes ends;
+          (newest_written laws stand one other f passed next blocks trees is is_next agree written
+          (each_passes laws f (some_places read one f is) passed next is_next blocks written.sealed one other (written_old_or_next f.layout next blocks one other written) order told));
+      in_order = λ one other f passed next blocks trees is order is_next agree written told nodes ends.
+          in_order_with laws one f is order passed next is_next blocks written.sealed other agree (written_old_or_next f.layout next blocks one other written) told trees nodes ends;
       begins = λ layout area before session number owned later dev place bytes head mirror within stands opens kind id owner.
           let most = owned dev place bytes head mirror within stands opens kind id in
           absurd (omega (arith, most, later, owner));
-      numbers = λ one other f passed next blocks is is_next written below. numbers_stay laws f (some_places read one f is) passed next is_next blocks one other written below;
+      numbers = λ one other f passed next blocks is is_next written below.
+          numbers_stay laws f (some_places read one f is) passed next is_next blocks written.sealed one other (written_old_or_next f.layout next blocks one other written) below;
+      digests = digests_stay;
     }

@@ -1,34 +1,29 @@
--- An image in which the next entry is written agrees with the one before on the base of what was found there. Once the entry stands on
--- every metadata device, what its blocks make up passes none that was found, or is the next entry.
-use Rattle.std.proofs.Common.{◌≡◌, ◌≢◌, ◌⊎◌, inl, inr, ⊎_elim, ℕ, zero, suc, ◌+◌, ◌/◌, ◌%◌, ◌<◌, ◌≤◌, Bool, true, cond, List, [], ◌∷◌, ◌++◌, length, map, drop, get_or, Some, Ok, sym, ap, subst, ◌∙◌, arith}
-use Rattle.std.proofs.lemmas.Bool.{cases_eq, cases_lt, lt-ltb}
+-- The places of the next entry are none that what was found hangs on: it begins behind the needed entries and ends before the place of any of
+-- them comes again.
+use Rattle.std.proofs.Common.{◌≡◌, ◌≢◌, ◌⊎◌, inl, inr, ⊎_elim, ℕ, zero, suc, ◌+◌, ◌/◌, ◌%◌, ◌<◌, ◌≤◌, Bool, true, cond, List, [], ◌∷◌, ◌++◌, length, map, drop, get_or, Ok, sym, ap, subst, arith}
+use Rattle.std.proofs.lemmas.Bool.{cases_lt, lt-ltb}
 use Rattle.std.proofs.lemmas.List.{drop-append-le, drop_all, length_push}
 use Rattle.std.proofs.lemmas.List.Elements.{All-cons, All-from_get_or, All-head, All-nil, All-tail, All-weaker}
 use Rattle.std.proofs.lemmas.Nat.{div-add-mod', mul-le, row_fits}
-use Rattle.std.proofs.lemmas.Option.{same_Some}
 use Rattle.std.specs.Prelude.{All, nat_lt}
 use Rattle.dev_model.specs.Crashes.{SameBut}
 use Rattle.dev_model.specs.Disk.{Image}
 use Rattle.key_meaning.specs.Checks.{AreNodesPlaced, IsNodePlaced, kept_buckets}
-use Rattle.journal_ring.specs.Entries.{AgreeFrom, IsMadeOf, IsWhole}
-use Rattle.journal_ring.specs.EntryBlocks.{part_head, parts_of}
+use Rattle.journal_ring.specs.Entries.{AgreeFrom, IsWhole}
+use Rattle.journal_ring.specs.EntryBlocks.{parts_of}
 use Rattle.journal_ring.specs.MadeOf.{made_of}
 use Rattle.journal_ring.specs.Parts.{area_of}
 use Rattle.journal_ring.specs.declared.found.FoundEntry.{FoundEntry}
-use Rattle.record_codec.specs.Entries.{entry_format}
-use Rattle.sealed_block.specs.declared.heads.Head.{Head}
-use Rattle.sealed_block.specs.Opening.{opened}
 use Rattle.vol_types.specs.Limits.{bucket_blocks}
 use Rattle.vol_types.specs.declared.pointers.NodePtr.{NodePtr}
 use Rattle.vol_types.specs.declared.pointers.Place.{Place}
 use Rattle.image_view.proofs.NeededEntries.{AreNeeded, are_needed, needed_whole, places_of, some_places}
-use Rattle.image_view.proofs.NextBlocks.{BlockLaws, IsOld, IsOwn, old_or_next, opens_so}
-use Rattle.image_view.proofs.NextNewest.{EachPasses}
+use Rattle.image_view.proofs.NextBlocks.{BlockLaws}
 use Rattle.image_view.proofs.OtherSession.{all_of_each}
 use Rattle.image_view.specs.Bases.{AgreeAt, AgreeInBucket, AgreeOnBase, AgreeOnNode}
-use Rattle.image_view.specs.Found.{FollowOn, Found, IsInOrder, PassesNone, found, node_places}
+use Rattle.image_view.specs.Found.{FollowOn, Found, IsInOrder, found, node_places}
 use Rattle.image_view.specs.Mends.{IsPlaceOf}
-use Rattle.image_view.specs.NextEntries.{AreNumberedBelow, IsNext, IsToldApart, IsWritten}
+use Rattle.image_view.specs.NextEntries.{IsNext}
 use Rattle.image_view.specs.Trees.{nodes_of}
 
 -- ---- entries that follow each other
@@ -96,17 +91,6 @@ other_place journal a b less near same = ⊎_elim
     (λ (up : a / journal < b / journal). omega (arith, div-add-mod' a journal, div-add-mod' b journal, same, near, row_fits (a / journal) journal (b / journal) journal up (omega arith)))
     (λ (no_more : b / journal ≤ a / journal). omega (arith, div-add-mod' a journal, div-add-mod' b journal, same, less, mul-le (b / journal) journal (a / journal) journal no_more (omega arith)))
     (cases_lt (a / journal) (b / journal))
-
--- A place is one of the first so many from a number on, or it isn't.
-is_place : (journal number place count : ℕ) → ((p : ℕ) × (p < count) × (place ≡ (number + p) % journal)) ⊎ ((p : ℕ) → p < count → place ≢ (number + p) % journal)
-is_place journal number place zero = inr (λ p low. absurd (omega (arith, low)))
-is_place journal number place (suc count) = ⊎_elim
-    (λ (found : (p : ℕ) × (p < count) × (place ≡ (number + p) % journal)). let low = found.1 in inl (found.0, omega (arith, low), found.2))
-    (λ (none : (p : ℕ) → p < count → place ≢ (number + p) % journal). ⊎_elim
-    (λ (here : place ≡ (number + count) % journal). inl (count, omega arith, here))
-    (λ (away : ¬ (place ≡ (number + count) % journal)). inr (λ p low. ⊎_elim (λ (less : p < count). none p less) (λ (more : count ≤ p). subst (λ n. place ≢ (number + n) % journal) (let e : count ≡ p = omega (arith, low, more) in e) away) (cases_lt p count)))
-    (cases_eq place ((number + count) % journal)))
-    (is_place journal number place count)
 
 kept_mirror : (test : Bool) (count : ℕ) → test ≡ true → cond {A = ℕ} test (1 + count) 1 ≡ 1 + count
 kept_mirror test count is = ap (λ b. cond {A = ℕ} b (1 + count) 1) is
@@ -177,51 +161,3 @@ module _ (laws : BlockLaws) (one : Image) (f : Found) (is : found one ≡ Ok f) 
           (λ node each. All-weaker (IsNodePlaced f.layout) (AgreeInBucket one other) bucket_same node.places each) (nodes_of f.trees.nodes)
           (all_of_each (IsNodePlaced f.layout) (λ (node : NodePtr). node.places) (nodes_of f.trees.nodes) placed.each);
     }
-
--- ---- what is written whole
-
-module _ (laws : BlockLaws) (f : Found) (some : 0 < f.layout.journal) (passed : ℕ) (next : FoundEntry) (is_next : IsNext f passed next) (blocks : List (List ℕ)) (one other : Image) (written : IsWritten f.layout next blocks one other) where
-  -- A block of the journal area stood there, or it is one of the entry's, at its place.
-  pub stood : (dev place : ℕ) (bytes : List ℕ) → dev < f.layout.metadata_replicas → place < f.layout.journal → area_of other dev place ≡ Some bytes → (area_of one dev place ≡ Some bytes) ⊎ ((p : ℕ) × (p < length blocks) × (bytes ≡ get_or blocks p []))
-  stood dev place bytes mirror within stands = ⊎_elim
-      (λ (found : (p : ℕ) × (p < length blocks) × (place ≡ (next.number + p) % f.layout.journal)).
-      inr (found.0, found.1, same_Some bytes (get_or blocks found.0 []) (sym stands ∙ ap (area_of other dev) found.2 ∙ written.stands dev found.0 mirror found.1)))
-      (λ (away : (p : ℕ) → p < length blocks → place ≢ (next.number + p) % f.layout.journal). inl (
-      written.elsewhere dev place mirror within (λ (hit : IsPlaceOf f.layout next (length blocks) dev (16 + place)). let there = hit.place in away hit.part hit.within (omega (arith, there)))
-      ∙ stands))
-      (is_place f.layout.journal next.number place (length blocks))
-
-  -- Its own blocks have their heads.
-  pub own_head : (bytes : List ℕ) (head : Head) (p : ℕ) → p < length blocks → bytes ≡ get_or blocks p [] → opened bytes ≡ Some head → head ≡ part_head f.layout.id next.number next.entry (entry_format.encode next.entry) p
-  own_head bytes head p lower same opens = same_Some head (part_head f.layout.id next.number next.entry (entry_format.encode next.entry) p) (sym opens ∙ ap opened same ∙ opens_so laws f passed next is_next blocks written.sealed p lower)
-
-  -- What its blocks make up passes none that was found, or is the next entry.
-  pub made_or_next : IsInOrder f one → IsToldApart f (area_of one) blocks → (x : FoundEntry) (parts : List (List ℕ)) → IsMadeOf f.layout (area_of other) x parts → PassesNone f x ⊎ (x ≡ next)
-  made_or_next order told x parts made = old_or_next laws f passed next is_next blocks written.sealed one order some (area_of other) x parts made each told
-    where
-      each : (p : ℕ) → p < length parts → IsOld laws f passed next is_next blocks written.sealed one x parts p ⊎ IsOwn laws f passed next is_next blocks written.sealed one parts p
-      each p lower =
-          let there = made.stand p lower in
-          ⊎_elim
-          (λ (old : area_of one there.0 ((x.number + p) % f.layout.journal) ≡ Some (get_or parts p [])). inl (there.0, there.1, old))
-          (λ (own : (q : ℕ) × (q < length blocks) × (get_or parts p [] ≡ get_or blocks q [])). inr own)
-          (stood there.0 ((x.number + p) % f.layout.journal) (get_or parts p []) there.1 (omega (arith, some)) there.2)
-
-  pub each_passes : IsInOrder f one → IsToldApart f (area_of one) blocks → EachPasses f next (area_of other)
-  each_passes order told dev x whole = let m = made_of f.layout (area_of other) dev x whole in made_or_next order told x m.0 m.1
-
-  -- Blocks of this session have numbers below its end.
-  pub numbers_stay : AreNumberedBelow f.layout f.session f.last.end (area_of one) → AreNumberedBelow f.layout f.session next.end (area_of other)
-  numbers_stay below dev place bytes head mirror within stands opens kind id owner = ⊎_elim
-      (λ (old : area_of one dev place ≡ Some bytes).
-      let less = below dev place bytes head mirror within old opens kind id owner in
-      let at = is_next.number in
-      let end = is_next.end in
-      omega (arith, less, at, end))
-      (λ (own : (p : ℕ) × (p < length blocks) × (bytes ≡ get_or blocks p [])).
-      let here : head.number ≡ next.number + own.0 = ap (λ (h : Head). h.number) (own_head bytes head own.0 own.1 own.2 opens) in
-      let low = own.1 in
-      let many = written.sealed.count in
-      let end = is_next.end in
-      omega (arith, here, low, many, end))
-      (stood dev place bytes mirror within stands)
