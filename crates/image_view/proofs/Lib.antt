@@ -20,3 +20,4 @@ pub mod NextBase
 pub mod NextStands
 pub mod NextInOrder
 pub mod NextCrashes
+pub mod SessionNumbers

@@ -28,7 +28,7 @@ use Rattle.image_view.specs.Mends.{HasNoEqualDigest, IsPlaceOf, StandsIn}
 use Rattle.image_view.specs.NextEntries.{AreNumberedBelow, AreOldOrNext, HasNoEqualDigestWith, HoldOldOrNext, IsNext, IsToldApart, IsWritten, StandsOrIsOf}
 
 -- A place is one of the first so many from a number on, or it isn't.
-is_place : (journal number place count : ℕ) → ((p : ℕ) × (p < count) × (place ≡ (number + p) % journal)) ⊎ ((p : ℕ) → p < count → place ≢ (number + p) % journal)
+pub is_place : (journal number place count : ℕ) → ((p : ℕ) × (p < count) × (place ≡ (number + p) % journal)) ⊎ ((p : ℕ) → p < count → place ≢ (number + p) % journal)
 is_place journal number place zero = inr (λ p low. absurd (omega (arith, low)))
 is_place journal number place (suc count) = ⊎_elim
     (λ (found : (p : ℕ) × (p < count) × (place ≡ (number + p) % journal)). let low = found.1 in inl (found.0, omega (arith, low), found.2))

@@ -13,4 +13,7 @@ pub use laws::{
     crashes_keep_what_was_found, images_mean_their_bases, mending_changes_nothing,
     sessions_change_nothing_else, whole_entries_are_held,
 };
-pub use next_entry::{crashes_leave_the_next_entry_or_not, written_entries_are_found};
+pub use next_entry::{
+    blocks_of_a_session_are_numbered_below, crashes_leave_the_next_entry_or_not,
+    written_entries_are_found,
+};

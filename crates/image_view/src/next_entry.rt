@@ -1,16 +1,16 @@
-ghost use Rattle.std.specs.Prelude.{◌≡◌, ◌⊎◌, ◌<◌, ◌≤◌, ◌++◌, ◌∷◌, [], ℕ, List, Ok, drop, length, map};
+ghost use Rattle.std.specs.Prelude.{Some, slice_get, ◌≡◌, ◌⊎◌, ◌<◌, ◌≤◌, ◌++◌, ◌∷◌, [], ℕ, List, Ok, drop, length, map};
 ghost use Rattle.dev_model.specs.Crashes.{SameBut};
 ghost use Rattle.dev_model.specs.Disk.{Disk, Image};
 ghost use Rattle.key_meaning.specs.Checks.{AreNodesPlaced};
 ghost use Rattle.journal_ring.specs.Entries.{IsMadeOf, IsWholeOn};
 ghost use Rattle.journal_ring.specs.EntryBlocks.{AreEntryBlocks, parts_of};
-ghost use Rattle.journal_ring.specs.Parts.{Area, area_of};
+ghost use Rattle.journal_ring.specs.Parts.{Area, AreSame, area_of};
 ghost use Rattle.journal_ring.specs.declared.found.FoundEntry.{FoundEntry as AFound};
 ghost use Rattle.vol_types.specs.declared.layout.Layout.{Layout as ALayout};
 ghost use Rattle.image_view.specs.Bases.{AgreeOnBase, IsNewest};
 ghost use Rattle.image_view.specs.CrashEntries.{OnlyHeldEntriesOpen};
 ghost use Rattle.image_view.specs.Found.{AreOwned, Found, IsInOrder, PassesNone, found, node_places, sets_in, updates_of};
-ghost use Rattle.image_view.specs.Mends.{HasNoEqualDigest, IsPlaceOf};
+ghost use Rattle.image_view.specs.Mends.{HasNoEqualDigest, IsMending, IsPlaceOf};
 ghost use Rattle.image_view.specs.NextEntries.{AreNumberedBelow, HasNoEqualDigestWith, HoldOldOrNext, IsNext, IsToldApart, IsWritten, NonePassesBut, with_entry};
 ghost use Rattle.image_view.specs.Trees.{TreesRead, trees_of};
 
@@ -74,7 +74,8 @@ pub fn crashes_leave_the_next_entry_or_not()
 }
 
 /// Once the next entry stands on every metadata device, the journal areas are else as they were, and what was found is still there, the
-/// entry is whole and found with what was found before, in order again, and the blocks of the session have numbers below its end.
+/// entry is whole and found with what was found before, and in order again. No two records have one digest then, if so it was with its
+/// blocks.
 pub fn written_entries_are_found()
     ensures whole { (one other : Image) (f : Found) (passed : ℕ) (next : AFound)
         (blocks : List (List ℕ)) → IsNext f passed next → IsWritten f.layout next blocks one other
@@ -82,13 +83,12 @@ pub fn written_entries_are_found()
         → IsWholeOn f.layout (area_of other) dev next }
     ensures made { (one other : Image) (f : Found) (passed : ℕ) (next : AFound)
         (blocks : List (List ℕ)) → found one ≡ Ok f → IsInOrder f one
-        → IsNext f passed next
-        → IsWritten f.layout next blocks one other → IsToldApart f (area_of one) blocks
+        → IsNext f passed next → IsWritten f.layout next blocks one other → IsToldApart f (area_of one) blocks
         → (entry : AFound) (parts : List (List ℕ))
         → IsMadeOf f.layout (area_of other) entry parts → PassesNone f entry ⊎ (entry ≡ next) }
     ensures newest { (one other : Image) (f : Found) (passed : ℕ) (next : AFound)
-        (blocks : List (List ℕ)) (trees : TreesRead) → found one ≡ Ok f → IsNext f passed next → AgreeOnBase f one other
-        → IsWritten f.layout next blocks one other
+        (blocks : List (List ℕ)) (trees : TreesRead) → found one ≡ Ok f
+        → IsNext f passed next → AgreeOnBase f one other → IsWritten f.layout next blocks one other
         → ((dev : ℕ) (entry : AFound) → IsWholeOn f.layout (area_of other) dev entry
         → PassesNone f entry ⊎ (entry ≡ next)) → IsNewest (with_entry passed next trees f) other }
     // The btrees are what the entries that it needs, and it, mean over the nodes' sets in the image before.
@@ -111,16 +111,6 @@ pub fn written_entries_are_found()
         → IsWritten f.layout next blocks one other → IsToldApart f (area_of one) blocks
         → trees.nodes ≡ f.trees.nodes → trees.ends ≡ f.trees.ends
         → IsInOrder (with_entry passed next trees f) other }
-    // What the blocks of a session are told apart by: none of it stands there when it begins, and each entry is written behind
-    // the one before it.
-    ensures begins { (layout : ALayout) (area : Area) (before session number : ℕ)
-        → AreOwned layout before area → before < session
-        → AreNumberedBelow layout session number area }
-    ensures numbers { (one other : Image) (f : Found) (passed : ℕ) (next : AFound)
-        (blocks : List (List ℕ)) → found one ≡ Ok f → IsNext f passed next
-        → IsWritten f.layout next blocks one other
-        → AreNumberedBelow f.layout f.session f.last.end (area_of one)
-        → AreNumberedBelow f.layout f.session next.end (area_of other) }
     ensures digests { (layout : ALayout) (next : AFound) (blocks : List (List ℕ))
         (one other : Image) → IsWritten layout next blocks one other
         → HasNoEqualDigestWith layout (area_of one) blocks
@@ -135,4 +125,32 @@ pub fn written_entries_are_found()
     opened_blocks_are_sealed();
     sealed_blocks_open();
     written_entries_are_whole();
+}
+
+/// The blocks that a session wrote into the journal areas have numbers below the one that it writes next, and are told apart by that from
+/// those of the next entry. None of a session stands there when it begins, mending needed entries writes none that didn't stand there,
+/// and each entry is written behind the one before it.
+pub fn blocks_of_a_session_are_numbered_below()
+    ensures begins { (layout : ALayout) (one other : Area) (before session number : ℕ)
+        → AreSame layout one other → AreOwned layout before one → before < session
+        → AreNumberedBelow layout session number other }
+    ensures mended { (one other : Image) (f : Found) → found one ≡ Ok f → (index : ℕ)
+        (entry : AFound) → slice_get f.needed index ≡ Some entry → (blocks : List (List ℕ))
+        → IsMending f.layout entry blocks one other → (session number : ℕ)
+        → AreNumberedBelow f.layout session number (area_of one)
+        → AreNumberedBelow f.layout session number (area_of other) }
+    ensures written { (one other : Image) (f : Found) (passed : ℕ) (next : AFound)
+        (blocks : List (List ℕ)) → found one ≡ Ok f → IsNext f passed next
+        → IsWritten f.layout next blocks one other
+        → AreNumberedBelow f.layout f.session f.last.end (area_of one)
+        → AreNumberedBelow f.layout f.session next.end (area_of other) }
+{
+    leading_entries_are_needed();
+    whole_entries_stay();
+    one_entry_counts();
+    mended_entries_stay_whole();
+    entries_are_exact();
+    entry_lengths();
+    opened_blocks_are_sealed();
+    sealed_blocks_open();
 }

@@ -1,10 +1,9 @@
-use Rattle.std.proofs.Common.{arith}
 use Rattle.image_view.proofs.NeededEntries.{ReadLaws, some_places}
 use Rattle.image_view.proofs.NextBlocks.{BlockLaws}
 use Rattle.image_view.proofs.NextFound.{next_found}
 use Rattle.image_view.proofs.NextInOrder.{in_order_with, newest_written, whole_on}
 use Rattle.image_view.proofs.NextNewest.{NewestLaws}
-use Rattle.image_view.proofs.NextStands.{digests_stay, each_passes, made_or_next, numbers_stay, written_old_or_next}
+use Rattle.image_view.proofs.NextStands.{digests_stay, each_passes, made_or_next, written_old_or_next}
 use Rattle.image_view.proofs.next_entry.written_entries_are_found.Goals as goal
 
 pub returns : goal.returns
@@ -43,10 +42,5 @@ returns c =
           (each_passes laws f (some_places read one f is) passed next is_next blocks written.sealed one other (written_old_or_next f.layout next blocks one other written) order told));
       in_order = λ one other f passed next blocks trees is order is_next agree written told nodes ends.
           in_order_with laws one f is order passed next is_next blocks written.sealed other agree (written_old_or_next f.layout next blocks one other written) told trees nodes ends;
-      begins = λ layout area before session number owned later dev place bytes head mirror within stands opens kind id owner.
-          let most = owned dev place bytes head mirror within stands opens kind id in
-          absurd (omega (arith, most, later, owner));
-      numbers = λ one other f passed next blocks is is_next written below.
-          numbers_stay laws f (some_places read one f is) passed next is_next blocks written.sealed one other (written_old_or_next f.layout next blocks one other written) below;
       digests = digests_stay;
     }
