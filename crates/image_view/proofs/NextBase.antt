@@ -1,6 +1,6 @@
 -- The places of the next entry are none that what was found hangs on: it begins behind the needed entries and ends before the place of any of
 -- them comes again.
-use Rattle.std.proofs.Common.{◌≡◌, ◌≢◌, ◌⊎◌, inl, inr, ⊎_elim, ℕ, zero, suc, ◌+◌, ◌/◌, ◌%◌, ◌<◌, ◌≤◌, Bool, true, cond, List, [], ◌∷◌, ◌++◌, length, map, drop, get_or, Ok, sym, ap, subst, arith}
+use Rattle.std.proofs.Common.{◌≡◌, ◌≢◌, ⊎_elim, ℕ, zero, suc, ◌+◌, ◌/◌, ◌%◌, ◌<◌, ◌≤◌, Bool, true, cond, List, [], ◌∷◌, ◌++◌, length, map, drop, get_or, Ok, sym, ap, subst, arith}
 use Rattle.std.proofs.lemmas.Bool.{cases_lt, lt-ltb}
 use Rattle.std.proofs.lemmas.List.{drop-append-le, drop_all, length_push}
 use Rattle.std.proofs.lemmas.List.Elements.{All-cons, All-from_get_or, All-head, All-nil, All-tail, All-weaker}
@@ -74,14 +74,11 @@ follow_drop (suc n) (x ∷ y ∷ entries) follow = follow_drop n (y ∷ entries)
 -- And so it is with what is left and one more.
 pub follow_kept : (n : ℕ) (before : List FoundEntry) (last next : FoundEntry) → FollowOn (before ++ last ∷ []) → next.number ≡ last.end → FollowOn (drop n (before ++ last ∷ []) ++ next ∷ [])
 follow_kept n before last next follow at = ⊎_elim
+    (λ (all : length before < n). subst (λ (xs : List FoundEntry). FollowOn (xs ++ next ∷ [])) (sym (drop_all n (before ++ last ∷ []) (omega (arith, all, length_push before last)))) tt)
     (λ (some : n ≤ length before).
     let kept : drop n (before ++ last ∷ []) ≡ drop n before ++ last ∷ [] = drop-append-le n before (last ∷ []) some in
     subst (λ (xs : List FoundEntry). FollowOn (xs ++ next ∷ [])) (sym kept) (follow_push (drop n before) last next (subst FollowOn kept (follow_drop n (before ++ last ∷ []) follow)) at))
-    (λ (all : length before < n). subst (λ (xs : List FoundEntry). FollowOn (xs ++ next ∷ [])) (sym (drop_all n (before ++ last ∷ []) (omega (arith, all, length_push before last)))) tt)
-    (cases_le n (length before))
-  where
-    cases_le : (a b : ℕ) → (a ≤ b) ⊎ (b < a)
-    cases_le a b = ⊎_elim (λ (less : b < a). inr less) (λ (more : a ≤ b). inl more) (cases_lt b a)
+    (cases_lt (length before) n)
 
 -- ---- places
 

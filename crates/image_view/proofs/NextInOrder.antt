@@ -17,7 +17,7 @@ use Rattle.image_view.proofs.NeededEntries.{AreNeeded, are_needed, places_of, so
 use Rattle.image_view.proofs.NextBlocks.{BlockLaws}
 use Rattle.image_view.proofs.NextBase.{ends_before, follow_kept, room_for}
 use Rattle.image_view.proofs.NextStands.{made_or_next, next_made_whole, owners_stay}
-use Rattle.image_view.proofs.NextNewest.{EachPasses, next_newest, still_there}
+use Rattle.image_view.proofs.NextNewest.{EachPasses, next_newest, other_sequence, still_there}
 use Rattle.image_view.proofs.OtherSession.{alike-same}
 use Rattle.image_view.specs.Bases.{AgreeOnBase, IsNewest}
 use Rattle.image_view.specs.Found.{FitTogether, FollowOn, Found, IsAlike, IsBelowRoots, IsInOrder, IsMirrored, PassesNone, found}
@@ -86,18 +86,10 @@ module _ (laws : BlockLaws) (one : Image) (f : Found) (is : found one ≡ Ok f) 
         sequence = omega (arith, named);
         behind = All-push (λ (needed : FoundEntry). x.entry.sequence ≡ needed.entry.sequence → IsBehind x needed) (drop passed f.needed) next
             (All-drop (λ (needed : FoundEntry). x.entry.sequence ≡ needed.entry.sequence → IsBehind x needed) passed f.needed
-            (All-from_get_or (λ (needed : FoundEntry). x.entry.sequence ≡ needed.entry.sequence → IsBehind x needed) f.needed f.last (λ k lower at. absurd (not_needed k lower (sym named ∙ at)))))
+            (All-from_get_or (λ (needed : FoundEntry). x.entry.sequence ≡ needed.entry.sequence → IsBehind x needed) f.needed f.last (λ k lower at. absurd (other_sequence f passed next is_next needed k lower (sym named ∙ at)))))
             (λ at. inl same);
       })
       passes
-    where
-      not_needed : (k : ℕ) → k < length f.needed → next.entry.sequence ≡ (get_or f.needed k f.last).entry.sequence → ⊥
-      not_needed k lower same =
-          let at = needed.sequences k f.last lower in
-          let count = needed.count in
-          let oldest = needed.oldest in
-          let later = is_next.sequence in
-          omega (arith, at, count, oldest, later, same, lower)
 
   -- What is found with it is in order.
   pub in_order_with : IsToldApart f (area_of one) blocks → (trees : TreesRead) → trees.nodes ≡ f.trees.nodes → trees.ends ≡ f.trees.ends → IsInOrder (with_entry passed next trees f) other

@@ -39,16 +39,16 @@ EachPasses f next area = (dev : ℕ) (x : FoundEntry) → IsWholeOn f.layout are
 same_sequence : (one other : FoundEntry) → one ≡ other → one.entry.sequence ≡ other.entry.sequence
 same_sequence one other same = ap (λ (e : FoundEntry). e.entry.sequence) same
 
-module _ (laws : NewestLaws) (f : Found) (passed : ℕ) (next : FoundEntry) (is_next : IsNext f passed next) (needed : AreNeeded f) (some : 0 < f.layout.journal) (area : Area) (each : EachPasses f next area) where
-  -- The next entry is none of the needed ones.
-  other_sequence : (k : ℕ) → k < length f.needed → next.entry.sequence ≡ (get_or f.needed k f.last).entry.sequence → ⊥
-  other_sequence k lower same =
-      let at = needed.sequences k f.last lower in
-      let count = needed.count in
-      let oldest = needed.oldest in
-      let later = is_next.sequence in
-      omega (arith, at, count, oldest, later, same, lower)
+-- No needed entry has the next one's sequence.
+pub other_sequence : (f : Found) (passed : ℕ) (next : FoundEntry) → IsNext f passed next → AreNeeded f → (k : ℕ) → k < length f.needed → next.entry.sequence ≡ (get_or f.needed k f.last).entry.sequence → ⊥
+other_sequence f passed next is_next needed k lower same =
+    let at = needed.sequences k f.last lower in
+    let count = needed.count in
+    let oldest = needed.oldest in
+    let later = is_next.sequence in
+    omega (arith, at, count, oldest, later, same, lower)
 
+module _ (laws : NewestLaws) (f : Found) (passed : ℕ) (next : FoundEntry) (is_next : IsNext f passed next) (needed : AreNeeded f) (some : 0 < f.layout.journal) (area : Area) (each : EachPasses f next area) where
   module _ (whole : IsWhole f.layout area next) (still : (k : ℕ) → passed ≤ k → k < length f.needed → IsWhole f.layout area (get_or f.needed k f.last)) where
     next_leads : Leads f.layout area next
     next_leads = record {
@@ -67,7 +67,7 @@ module _ (laws : NewestLaws) (f : Found) (passed : ℕ) (next : FoundEntry) (is_
       whole = still k from lower;
       others = λ dev x is named. ⊎_elim
           (λ (none : PassesNone f x). All-get_or (λ (one : FoundEntry). x.entry.sequence ≡ one.entry.sequence → IsBehind x one) f.needed k f.last lower none.behind named)
-          (λ (same : x ≡ next). absurd (other_sequence k lower (sym (same_sequence x next same) ∙ named)))
+          (λ (same : x ≡ next). absurd (other_sequence f passed next is_next needed k lower (sym (same_sequence x next same) ∙ named)))
           (each dev x is);
     }
 
