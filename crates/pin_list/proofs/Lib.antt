@@ -1,2 +1,3 @@
-pub mod Places
+pub mod Around
+pub mod Kept
 pub mod Least

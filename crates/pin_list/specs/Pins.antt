@@ -1,5 +1,5 @@
 -- What pins mean: each pinned node holds back the journal from one sequence number on.
-use Rattle.std.specs.Prelude.{◌≡◌, ℕ, ◌<◌, ◌≤◌, length, slice_get, min, Option, Some, None, List, [], ◌∷◌}
+use Rattle.std.specs.Prelude.{◌≡◌, ℕ, ◌+◌, ◌≤◌, length, min, Option, Some, None, List, [], ◌∷◌}
 use Rattle.std.specs.Ordering.{nat_cmp}
 use Rattle.vol_types.specs.Maps.{IsMap, value_at, with_value}
 
@@ -28,23 +28,8 @@ pub record IsOldest (numbers : List (ℕ × ℕ)) (oldest : ℕ) : Type 0 where
   pub pinned : value_at nat_cmp node numbers ≡ Some oldest
   pub least : (n seq : ℕ) → value_at nat_cmp n numbers ≡ Some seq → oldest ≤ seq
 
--- What a list of pins keeps: its nodes rise, and it knows the least number.
-pub record IsKept (numbers : List (ℕ × ℕ)) (oldest : Option ℕ) : Type 0 where
+-- What a list of pins keeps: its nodes rise, it knows how many there are, and the list of spare places has room for all.
+pub record IsKept (numbers : List (ℕ × ℕ)) (len spare room : ℕ) : Type 0 where
   pub rises : IsMap nat_cmp numbers
-  pub knows : oldest ≡ least_pin numbers
-
--- The pins before the place have smaller nodes.
-abbrev pub AreSmallerBefore : List (ℕ × ℕ) → ℕ → ℕ → Type 0
-AreSmallerBefore pins place node = (k : ℕ) (pin : ℕ × ℕ) → k < place → slice_get pins k ≡ Some pin → pin.0 < node
-
--- The node's pin stands at the place, after all smaller nodes.
-pub record IsPinAt (pins : List (ℕ × ℕ)) (node place : ℕ) : Type 0 where
-  pub seq : ℕ
-  pub here : slice_get pins place ≡ Some (node, seq)
-  pub before : AreSmallerBefore pins place node
-
--- The node has no pin, and the place is that of the first greater node.
-pub record IsGapAt (pins : List (ℕ × ℕ)) (node place : ℕ) : Type 0 where
-  pub within : place ≤ length pins
-  pub before : AreSmallerBefore pins place node
-  pub after : (pin : ℕ × ℕ) → slice_get pins place ≡ Some pin → node < pin.0
+  pub counts : len ≡ length numbers
+  pub fits : len + spare ≤ room

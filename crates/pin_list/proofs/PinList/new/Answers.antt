@@ -1,7 +1,9 @@
-use Rattle.std.proofs.Common.{None, subst, sym}
-use Rattle.pin_list.specs.Pins.{IsKept}
-use Rattle.pin_list.proofs.Least.{none_kept}
+-- There are none, and there is room for none.
+use Rattle.std.proofs.Common.{ℕ, List, sym, subst, rules}
+use Rattle.vol_types.specs.Maps.{IsMap}
+use Rattle.std.specs.Ordering.{nat_cmp}
+use Rattle.pin_list.proofs.Around.{none_rise}
 use Rattle.pin_list.proofs.PinList.new.Goals as goal
 
 pub invariant_of-result : goal.invariant_of-result
-invariant_of-result c = subst (λ pins. IsKept pins None) (sym c.new.ensures.items) none_kept
+invariant_of-result c = record { rises = subst (λ (d : List (ℕ × ℕ) × ℕ). IsMap nat_cmp d.0) (sym c.new.ensures) none_rise; counts = search rules; fits = search rules }
