@@ -8,16 +8,16 @@ ghost use Rattle.pin_list.specs.Trees.{pins_of, shape_of, AreSides, IsTree, IsMe
 
 use std::marker::Model;
 
-/// The pins of a subtree, in the order of their nodes, as a search tree: the heights of a fork's sides differ by at most
-/// one, so that a tree of n pins has at most 1.44 times log2(n) levels.
+/// Pins as a search tree by node, seen as the list of them in the order of their nodes, and as its height. The heights of a
+/// fork's sides differ by at most one, so that a tree of n pins has at most about 1.44 times log2(n) levels.
 #[cycle(tree)]
 #[derive(Drop)]
 pub(crate) struct Tree {
     top: Option<Box<Fork>>,
 }
 
-/// A pin, and the trees of the pins of smaller and of greater nodes. What is at a tree's top knows the tree's height and its
-/// least number; what stands by itself may be out of date.
+/// A pin between the trees of smaller and of greater nodes. At the top of a tree it knows the tree's height and least number;
+/// by itself it may not, since its pin or its sides were changed.
 #[cycle(tree)]
 #[derive(Drop)]
 pub(crate) struct Fork {
@@ -71,7 +71,7 @@ impl Tree {
         Tree { top: None }
     }
 
-    /// The tree, of which none is left.
+    /// The tree, in whose place an empty one is left.
     pub fn take(&mut self) -> Tree
         ensures value { result ≡ self.old }
         ensures after { self.new ≡ ([], 0) }
@@ -141,7 +141,7 @@ impl Tree {
         Tree { top: Some(fork) }
     }
 
-    /// The tree with these pins, where the heights of the fork's sides may differ by two.
+    /// The tree of the fork's pins, whose sides may differ by two in height: then it is turned.
     pub fn balanced(fork: Box<Fork>) -> Tree
         requires sides { AreSides 2 fork.value }
         requires fits { length (pins_of fork.value) < 2 ^ 64 }

@@ -1,3 +1,4 @@
+-- Forks are made until there are so many, and each leaves one fewer to make.
 use Rattle.std.proofs.Common.{◌≡◌, ◌≤◌, ◌-◌, vec_len, vec_capacity}
 use Rattle.pin_list.proofs.make.Given as goal
 
