@@ -1,3 +1,4 @@
 pub mod Around
 pub mod Kept
 pub mod Least
+pub mod Levels

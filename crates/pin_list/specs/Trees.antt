@@ -1,5 +1,5 @@
 -- What a search tree of pins is seen as, and what holds of it.
-use Rattle.std.specs.Prelude.{◌≡◌, ℕ, ◌+◌, ◌≤◌, max, length, Option, Some, None, List, [], ◌∷◌, ◌++◌, Box}
+use Rattle.std.specs.Prelude.{◌≡◌, ℕ, zero, suc, ◌+◌, ◌≤◌, max, length, Option, Some, None, List, [], ◌∷◌, ◌++◌, Box}
 use Rattle.std.specs.declared.alloc.Global.{Global}
 use Rattle.pin_list.specs.Pins.{least_pin}
 use Rattle.pin_list.specs.declared.tree.Fork.{Fork}
@@ -13,12 +13,19 @@ abbrev pub shape_of : Option (Box Fork Global) → List (ℕ × ℕ) × ℕ
 shape_of None = ([], 0)
 shape_of (Some fork) = (pins_of fork.value, fork.value.height)
 
--- The sides of a fork differ in height by at most so much, and none is higher than it has pins.
+-- the fewest pins that a tree of so many levels has, where each fork's sides differ by at most one level: they grow as the numbers of
+-- Fibonacci
+unfoldable pub fewest : ℕ → ℕ
+fewest zero = 0
+fewest (suc zero) = 1
+fewest (suc (suc height)) = suc (fewest (suc height) + fewest height)
+
+-- The sides of a fork differ in height by at most so much, and each has as many pins as its height asks for.
 pub record AreSides (by : ℕ) (fork : Fork) : Type 0 where
   pub lower : fork.left.1 ≤ fork.right.1 + by
   pub higher : fork.right.1 ≤ fork.left.1 + by
-  pub left : fork.left.1 ≤ length fork.left.0
-  pub right : fork.right.1 ≤ length fork.right.0
+  pub left : fewest fork.left.1 ≤ length fork.left.0
+  pub right : fewest fork.right.1 ≤ length fork.right.0
 
 -- A fork knows its height and the least number at and under it, and its sides differ by at most one level.
 pub record IsBalanced (fork : Fork) : Type 0 where
@@ -43,4 +50,4 @@ pub record IsCut (whole : List (ℕ × ℕ) × ℕ) (first : Fork) (rest : List 
   pub pins : whole.0 ≡ (first.node, first.seq) ∷ rest.0
   pub least : whole.1 ≤ rest.1 + 1
   pub most : rest.1 ≤ whole.1
-  pub low : rest.1 ≤ length rest.0
+  pub low : fewest rest.1 ≤ length rest.0

@@ -4,7 +4,7 @@ ghost use Rattle.std.specs.Prelude.{ℕ, ◌≡◌, ◌<◌, ◌≤◌, ◌+◌,
 ghost use Rattle.std.specs.Ordering.{nat_cmp};
 ghost use Rattle.vol_types.specs.Maps.{IsMap, value_at, without};
 ghost use Rattle.pin_list.specs.Pins.{with_pin};
-ghost use Rattle.pin_list.specs.Trees.{IsCut, IsMended};
+ghost use Rattle.pin_list.specs.Trees.{IsCut, IsMended, fewest};
 
 use crate::tree::{Fork, Tree};
 
@@ -18,7 +18,7 @@ impl Tree {
         ensures pins { result.0 ≡ with_pin node seq self.0 }
         ensures least { self.1 ≤ result.1 }
         ensures most { result.1 ≤ self.1 + 1 }
-        ensures low { result.1 ≤ length result.0 }
+        ensures low { fewest result.1 ≤ length result.0 }
         ensures spares { vec_len spares.new ≡ (if is_some (value_at nat_cmp node self.0) then vec_len
             spares.old else vec_len spares.old - 1) }
         ensures capacity { vec_capacity spares.new ≡ vec_capacity spares.old }
@@ -39,6 +39,7 @@ impl Tree {
     }
 
     /// The tree without a node's pin, if it has one, whose fork is spare again.
+    #[tactic(auto, using(crate::proofs::Levels::fewest_none))]
     pub fn released(self, spares: &mut Vec<Box<Fork>>, node: u64) -> Tree
         requires rises { IsMap nat_cmp self.0 }
         requires fits { length self.0 < 2 ^ 64 }
@@ -47,7 +48,7 @@ impl Tree {
         ensures pins { result.0 ≡ without nat_cmp node self.0 }
         ensures least { self.1 ≤ result.1 + 1 }
         ensures most { result.1 ≤ self.1 }
-        ensures low { result.1 ≤ length result.0 }
+        ensures low { fewest result.1 ≤ length result.0 }
         ensures spares { vec_len spares.new ≡ (if is_some (value_at nat_cmp node self.0) then vec_len
             spares.old + 1 else vec_len spares.old) }
         ensures capacity { vec_capacity spares.new ≡ vec_capacity spares.old }
@@ -94,6 +95,7 @@ fn first_pin(spares: &mut Vec<Box<Fork>>, node: u64, seq: u64) -> Tree
     requires { 0 < vec_len spares.old }
     ensures pins { result.0 ≡ (node, seq) ∷ [] }
     ensures height { result.1 ≡ 1 }
+    ensures low { fewest result.1 ≤ length result.0 }
     ensures spares { vec_len spares.new ≡ vec_len spares.old - 1 }
     ensures capacity { vec_capacity spares.new ≡ vec_capacity spares.old }
 {
@@ -108,13 +110,13 @@ fn first_pin(spares: &mut Vec<Box<Fork>>, node: u64, seq: u64) -> Tree
 fn joined(left: Tree, right: Tree) -> Tree
     requires lower { left.1 ≤ right.1 + 1 }
     requires higher { right.1 ≤ left.1 + 1 }
-    requires left { left.1 ≤ length left.0 }
-    requires right { right.1 ≤ length right.0 }
+    requires left { fewest left.1 ≤ length left.0 }
+    requires right { fewest right.1 ≤ length right.0 }
     requires fits { length (left.0 ++ right.0) < 2 ^ 64 }
     ensures pins { result.0 ≡ left.0 ++ right.0 }
     ensures least { max left.1 right.1 ≤ result.1 }
     ensures most { result.1 ≤ max left.1 right.1 + 1 }
-    ensures low { result.1 ≤ length result.0 }
+    ensures low { fewest result.1 ≤ length result.0 }
 {
     match right.cut() {
         None => left,

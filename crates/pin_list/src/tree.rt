@@ -4,12 +4,12 @@ ghost use Rattle.std.specs.Prelude.{ℕ, ◌≡◌, ◌<◌, ◌≤◌, ◌+◌,
 ghost use Rattle.std.specs.Ordering.{nat_cmp};
 ghost use Rattle.vol_types.specs.Maps.{IsMap, value_at};
 ghost use Rattle.pin_list.specs.Pins.{least_pin, smaller};
-ghost use Rattle.pin_list.specs.Trees.{pins_of, shape_of, AreSides, IsTree, IsMended};
+ghost use Rattle.pin_list.specs.Trees.{pins_of, shape_of, AreSides, IsTree, IsMended, fewest};
 
 use std::marker::Model;
 
 /// Pins as a search tree by node, seen as the list of them in the order of their nodes, and as its height. The heights of a
-/// fork's sides differ by at most one, so that a tree of n pins has at most about 1.44 times log2(n) levels.
+/// fork's sides differ by at most one, so that a tree of n pins has at most about 1.44 times log2(n) levels (`fewest`).
 #[cycle(tree)]
 #[derive(Drop)]
 pub(crate) struct Tree {
@@ -49,6 +49,7 @@ impl Model for Tree {
 
 impl Fork {
     /// A fork without pins at its sides.
+    #[tactic(auto, using(crate::proofs::Levels::fewest_none))]
     pub fn blank(node: u64, seq: u64) -> Fork
         ensures pins { pins_of result ≡ (node, seq) ∷ [] }
         ensures sides { AreSides 0 result }
@@ -134,7 +135,7 @@ impl Tree {
         requires fits { length (pins_of fork.value) < 2 ^ 64 }
         ensures pins { result.0 ≡ pins_of fork.value }
         ensures height { result.1 ≡ max fork.value.left.1 fork.value.right.1 + 1 }
-        ensures low { result.1 ≤ length result.0 }
+        ensures low { fewest result.1 ≤ length result.0 }
     {
         fork.height = fork.left.height().max(fork.right.height()) + 1;
         fork.least = least_of(fork.left.least(), fork.seq, fork.right.least());
@@ -147,7 +148,7 @@ impl Tree {
         requires fits { length (pins_of fork.value) < 2 ^ 64 }
         ensures pins { result.0 ≡ pins_of fork.value }
         ensures height { IsMended fork.value.left.1 fork.value.right.1 result.1 }
-        ensures low { result.1 ≤ length result.0 }
+        ensures low { fewest result.1 ≤ length result.0 }
     {
         let left = fork.left.height();
         let right = fork.right.height();
@@ -186,7 +187,7 @@ fn lean_left(mut fork: Box<Fork>) -> Tree
     ensures pins { result.0 ≡ pins_of fork.value }
     ensures least { fork.value.left.1 ≤ result.1 }
     ensures most { result.1 ≤ fork.value.left.1 + 1 }
-    ensures low { result.1 ≤ length result.0 }
+    ensures low { fewest result.1 ≤ length result.0 }
 {
     let Some(mut up) = fork.left.take().open() else {
         unreachable!()
@@ -214,7 +215,7 @@ fn lean_right(mut fork: Box<Fork>) -> Tree
     ensures pins { result.0 ≡ pins_of fork.value }
     ensures least { fork.value.right.1 ≤ result.1 }
     ensures most { result.1 ≤ fork.value.right.1 + 1 }
-    ensures low { result.1 ≤ length result.0 }
+    ensures low { fewest result.1 ≤ length result.0 }
 {
     let Some(mut up) = fork.right.take().open() else {
         unreachable!()
