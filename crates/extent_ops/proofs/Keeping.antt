@@ -54,7 +54,7 @@ module _ (P : Pos × Value → Type 0) (pos : Pos) where
       by Equal is later = All-cons P (e.0, value) es (subst (λ (p : Pos). P (p, value)) (same_key pos_exact pos e.0 (ap is_eq is)) put) (All-tail P e es all)
       by Greater is later = All-cons P e (insert_entry pos_cmp es pos value) (All-head P e es all) later
 
-  all_put : (value : Option Value) (entries : Entries) → IfSome value (λ v. P (pos, v)) → All P entries → All P (put_at pos_cmp pos value entries)
+  pub all_put : (value : Option Value) (entries : Entries) → IfSome value (λ v. P (pos, v)) → All P entries → All P (put_at pos_cmp pos value entries)
   all_put None entries put all = all_without entries all
   all_put (Some value) entries put all = all_with value entries put all
 
@@ -102,14 +102,14 @@ if_some : (Q : Value → Type 0) (value : Option Value) → ((v : Value) → Q v
 if_some Q None each = tt
 if_some Q (Some v) each = each v
 
-module _ (old : KeyMap) (updates : List Update) (file id first last : ℕ) (cut : ℕ → Bool) (given : ℕ → Option (Option Block)) (is : IsKeyMap old) (takes : TakesBlocks old (with_updates updates old) file id cut given) (own : AreOfContent id updates) (near : All (IsNear file first last) updates) where
+module _ (old : KeyMap) (updates : List Update) (file id first last longest : ℕ) (cut : ℕ → Bool) (given : ℕ → Option (Option Block)) (is : IsKeyMap old) (takes : TakesBlocks old (with_updates updates old) file id cut given) (own : AreOfContent id updates) (near : All (IsNear file first last longest) updates) where
   abbrev new : KeyMap
   new = with_updates updates old
 
   of_each : All (IsOf file id) updates
   of_each = all-of (IsOf file id) updates (λ update has.
       let each = all-member (λ (u : Update). (u.btree ≡ Extents) × (u.level ≡ 0) × (u.pos.snapshot ≡ id)) update updates own.each has in
-      let at = all-member (IsNear file first last) update updates near has in
+      let at = all-member (IsNear file first last longest) update updates near has in
       record { btree = each.0; level = each.1; inode = at.of_file; snapshot = each.2 })
 
   -- ids that are there still are
@@ -127,7 +127,7 @@ module _ (old : KeyMap) (updates : List Update) (file id first last : ℕ) (cut 
     inodes = ids_there new.inodes old.inodes (takes.btrees Inodes (λ (same : Inodes ≡ Extents). cc)) apart.inodes;
     dirents = ids_there new.dirents old.dirents (takes.btrees Dirents (λ (same : Dirents ≡ Extents). cc)) apart.dirents;
     deleted = ids_there new.deleted old.deleted (takes.btrees Deleted (λ (same : Deleted ≡ Extents). cc)) apart.deleted;
-    room = all_after HasRoom file id updates old of_each (all-of (λ (u : Update). IfSome u.value (λ v. HasRoom (u.pos, v))) updates (λ update has. (all-member (IsNear file first last) update updates near has).room)) apart.room;
+    room = all_after HasRoom file id updates old of_each (all-of (λ (u : Update). IfSome u.value (λ v. HasRoom (u.pos, v))) updates (λ update has. (all-member (IsNear file first last longest) update updates near has).room)) apart.room;
     apart = λ other another. once other another (file == other && id == another) refl;
   }
     where

@@ -19,3 +19,4 @@ pub mod Counting
 pub mod Using
 pub mod Placing
 pub mod Keeping
+pub mod Longest

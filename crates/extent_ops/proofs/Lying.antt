@@ -7,13 +7,14 @@ use Rattle.vol_types.specs.declared.keys.Key.{Key}
 use Rattle.vol_types.specs.declared.values.Value.{Value}
 use Rattle.key_meaning.specs.Blocks.{blocks_of}
 use Rattle.extent_ops.specs.Above.{hole_of, holes_to_hide, swept}
-use Rattle.extent_ops.specs.Content.{AreFreshWithin, IsContent, IsNear}
+use Rattle.extent_ops.specs.Content.{AreFreshWithin, IsNear}
 use Rattle.extent_ops.specs.Cutting.{change_of, cut_all, cut_value, is_kept, left_parts, put_part, removed, updates_of}
+use Rattle.extent_ops.specs.Looking.{IsUpTo}
 use Rattle.extent_ops.specs.Stretches.{RiseFrom, between, outside}
 use Rattle.extent_ops.specs.declared.cutting.Change.{Change}
 use Rattle.extent_ops.specs.declared.stretches.Stretch.{Stretch}
 use Rattle.extent_ops.proofs.Cuts.{cut-from}
-use Rattle.extent_ops.proofs.Fitting.{blocks-few, updates-all}
+use Rattle.extent_ops.proofs.Fitting.{updates-all}
 use Rattle.extent_ops.proofs.Fresh.{all-member, fresh-has, rise_from}
 use Rattle.extent_ops.proofs.Gaps.{IsGap, in_between}
 use Rattle.extent_ops.proofs.Hiding.{met_by, parts_above}
@@ -23,9 +24,9 @@ use Rattle.extent_ops.proofs.Pieces.{blocks_of-part_of}
 use Rattle.extent_ops.proofs.Taken.{cut_all-has}
 
 -- The change's end lies near the blocks from a first to a last one, and what it puts begins at block 0 or later.
-pub record Lies (first last : ℕ) (change : Change) : Type 0 where
+pub record Lies (first last longest : ℕ) (change : Change) : Type 0 where
   pub from : first ≤ change.end
-  pub to : change.end ≤ last + 4096
+  pub to : change.end ≤ last + max longest 1
   pub room : IfSome change.value (λ value. blocks_of value ≤ change.end)
 
 -- Stretches that begin behind an end, or end before a beginning, take nothing of what lies between.
@@ -90,8 +91,8 @@ module _ (first last : ℕ) (stretches : List Stretch) (rise : RiseFrom first st
       back true is = leb-true (end - blocks_of value) last is
       back false is = absurd (none (all_behind (end - blocks_of value) end first stretches rise (λ s has. let high = ended s has in let low = leb-false (end - blocks_of value) last is in omega (arith, high, low))))
 
-  cut_value-lies : (end : ℕ) (value : Value) (change : Change) → IsContent (Some value) → Has change (cut_value stretches end (Some value)) → Lies first last change
-  cut_value-lies end value change is has = ⊎_elim
+  cut_value-lies : (longest end : ℕ) (value : Value) (change : Change) → blocks_of value ≤ longest → Has change (cut_value stretches end (Some value)) → Lies first last longest change
+  cut_value-lies longest end value change few has = ⊎_elim
       (λ (left : (part : Stretch) × (Has part (outside (end - blocks_of value) end stretches) × IsGap (end - blocks_of value) end stretches part × (change ≡ put_part (end - blocks_of value) value part))).
       let part = left.0 in let gap = left.1.1 in
       let at : change.end ≡ part.end = ap (λ (c : Change). c.end) left.1.2 in
@@ -114,18 +115,15 @@ module _ (first last : ℕ) (stretches : List Stretch) (rise : RiseFrom first st
       near : (first < end) × (end - blocks_of value ≤ last)
       near = touched end value change has
 
-      few : blocks_of value ≤ 4096
-      few = blocks-few (Some value) is
-
   -- So what is cut of keys lies near,
-  pub cut-lies : (id : ℕ) (keys : List Key) (change : Change) → All (λ (key : Key). IsContent key.value) keys → Has change (cut_all id stretches keys) → Lies first last change
-  cut-lies id keys change fit has =
+  pub cut-lies : (longest id : ℕ) (keys : List Key) (change : Change) → All (λ (key : Key). IsUpTo longest key.value) keys → Has change (cut_all id stretches keys) → Lies first last longest change
+  cut-lies longest id keys change few has =
       let it = cut_all-has id stretches keys change has in let own = it.1.1.0 in
-      cut_value-lies it.0 it.1.0 change (subst IsContent own.is (all-member (λ (key : Key). IsContent key.value) own.key keys fit own.has)) it.1.1.1
+      cut_value-lies longest it.0 it.1.0 change (subst (IsUpTo longest) own.is (all-member (λ (key : Key). IsUpTo longest key.value) own.key keys few own.has)) it.1.1.1
 
 -- what is fresh,
-pub fresh-lies : (file id first last : ℕ) (fresh : List Key) (change : Change) → AreFreshWithin file id first last fresh → Has change (map change_of fresh) → Lies first last change
-fresh-lies file id first last fresh change are has =
+pub fresh-lies : (file id first last longest : ℕ) (fresh : List Key) (change : Change) → AreFreshWithin file id first last fresh → Has change (map change_of fresh) → Lies first last longest change
+fresh-lies file id first last longest fresh change are has =
     let from = has-map change_of change fresh has in let key = from.0 in
     let it = fresh-has file id first fresh key are.fresh from.1.0 in
     let within = all-member (λ (key : Key). key.pos.offset ≤ last + 1) key fresh are.within from.1.0 in
@@ -137,9 +135,9 @@ fresh-lies file id first last fresh change are has =
     }
 
 -- and a hole over a part of a stretch.
-pub holes-lie : (tree : Snaps) (parent : Option ℕ) (w : Stretch) (last : ℕ) (keys : List Key) (change : Change) → w.first ≤ w.end → w.end ≤ last + 1 → Has change (holes_to_hide tree parent w keys) → Lies w.first last change
-holes-lie tree None w last keys change forward within has = elim has [ ]
-holes-lie tree (Some parent) w last keys change forward within has =
+pub holes-lie : (tree : Snaps) (parent : Option ℕ) (w : Stretch) (last longest : ℕ) (keys : List Key) (change : Change) → w.first ≤ w.end → w.end ≤ last + 1 → Has change (holes_to_hide tree parent w keys) → Lies w.first last longest change
+holes-lie tree None w last longest keys change forward within has = elim has [ ]
+holes-lie tree (Some parent) w last longest keys change forward within has =
     let from = has-map hole_of change (swept tree parent w keys) has in let part = from.0 in
     let it = met_by tree parent w forward keys part from.1.0 in
     let some = (parts_above tree parent w forward keys part from.1.0).1 in
@@ -153,7 +151,7 @@ holes-lie tree (Some parent) w last keys change forward within has =
     }
 
 -- Updates that make changes near blocks lie near them.
-pub updates-near : (file id first last : ℕ) (one other : List Change) → ((change : Change) → Has change one → Lies first last change) → ((change : Change) → Has change other → Lies first last change) → All (IsNear file first last) (updates_of file id (one ++ other))
-updates-near file id first last one other each each' = updates-all (IsNear file first last) file id (one ++ other) (λ change has.
+pub updates-near : (file id first last longest : ℕ) (one other : List Change) → ((change : Change) → Has change one → Lies first last longest change) → ((change : Change) → Has change other → Lies first last longest change) → All (IsNear file first last longest) (updates_of file id (one ++ other))
+updates-near file id first last longest one other each each' = updates-all (IsNear file first last longest) file id (one ++ other) (λ change has.
     let it = ⊎_elim (each change) (each' change) (has-append change one other has) in
     record { of_file = refl; from = it.from; to = it.to; room = it.room })

@@ -12,10 +12,12 @@ use Rattle.vol_types.specs.declared.keys.Update.{Update}
 use Rattle.vol_types.specs.declared.positions.Btree.TheVariants.{Extents}
 use Rattle.vol_types.specs.declared.positions.Pos.{Pos}
 use Rattle.vol_types.specs.declared.values.Value.{Value}
+use Rattle.key_meaning.specs.Blocks.{blocks_of}
 use Rattle.key_meaning.specs.Tidy.{IsKeyOf}
 use Rattle.extent_ops.specs.Above.{holes_to_hide}
 use Rattle.extent_ops.specs.Content.{AreFreshWithin, AreLookedAt, IsContent, IsNear}
 use Rattle.extent_ops.specs.Cutting.{change_of, cut_all, stretch_at, stretch_of, updates_of}
+use Rattle.extent_ops.specs.Looking.{AreExtentsUpTo, IsUpTo}
 use Rattle.extent_ops.specs.Stretches.{RiseFrom}
 use Rattle.extent_ops.specs.declared.cutting.Change.{Change}
 use Rattle.extent_ops.specs.declared.stretches.Stretch.{Stretch}
@@ -53,11 +55,11 @@ fresh_fit file id first last keys fresh updates is are fit fit' = subst (All IsU
     (λ change has. cut-fits id (map stretch_of fresh) first keys change (fresh_rise file id first fresh are.fresh) fit has)
     (λ change has. given-fits fresh change fit' has))
 
-pub fresh_near : (file id first last : ℕ) (keys fresh : List Key) (updates : List Update) → updates ≡ updates_for file id keys fresh → AreFreshWithin file id first last fresh → All (λ (key : Key). IsContent key.value) keys → All (IsNear file first last) updates
-fresh_near file id first last keys fresh updates is are fit = subst (All (IsNear file first last)) (sym is)
-    (updates-near file id first last (cut_all id (map stretch_of fresh) keys) (map change_of fresh)
-    (λ change has. cut-lies first last (map stretch_of fresh) (fresh_rise file id first fresh are.fresh) ended id keys change fit has)
-    (λ change has. fresh-lies file id first last fresh change are has))
+pub fresh_near : (file id first last longest : ℕ) (keys fresh : List Key) (updates : List Update) → updates ≡ updates_for file id keys fresh → AreFreshWithin file id first last fresh → All (λ (key : Key). IsUpTo longest key.value) keys → All (IsNear file first last longest) updates
+fresh_near file id first last longest keys fresh updates is are few = subst (All (IsNear file first last longest)) (sym is)
+    (updates-near file id first last longest (cut_all id (map stretch_of fresh) keys) (map change_of fresh)
+    (λ change has. cut-lies first last (map stretch_of fresh) (fresh_rise file id first fresh are.fresh) ended longest id keys change few has)
+    (λ change has. fresh-lies file id first last longest fresh change are has))
   where
     high : (key : Key) → (stretch_of key).end ≡ key.pos.offset
     high key = by key.value
@@ -91,11 +93,11 @@ holes_fit tree file id w keys updates is forward fit = subst (All IsUpdate) (sym
     (λ change has. cut-fits id (w ∷ []) w.first keys change (omega arith, forward, tt) fit has)
     (λ change has. holes-fit tree (parent_of tree id) w keys change forward fit has))
 
-pub holes_near : (tree : Snaps) (file id last : ℕ) (w : Stretch) (keys : List Key) (updates : List Update) → updates ≡ holes_for tree file id w keys → w.first ≤ w.end → w.end ≤ last + 1 → All (λ (key : Key). IsContent key.value) keys → All (IsNear file w.first last) updates
-holes_near tree file id last w keys updates is forward within fit = subst (All (IsNear file w.first last)) (sym is)
-    (updates-near file id w.first last (cut_all id (w ∷ []) keys) (holes_to_hide tree (parent_of tree id) w keys)
-    (λ change has. cut-lies w.first last (w ∷ []) (omega arith, forward, tt) ended id keys change fit has)
-    (λ change has. holes-lie tree (parent_of tree id) w last keys change forward within has))
+pub holes_near : (tree : Snaps) (file id last longest : ℕ) (w : Stretch) (keys : List Key) (updates : List Update) → updates ≡ holes_for tree file id w keys → w.first ≤ w.end → w.end ≤ last + 1 → All (λ (key : Key). IsUpTo longest key.value) keys → All (IsNear file w.first last longest) updates
+holes_near tree file id last longest w keys updates is forward within few = subst (All (IsNear file w.first last longest)) (sym is)
+    (updates-near file id w.first last longest (cut_all id (w ∷ []) keys) (holes_to_hide tree (parent_of tree id) w keys)
+    (λ change has. cut-lies w.first last (w ∷ []) (omega arith, forward, tt) ended longest id keys change few has)
+    (λ change has. holes-lie tree (parent_of tree id) w last longest keys change forward within has))
   where
     ended : (s : Stretch) → Has s (w ∷ []) → s.end ≤ last + 1
     ended s (inl same) = let end : s.end ≡ w.end = ap (λ (x : Stretch). x.end) same in omega (arith, end, within)
@@ -121,3 +123,8 @@ looked_of_file keys_map file first last keys looked = looked_each (λ (key : Key
 pub looked_content : (keys_map : KeyMap) (file first last : ℕ) (keys : List Key) → All (IsKeyOf keys_map Extents) keys_map.extents → AreLookedAt keys_map file first last keys → All (λ (key : Key). IsContent key.value) keys
 looked_content keys_map file first last keys are looked = looked_each (λ (key : Key). IsContent key.value) keys_map file first last keys looked
     (λ entry has same. let is = all-member (IsKeyOf keys_map Extents) entry keys_map.extents are has in record { stands = is.stands; in_range = is.in_range })
+
+-- They have no more blocks than the extents and holes of the map.
+pub looked_up_to : (keys_map : KeyMap) (file first last longest : ℕ) (keys : List Key) → AreExtentsUpTo longest keys_map → AreLookedAt keys_map file first last keys → All (λ (key : Key). IsUpTo longest key.value) keys
+looked_up_to keys_map file first last longest keys few looked = looked_each (λ (key : Key). IsUpTo longest key.value) keys_map file first last keys looked
+    (λ entry has same. all-member (λ (e : Pos × Value). blocks_of e.1 ≤ longest) entry keys_map.extents few.each has)

@@ -11,8 +11,10 @@ use Rattle.vol_types.specs.KeyMaps.{KeyMap, answer_of}
 use Rattle.vol_types.specs.Positions.{is_within, pos_cmp}
 use Rattle.vol_types.specs.declared.keys.Key.{Key}
 use Rattle.vol_types.specs.declared.positions.Pos.{Pos}
+use Rattle.vol_types.specs.declared.values.Value.{Value}
+use Rattle.key_meaning.specs.Blocks.{blocks_of}
 use Rattle.extent_ops.specs.Content.{AreLookedAt, IsInRange}
-use Rattle.extent_ops.specs.Looking.{reach}
+use Rattle.extent_ops.specs.Looking.{AreExtentsUpTo, reach}
 use Rattle.extent_ops.proofs.Fresh.{all-member}
 use Rattle.extent_ops.proofs.Keyed.{at_member}
 use Rattle.extent_ops.proofs.Pieces.{covers-range}
@@ -45,20 +47,20 @@ at_most a b same le ids = ap (λ r. is_le (ordering_then r (ordering_then (nat_c
 abbrev low_of : ℕ → ℕ → Pos
 low_of file first = record { inode = file; offset = min (first + 1) (2 ^ 64 - 1); snapshot = 0 }
 
-abbrev high_of : ℕ → ℕ → Pos
-high_of file last = record { inode = file; offset = min (last + 4096) (2 ^ 64 - 1); snapshot = 2 ^ 32 - 1 }
+abbrev high_of : ℕ → ℕ → ℕ → Pos
+high_of file last longest = record { inode = file; offset = min (last + longest) (2 ^ 64 - 1); snapshot = 2 ^ 32 - 1 }
 
 -- The answer has them all.
-pub looked_at_reach : (map : KeyMap) (file first last : ℕ) (keys : List Key) → All IsInRange map.extents → keys ≡ answer_of (reach file first last) map → AreLookedAt map file first last keys
-looked_at_reach keys_map file first last keys fit are = record {
-  looked_at = λ entry. is_within (low_of file first) (high_of file last) entry.0;
+pub looked_at_reach : (map : KeyMap) (file first last longest : ℕ) (keys : List Key) → All IsInRange map.extents → AreExtentsUpTo longest map → keys ≡ answer_of (reach file first last longest) map → AreLookedAt map file first last keys
+looked_at_reach keys_map file first last longest keys fit up_to are = record {
+  looked_at = λ entry. is_within (low_of file first) (high_of file last longest) entry.0;
   are = are;
-  of_file = λ entry within. let tests = both (is_le (pos_cmp (low_of file first) entry.0)) (is_le (pos_cmp entry.0 (high_of file last))) within in
-      let up = inodes_rise (low_of file first) entry.0 tests.0 in let down = inodes_rise entry.0 (high_of file last) tests.1 in omega (arith, up, down);
+  of_file = λ entry within. let tests = both (is_le (pos_cmp (low_of file first) entry.0)) (is_le (pos_cmp entry.0 (high_of file last longest))) within in
+      let up = inodes_rise (low_of file first) entry.0 tests.0 in let down = inodes_rise entry.0 (high_of file last longest) tests.1 in omega (arith, up, down);
   whole = λ entry block at of_file from to over.
       let range = all-member IsInRange entry keys_map.extents fit (at_member entry.0 entry.1 keys_map.extents at) in
       let covered = covers-range entry.0.offset entry.1 block over in
-      let few = range.few in let offset = range.fits.offset in let id = range.fits.snapshot in
+      let few = all-member (λ (e : Pos × Value). blocks_of e.1 ≤ longest) entry keys_map.extents up_to.each (at_member entry.0 entry.1 keys_map.extents at) in let offset = range.fits.offset in let id = range.fits.snapshot in
       (λ i. at_most (low_of file first) entry.0 (sym of_file) (omega (arith, covered.1, from)) (λ same. omega arith) i
-      && at_most entry.0 (high_of file last) of_file (omega (arith, covered.0, to, few, offset)) (λ same. omega (arith, id)) i);
+      && at_most entry.0 (high_of file last longest) of_file (omega (arith, covered.0, to, few, offset)) (λ same. omega (arith, id)) i);
 }

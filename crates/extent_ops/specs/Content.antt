@@ -1,5 +1,5 @@
 -- What a block of a file belongs to in one id itself, what some keys give to blocks, and what it is that an id takes them over.
-use Rattle.std.specs.Prelude.{◌≡◌, ◌≢◌, ℕ, ◌+◌, ◌<◌, ◌≤◌, ◌==◌, Bool, true, false, ◌&&◌, nat_eq, Option, Some, None, List, [], ◌∷◌, map, All, IfSome, option_map, option_and_then, if◌then◌else◌, ⊤}
+use Rattle.std.specs.Prelude.{◌≡◌, ◌≢◌, ℕ, ◌+◌, ◌<◌, ◌≤◌, ◌==◌, Bool, true, false, ◌&&◌, nat_eq, Option, Some, None, List, [], ◌∷◌, map, All, IfSome, max, option_map, option_and_then, if◌then◌else◌, ⊤}
 use Rattle.std.specs.List.{filter, list_any}
 use Rattle.std.specs.List.Sorted.{IsStrictlySortedBy}
 use Rattle.std.specs.Option.{option_or}
@@ -77,11 +77,12 @@ pub record IsContent (value : Option Value) : Type 0 where
   pub stands : Stands Extents 0 value
   pub in_range : IsKeyValue value
 
--- The update's position is one of the file, from the first block to 4,096 blocks behind the last one, and what it puts there has room.
-pub record IsNear (file first last : ℕ) (update : Update) : Type 0 where
+-- The update's position is one of the file, from the first block to so many blocks behind the last one, but at least one, and what it
+-- puts there has room.
+pub record IsNear (file first last longest : ℕ) (update : Update) : Type 0 where
   pub of_file : update.pos.inode ≡ file
   pub from : first ≤ update.pos.offset
-  pub to : update.pos.offset ≤ last + 4096
+  pub to : update.pos.offset ≤ last + max longest 1
   pub room : IfSome update.value (λ value. HasRoom (update.pos, value))
 
 -- The updates are of extents and holes of one id alone, and their positions rise, so that none stands twice.

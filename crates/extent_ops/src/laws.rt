@@ -32,14 +32,14 @@ pub fn taken_blocks_show()
 /// An id that took blocks over, by updates of its own that may be made and lie near the blocks, leaves extents apart where they
 /// were, and each key one of its btree.
 pub fn taken_blocks_keep_keys()
-    ensures apart { (old : KeyMap) (updates : List Update) (file id first last : ℕ) (cut : ℕ → Bool)
+    ensures apart { (old : KeyMap) (updates : List Update) (file id first last longest : ℕ) (cut : ℕ → Bool)
         (given : ℕ → Option (Option Block)) → IsKeyMap old
         → TakesBlocks old (with_updates updates old) file id cut given → AreOfContent id updates
-        → All (IsNear file first last) updates → AreExtentsApart old
+        → All (IsNear file first last longest) updates → AreExtentsApart old
         → IsSome (value_at nat_cmp id (snaps_of old)) → AreExtentsApart (with_updates updates old) }
-    ensures drawn { (old : KeyMap) (updates : List Update) (file id first last : ℕ) (cut : ℕ → Bool)
+    ensures drawn { (old : KeyMap) (updates : List Update) (file id first last longest : ℕ) (cut : ℕ → Bool)
         (given : ℕ → Option (Option Block)) → IsKeyMap old
         → TakesBlocks old (with_updates updates old) file id cut given → AreOfContent id updates
-        → All (IsNear file first last) updates → AreKeysDrawn old → IsDrawn old file → id < 2 ^ 32
+        → All (IsNear file first last longest) updates → AreKeysDrawn old → IsDrawn old file → id < 2 ^ 32
         → All IsUpdate updates → AreKeysDrawn (with_updates updates old) }
 {}

@@ -13,10 +13,14 @@ mod taking;
 
 pub use covering::cover;
 pub use laws::{taken_blocks_keep_keys, taken_blocks_show};
-pub use looking::{looked_at_keys_are_content, reach, reached_keys_are_looked_at};
+pub use looking::{
+    longest_in, longest_with, looked_at_keys_are_content, reach, reached_keys_are_looked_at,
+};
 pub use taking::{overwrite, punch};
 
 #[cfg(test)]
 mod drawn_files;
+#[cfg(test)]
+mod looks;
 #[cfg(test)]
 mod tests;

@@ -2,6 +2,7 @@ ghost use Rattle.std.specs.Prelude.{◌≡◌, ◌++◌, ◌-◌, ◌^◌, ◌<�
 ghost use Rattle.extent_ops.specs.Content.{AreFreshWithin, AreLookedAt, AreOfContent, HavePlaces, IsContent, IsNear, TakesBlocks, given_by, hidden_if, is_covered_above};
 ghost use Rattle.extent_ops.specs.Above.{holes_to_hide};
 ghost use Rattle.extent_ops.specs.Cutting.{cut_all, updates_of};
+ghost use Rattle.extent_ops.specs.Looking.{IsUpTo};
 ghost use Rattle.extent_ops.specs.Placing.{MayBePlaced};
 ghost use Rattle.extent_ops.specs.Stretches.{RiseFrom};
 ghost use Rattle.key_meaning.specs.Checks.{AreBlocksPlaced, IsCoveredOnce};
@@ -21,8 +22,8 @@ use vol_types::{Key, Keys, Updates};
 
 /// The updates after which an id has fresh extents in a file, and nothing else is seen to change. The keys are those of the file
 /// that cover a block from the first fresh one to the last, and maybe others of the file. Where they and the fresh ones are in
-/// range the updates may be made, and stand near the blocks; where each block had a place of its own, and the fresh ones have,
-/// each has one afterwards. Keys of other ids cost a step each, those of the id and the fresh ones some logarithms.
+/// range the updates may be made. They stand at most as many blocks behind the last fresh one as the longest of the keys has;
+/// where each block had a place of its own, and the fresh ones have, each has one afterwards. Keys of other ids cost a step each, those of the id and the fresh ones some logarithms.
 pub fn overwrite(alloc: Global, keys: &Keys, id: u32, fresh: &Keys) -> Result<Updates, AllocError>
     ensures taken { IfOk result (λ updates. (map : KeyMap) (file first last : ℕ) → IsKeyMap map
         → IsCoveredOnce map file id → All (λ entry. HavePlaces entry.1) map.extents
@@ -33,9 +34,9 @@ pub fn overwrite(alloc: Global, keys: &Keys, id: u32, fresh: &Keys) -> Result<Up
     ensures fits { IfOk result (λ updates. (file first last : ℕ)
         → AreFreshWithin file id first last fresh.now → All (λ key. IsContent key.value) keys.now
         → All (λ key. IsContent key.value) fresh.now → All IsUpdate updates) }
-    ensures near { IfOk result (λ updates. (file first last : ℕ)
-        → AreFreshWithin file id first last fresh.now → All (λ key. IsContent key.value) keys.now
-        → All (IsNear file first last) updates) }
+    ensures near { IfOk result (λ updates. (file first last longest : ℕ)
+        → AreFreshWithin file id first last fresh.now → All (λ key. IsUpTo longest key.value) keys.now
+        → All (IsNear file first last longest) updates) }
     ensures placed { IfOk result (λ updates. (map : KeyMap) (file first last : ℕ)
         (nodes : List Place) (layout : Layout) → IsKeyMap map
         → All (λ entry. HavePlaces entry.1) map.extents
@@ -60,8 +61,8 @@ pub fn overwrite(alloc: Global, keys: &Keys, id: u32, fresh: &Keys) -> Result<Up
 
 /// The updates after which an id of the tree shows nothing of some blocks of a file, from the first to the last one: it has holes
 /// where an ancestor has an extent, and else nothing of its own. The keys are those of the file that cover one of the blocks, and
-/// maybe others of the file. Where they are in range the updates may be made, and stand near the blocks; where each block had a
-/// place of its own, each has one afterwards. Each key costs a search in the tree and some logarithms.
+/// maybe others of the file. Where they are in range the updates may be made. They stand at most as many blocks behind the last
+/// block as the longest of the keys has; where each block had a place of its own, each has one afterwards. Each key costs a search in the tree and some logarithms.
 pub fn punch(
     alloc: Global,
     keys: &Keys,
@@ -79,8 +80,9 @@ pub fn punch(
         (λ block. hidden_if (is_covered_above map id file block))) }
     ensures own { IfOk result (AreOfContent id) }
     ensures fits { All (λ key. IsContent key.value) keys.now → IfOk result (All IsUpdate) }
-    ensures near { IfOk result (λ updates. (file : ℕ) → All (λ key. key.pos.inode ≡ file) keys.now
-        → All (λ key. IsContent key.value) keys.now → All (IsNear file first last) updates) }
+    ensures near { IfOk result (λ updates. (file longest : ℕ)
+        → All (λ key. key.pos.inode ≡ file) keys.now → All (λ key. IsUpTo longest key.value) keys.now
+        → All (IsNear file first last longest) updates) }
     ensures placed { IfOk result (λ updates. (map : KeyMap) (file : ℕ) (nodes : List Place)
         (layout : Layout) → IsKeyMap map → All (λ entry. HavePlaces entry.1) map.extents
         → AreLookedAt map file first last keys.now → AreBlocksPlaced map nodes layout

@@ -8,6 +8,7 @@ use Rattle.vol_types.specs.declared.keys.Update.{Update}
 use Rattle.key_meaning.specs.Checks.{AreBlocksPlaced}
 use Rattle.extent_ops.specs.Cutting.{change_of, stretch_of}
 use Rattle.extent_ops.specs.Content.{AreFreshWithin, AreOfContent, IsContent, IsNear, TakesBlocks, given_by}
+use Rattle.extent_ops.specs.Looking.{IsUpTo}
 use Rattle.extent_ops.proofs.Owned.{own_none}
 use Rattle.extent_ops.proofs.Fresh.{none_fresh, ok_then, taken_call}
 use Rattle.extent_ops.proofs.Promising.{Makes, fresh_fit, fresh_near, fresh_updates}
@@ -32,8 +33,8 @@ returns c =
       own = c.updates_to_take.ensures.own;
       fits = ok_then (Makes c.args.id c.args.keys.now c.args.fresh.now) (λ (updates : List Update). (file first last : ℕ) → AreFreshWithin file c.args.id first last c.args.fresh.now → All (λ (key : Key). IsContent key.value) c.args.keys.now → All (λ (key : Key). IsContent key.value) c.args.fresh.now → All IsUpdate updates)
           c.updates_to_take.result made (λ updates is file first last are fit fit'. fresh_fit file c.args.id first last c.args.keys.now c.args.fresh.now updates (is file first last are) are fit fit');
-      near = ok_then (Makes c.args.id c.args.keys.now c.args.fresh.now) (λ (updates : List Update). (file first last : ℕ) → AreFreshWithin file c.args.id first last c.args.fresh.now → All (λ (key : Key). IsContent key.value) c.args.keys.now → All (IsNear file first last) updates)
-          c.updates_to_take.result made (λ updates is file first last are fit. fresh_near file c.args.id first last c.args.keys.now c.args.fresh.now updates (is file first last are) are fit);
+      near = ok_then (Makes c.args.id c.args.keys.now c.args.fresh.now) (λ (updates : List Update). (file first last longest : ℕ) → AreFreshWithin file c.args.id first last c.args.fresh.now → All (λ (key : Key). IsUpTo longest key.value) c.args.keys.now → All (IsNear file first last longest) updates)
+          c.updates_to_take.result made (λ updates is file first last longest are few. fresh_near file c.args.id first last longest c.args.keys.now c.args.fresh.now updates (is file first last are) are few);
       placed = ok_then (Makes c.args.id c.args.keys.now c.args.fresh.now) (PlacesFresh c.args.id c.args.keys.now c.args.fresh.now)
           c.updates_to_take.result made (λ updates is. fresh_places c.args.id c.args.keys.now c.args.fresh.now updates is);
     }
@@ -45,6 +46,6 @@ returns-in_default c = record {
       (none_fresh c.args.fresh.now (sym c.in_default.is ∙ c.file_of.ensures ∙ ap (λ keys. option_map (λ (key : Key). key.pos.inode) (slice_get keys 0)) c.as_slice.ensures) keys_map file c.args.id apart);
   own = subst (AreOfContent c.args.id) (sym c.new.ensures) (own_none c.args.id);
   fits = λ file first last are fit fit'. subst (All IsUpdate) (sym c.new.ensures) (All-nil IsUpdate);
-  near = λ file first last are fit. subst (All (IsNear file first last)) (sym c.new.ensures) (All-nil (IsNear file first last));
+  near = λ file first last longest are few. subst (All (IsNear file first last longest)) (sym c.new.ensures) (All-nil (IsNear file first last longest));
   placed = λ keys_map file first last nodes layout is fit fresh looked placed may. subst (λ (updates : List Update). AreBlocksPlaced (with_updates updates keys_map) nodes layout) (sym c.new.ensures) placed;
 }

@@ -6,7 +6,8 @@ use Rattle.vol_types.specs.Standing.{IsUpdate}
 use Rattle.vol_types.specs.declared.keys.Key.{Key}
 use Rattle.vol_types.specs.declared.keys.Update.{Update}
 use Rattle.key_meaning.specs.Checks.{AreBlocksPlaced}
-use Rattle.extent_ops.specs.Content.{AreOfContent, IsContent, IsNear, TakesBlocks, hidden_if, is_covered_above}
+use Rattle.extent_ops.specs.Content.{AreOfContent, IsNear, TakesBlocks, hidden_if, is_covered_above}
+use Rattle.extent_ops.specs.Looking.{IsUpTo}
 use Rattle.extent_ops.specs.declared.stretches.Stretch.{Stretch}
 use Rattle.extent_ops.proofs.Fresh.{ok_then}
 use Rattle.extent_ops.proofs.Placing.{PlacesHoles, holes_places}
@@ -38,9 +39,9 @@ returns c =
       fits = λ fit. ok_then (λ (updates : List Update). updates ≡ holes_for c.args.tree.now c.in-Some.file c.args.id w c.args.keys.now) (All IsUpdate) c.updates_to_take.result made
           (λ updates is. holes_fit c.args.tree.now c.in-Some.file c.args.id w c.args.keys.now updates is forward fit);
       near = ok_then (λ (updates : List Update). updates ≡ holes_for c.args.tree.now c.in-Some.file c.args.id w c.args.keys.now)
-          (λ (updates : List Update). (file : ℕ) → All (λ (key : Key). key.pos.inode ≡ file) c.args.keys.now → All (λ (key : Key). IsContent key.value) c.args.keys.now → All (IsNear file c.args.first c.args.last) updates) c.updates_to_take.result made
-          (λ updates is file all fit. holes_near c.args.tree.now file c.args.id c.args.last w c.args.keys.now updates
-          (is ∙ (λ i. holes_for c.args.tree.now (first_file file c.in-Some.file c.args.keys.now of_file all i) c.args.id w c.args.keys.now)) forward within fit);
+          (λ (updates : List Update). (file longest : ℕ) → All (λ (key : Key). key.pos.inode ≡ file) c.args.keys.now → All (λ (key : Key). IsUpTo longest key.value) c.args.keys.now → All (IsNear file c.args.first c.args.last longest) updates) c.updates_to_take.result made
+          (λ updates is file longest all few. holes_near c.args.tree.now file c.args.id c.args.last longest w c.args.keys.now updates
+          (is ∙ (λ i. holes_for c.args.tree.now (first_file file c.in-Some.file c.args.keys.now of_file all i) c.args.id w c.args.keys.now)) forward within few);
       placed = ok_then (λ (updates : List Update). updates ≡ holes_for c.args.tree.now c.in-Some.file c.args.id w c.args.keys.now) (PlacesHoles c.args.first c.args.last c.args.keys.now)
           c.updates_to_take.result made (λ updates is. holes_places c.args.tree.now c.in-Some.file c.args.id c.args.first c.args.last w c.args.keys.now updates is forward of_file);
     }
@@ -51,7 +52,7 @@ returns-in_default c = record {
       (punched_none c.args.tree.now c.args.id c.args.first c.args.last c.args.keys.now c.if-last-first.false (sym c.in_default.is ∙ c.file_of.ensures ∙ ap (λ keys. option_map (λ (key : Key). key.pos.inode) (slice_get keys 0)) c.as_slice.ensures));
   own = subst (AreOfContent c.args.id) (sym c.new-in_default.ensures) (own_none c.args.id);
   fits = λ fit. subst (All IsUpdate) (sym c.new-in_default.ensures) (All-nil IsUpdate);
-  near = λ file all fit. subst (All (IsNear file c.args.first c.args.last)) (sym c.new-in_default.ensures) (All-nil (IsNear file c.args.first c.args.last));
+  near = λ file longest all few. subst (All (IsNear file c.args.first c.args.last longest)) (sym c.new-in_default.ensures) (All-nil (IsNear file c.args.first c.args.last longest));
   placed = λ keys_map file nodes layout is fit looked placed. subst (λ (updates : List Update). AreBlocksPlaced (with_updates updates keys_map) nodes layout) (sym c.new-in_default.ensures) placed;
 }
 
@@ -61,6 +62,6 @@ returns-then-last-first c = record {
       (sym c.new.ensures) (taken_backwards map file c.args.id c.args.first c.args.last (λ block. hidden_if (is_covered_above map c.args.id file block)) apart c.if-last-first.true);
   own = subst (AreOfContent c.args.id) (sym c.new.ensures) (own_none c.args.id);
   fits = λ fit. subst (All IsUpdate) (sym c.new.ensures) (All-nil IsUpdate);
-  near = λ file all fit. subst (All (IsNear file c.args.first c.args.last)) (sym c.new.ensures) (All-nil (IsNear file c.args.first c.args.last));
+  near = λ file longest all few. subst (All (IsNear file c.args.first c.args.last longest)) (sym c.new.ensures) (All-nil (IsNear file c.args.first c.args.last longest));
   placed = λ keys_map file nodes layout is fit looked placed. subst (λ (updates : List Update). AreBlocksPlaced (with_updates updates keys_map) nodes layout) (sym c.new.ensures) placed;
 }
