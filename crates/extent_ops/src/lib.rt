@@ -1,5 +1,8 @@
 //! Which extent of a file a block belongs to in a snapshot, and the updates by which an id takes blocks over: fresh ones, or
 //! holes. An id's own extents and holes are cut; those of its ancestors never are.
+//!
+//! Each stands at its end, so that the keys of a file which cover some blocks end in their range, or in as many blocks behind it
+//! as the longest extent or hole has (`reach`). Whoever keeps a key map keeps this number (`longest_with`, `longest_in`).
 #![tactic(auto)]
 
 mod above;

@@ -22,8 +22,9 @@ use vol_types::{Key, Keys, Updates};
 
 /// The updates after which an id has fresh extents in a file, and nothing else is seen to change. The keys are those of the file
 /// that cover a block from the first fresh one to the last, and maybe others of the file. Where they and the fresh ones are in
-/// range the updates may be made. They stand at most as many blocks behind the last fresh one as the longest of the keys has;
-/// where each block had a place of its own, and the fresh ones have, each has one afterwards. Keys of other ids cost a step each, those of the id and the fresh ones some logarithms.
+/// range the updates may be made. They stand at most as many blocks behind the last fresh one as the longest of the keys has.
+/// Where each block had a place of its own, and the fresh ones have, each has one afterwards. Keys of other ids cost a step each,
+/// those of the id and the fresh ones some logarithms.
 pub fn overwrite(alloc: Global, keys: &Keys, id: u32, fresh: &Keys) -> Result<Updates, AllocError>
     ensures taken { IfOk result (λ updates. (map : KeyMap) (file first last : ℕ) → IsKeyMap map
         → IsCoveredOnce map file id → All (λ entry. HavePlaces entry.1) map.extents
@@ -62,7 +63,8 @@ pub fn overwrite(alloc: Global, keys: &Keys, id: u32, fresh: &Keys) -> Result<Up
 /// The updates after which an id of the tree shows nothing of some blocks of a file, from the first to the last one: it has holes
 /// where an ancestor has an extent, and else nothing of its own. The keys are those of the file that cover one of the blocks, and
 /// maybe others of the file. Where they are in range the updates may be made. They stand at most as many blocks behind the last
-/// block as the longest of the keys has; where each block had a place of its own, each has one afterwards. Each key costs a search in the tree and some logarithms.
+/// block as the longest of the keys has. Where each block had a place of its own, each has one afterwards. Each key costs a search
+/// in the tree and some logarithms.
 pub fn punch(
     alloc: Global,
     keys: &Keys,

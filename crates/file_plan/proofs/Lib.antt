@@ -10,3 +10,4 @@ pub mod Losing
 pub mod Sound
 pub mod Overlaying
 pub mod Ending
+pub mod Longest

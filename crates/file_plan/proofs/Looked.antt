@@ -16,7 +16,9 @@ use Rattle.key_meaning.specs.Blocks.{Block, block_in}
 use Rattle.key_meaning.specs.Forest.{Read, bytes_in}
 use Rattle.key_view.specs.Seen.{IsSeen, GoesOn}
 use Rattle.extent_ops.specs.Content.{block_at}
+use Rattle.extent_ops.specs.Looking.{AreExtentsUpTo}
 use Rattle.file_plan.specs.BlockIo.{Holds, IsHeld, ReadsBlock, known_of, places_of, with_read}
+use Rattle.file_plan.specs.Seen.{IsSeenUpTo}
 use Rattle.file_plan.specs.declared.block_io.BlockIo.{BlockIo}
 use Rattle.file_plan.specs.declared.block_io.KnownBlock.{KnownBlock}
 use Rattle.file_plan.proofs.Io.{All-back, All-front}
@@ -34,8 +36,13 @@ gave_before keys old new on gives = record { each = All-front (IsLook keys) old 
 pub seen_before : (keys : KeyMap) (old new : List Look) (tree : Snaps) → GoesOn old new → IsSeen keys new tree → IsSeen keys old tree
 seen_before keys old new tree on seen = record { is_map = seen.is_map; gives = gave_before keys old new on seen.gives; ids = seen.ids }
 
-pub seen_same : (keys : KeyMap) (old new : List Look) (tree : Snaps) → new ≡ old → IsSeen keys new tree → IsSeen keys old tree
-seen_same keys old new tree same seen = record { is_map = seen.is_map; gives = subst (GivesLooks keys) same seen.gives; ids = seen.ids }
+pub seen_same : (keys : KeyMap) (old new : List Look) (tree : Snaps) (told longest : ℕ) → new ≡ old → longest ≡ told → IsSeenUpTo keys new tree longest → IsSeenUpTo keys old tree told
+seen_same keys old new tree told longest same kept seen =
+    let is = seen.is_seen in
+    record {
+      is_seen = record { is_map = is.is_map; gives = subst (GivesLooks keys) same is.gives; ids = is.ids };
+      up_to = subst (λ n. AreExtentsUpTo n keys) kept seen.up_to;
+    }
 
 -- the bytes of a block
 abbrev pub read_of : Read → Block → Option (List ℕ)

@@ -112,7 +112,7 @@ module _ (file id first : ℕ) (done now : List (List ℕ)) (keys : List Key) (k
       further block le = λ k d lt. omega (arith, (run_within file id first (first + length done) keys was.run).1 k d lt, le)
 
 -- How far a run was written: of its blocks the first ones as keys up to a block, and these are left. Nothing was looked at.
-pub record RunSoFar (file id first : ℕ) (blocks : List (List ℕ)) (keys : List Key) (at : ℕ) (rest : List (List ℕ)) (old new : BlockIo) (made now : List Look) (told tells : Option Snaps) : Type 0 where
+pub record RunSoFar (file id first : ℕ) (blocks : List (List ℕ)) (keys : List Key) (at : ℕ) (rest : List (List ℕ)) (old new : BlockIo) (made now : List Look) (told tells : Option Snaps) (longest still : ℕ) : Type 0 where
   pub done : List (List ℕ)
   pub split : blocks ≡ done ++ rest
   pub up_to : at ≡ first + length done
@@ -122,6 +122,7 @@ pub record RunSoFar (file id first : ℕ) (blocks : List (List ℕ)) (keys : Lis
   pub io : GoesOn old new
   pub looks : now ≡ made
   pub ids : tells ≡ told
+  pub same : still ≡ longest
 
 -- No blocks are written.
 pub nothing_written : (file id first : ℕ) (keys : List Key) (io : BlockIo) → keys ≡ [] → IsWritten file id first [] keys io io
@@ -129,8 +130,8 @@ nothing_written file id first keys io none = subst (λ (ks : List Key). IsWritte
     (record { run = omega arith; cut = tt; read = refl; reserved = sym (append-nil io.reserved); written = sym (append-nil io.written); digests = refl })
 
 -- Nothing is written yet.
-pub none_so_far : (file id first : ℕ) (blocks : List (List ℕ)) (io : BlockIo) (made : List Look) (told : Option Snaps) → RunSoFar file id first blocks [] first blocks io io made made told told
-none_so_far file id first blocks io made told = record {
+pub none_so_far : (file id first : ℕ) (blocks : List (List ℕ)) (io : BlockIo) (made : List Look) (told : Option Snaps) (longest : ℕ) → RunSoFar file id first blocks [] first blocks io io made made told told longest longest
+none_so_far file id first blocks io made told longest = record {
   done = [];
   split = refl;
   up_to = omega arith;
@@ -147,15 +148,16 @@ none_so_far file id first blocks io made told = record {
   io = io_stays io io refl;
   looks = refl;
   ids = refl;
+  same = refl;
 }
 
 -- One further extent of so many of the blocks that are left.
-pub one_more : (file id first : ℕ) (blocks now later : List (List ℕ)) (keys : List Key) (at : ℕ) (rest : List (List ℕ)) (key : Key) (old middle new : BlockIo) (made then_made new_made : List Look) (told then_told new_told : Option Snaps)
-    → RunSoFar file id first blocks keys at rest old middle made then_made told then_told
+pub one_more : (file id first : ℕ) (blocks now later : List (List ℕ)) (keys : List Key) (at : ℕ) (rest : List (List ℕ)) (key : Key) (old middle new : BlockIo) (made then_made new_made : List Look) (told then_told new_told : Option Snaps) (longest then_longest new_longest : ℕ)
+    → RunSoFar file id first blocks keys at rest old middle made then_made told then_told longest then_longest
     → rest ≡ now ++ later → 0 < length rest → (0 < length later → length now ≡ most_blocks)
-    → IsWritten file id at now (key ∷ []) middle new → ((read : Read) → Holds read new → GiveBytes read (key ∷ []) at now) → GoesOn middle new → new_made ≡ then_made → new_told ≡ then_told
-    → RunSoFar file id first blocks (keys ++ key ∷ []) key.pos.offset later old new made new_made told new_told
-one_more file id first blocks now later keys at rest key old middle new made then_made new_made told then_told new_told so_far split some size is gives on looks ids = record {
+    → IsWritten file id at now (key ∷ []) middle new → ((read : Read) → Holds read new → GiveBytes read (key ∷ []) at now) → GoesOn middle new → new_made ≡ then_made → new_told ≡ then_told → new_longest ≡ then_longest
+    → RunSoFar file id first blocks (keys ++ key ∷ []) key.pos.offset later old new made new_made told new_told longest new_longest
+one_more file id first blocks now later keys at rest key old middle new made then_made new_made told then_told new_told longest then_longest new_longest so_far split some size is gives on looks ids same = record {
   done = so_far.done ++ now;
   split = so_far.split ∙ ap (λ xs. so_far.done ++ xs) split ∙ sym (append_assoc so_far.done now later);
   up_to = ends ∙ (let long = length-append so_far.done now in omega (arith, long, so_far.up_to));
@@ -165,6 +167,7 @@ one_more file id first blocks now later keys at rest key old middle new made the
   io = io_then old middle new so_far.io on;
   looks = looks ∙ so_far.looks;
   ids = ids ∙ so_far.ids;
+  same = same ∙ so_far.same;
 }
   where
     is_here : IsWritten file id (first + length so_far.done) now (key ∷ []) middle new

@@ -92,7 +92,7 @@ abbrev pub PutsFresh : Change → ℕ → ℕ → Type 0
 PutsFresh (Put first extents) number id = AreFresh number id first extents
 PutsFresh (Cut new_size) number id = ⊤
 
--- The updates stand near the blocks that the change puts or cuts.
-abbrev pub AreNear : Change → ℕ → ℕ → ℕ → List Update → Type 0
-AreNear (Put first extents) number id size updates = (last : ℕ) → AreFreshWithin number id first last extents → All (IsNear number first last) updates
-AreNear (Cut new_size) number id size updates = All (IsNear number (blocks_up_to (cut_size size new_size)) (blocks_up_to size - 1)) updates
+-- The updates stand near the blocks that the change puts or cuts: at most so many blocks behind the last one.
+abbrev pub AreNear : Change → ℕ → ℕ → ℕ → ℕ → List Update → Type 0
+AreNear (Put first extents) number id size longest updates = (last : ℕ) → AreFreshWithin number id first last extents → All (IsNear number first last longest) updates
+AreNear (Cut new_size) number id size longest updates = All (IsNear number (blocks_up_to (cut_size size new_size)) (blocks_up_to size - 1) longest) updates

@@ -4,3 +4,4 @@ pub mod Runs
 pub mod Ends
 pub mod Content
 pub mod Writes
+pub mod Seen

@@ -1,25 +1,25 @@
 ghost use Rattle.std.specs.Prelude.{◌≡◌, ◌≤◌, ◌+◌, All, IfErr, IfNone, IfOk, IfSome, List, ℕ, []};
 ghost use Rattle.extent_ops.specs.Content.{AreFresh, AreOfContent, IsContent};
+ghost use Rattle.extent_ops.specs.Looking.{AreExtentsUpTo};
 ghost use Rattle.extent_ops.specs.Placing.{MayBePlaced};
 ghost use Rattle.file_plan.specs.Content.{AreExtentsInRange, AreNear, HasFile, IsChanged, PutsFresh, TakesChange, extents_of};
+ghost use Rattle.file_plan.specs.Seen.{IsSeenUpTo};
 ghost use Rattle.file_plan.specs.declared.change.Change.TheVariants.{Cut, Put};
 ghost use Rattle.key_meaning.specs.Checks.{AreBlocksPlaced};
 ghost use Rattle.key_meaning.specs.Forest.{Read};
 ghost use Rattle.key_meaning.specs.Tidy.{IsKeyOf};
 ghost use Rattle.key_view.specs.Holds.{IsCause};
-ghost use Rattle.key_view.specs.Seen.{GoesOn, IsSeen};
+ghost use Rattle.key_view.specs.Seen.{GoesOn};
 ghost use Rattle.vol_types.specs.KeyMaps.{KeyMap, with_updates};
 ghost use Rattle.vol_types.specs.Standing.{IsUpdate};
 ghost use Rattle.vol_types.specs.declared.layout.Layout.{Layout};
 ghost use Rattle.vol_types.specs.declared.pointers.Place.{Place};
 ghost use Rattle.vol_types.specs.declared.positions.Btree.TheVariants.{Extents};
 
+use crate::blocks::covering_keys;
 use crate::sizes::blocks_up_to;
 use crate::{Change, Contents, cut_size};
-use extent_ops::{
-    looked_at_keys_are_content, overwrite, punch, reach, reached_keys_are_looked_at,
-    taken_blocks_show,
-};
+use extent_ops::{looked_at_keys_are_content, overwrite, punch, taken_blocks_show};
 use key_view::Hold;
 use snap_tree::SnapTree;
 use std::alloc::Global;
@@ -34,8 +34,9 @@ use vol_types::{Key, Keys, Updates};
 /// shows and that isn't put, the caller puts the key of `write_end` in front of the others, or what `end_block` gives among its
 /// blocks, so that zeros stand behind the old end.
 ///
-/// It makes at most one look, at the keys of the file that cover the blocks which are put or cut, those between them too, and those
-/// up to 4,096 blocks behind them. Keys of other ids cost a search in the tree each, those of the id and the extents some logarithms.
+/// It makes at most one look, at the keys of the file that end between the first block which is put or cut and `Contents::longest`
+/// blocks behind the last one; the updates stand there too. Keys of other ids cost a search in the tree each, those of the id and
+/// the extents some logarithms.
 pub fn content<V: Contents>(
     alloc: Global,
     view: &mut V,
@@ -46,26 +47,27 @@ pub fn content<V: Contents>(
     change: &Change,
 ) -> Result<Updates, Hold>
     ensures changed { IfOk result (λ updates. (keys : KeyMap) (read : Read)
-        → IsSeen keys (V.made view.new) tree.now → HasFile keys id number size
+        → IsSeenUpTo keys (V.made view.new) tree.now (V.most view.new) → HasFile keys id number size
         → IsChanged change.now keys (with_updates updates keys) read id number size) }
     ensures takes { IfOk result (λ updates. (keys : KeyMap)
-        → IsSeen keys (V.made view.new) tree.now → HasFile keys id number size
+        → IsSeenUpTo keys (V.made view.new) tree.now (V.most view.new) → HasFile keys id number size
         → TakesChange change.now keys (with_updates updates keys) number id size) }
     ensures own { IfOk result (AreOfContent id) }
     ensures fits { IfOk result (λ updates. (keys : KeyMap)
-        → IsSeen keys (V.made view.new) tree.now → AreExtentsInRange keys
+        → IsSeenUpTo keys (V.made view.new) tree.now (V.most view.new) → AreExtentsInRange keys
         → All (IsKeyOf keys Extents) keys.extents → PutsFresh change.now number id
         → All (λ key. IsContent key.value) (extents_of change.now) → All IsUpdate updates) }
-    ensures near { IfOk result (λ updates. (keys : KeyMap)
-        → IsSeen keys (V.made view.new) tree.now → AreExtentsInRange keys
-        → All (IsKeyOf keys Extents) keys.extents → AreNear change.now number id size updates) }
+    ensures near { IfOk result (λ updates. (keys : KeyMap) (longest : ℕ)
+        → IsSeenUpTo keys (V.made view.new) tree.now (V.most view.new) → AreExtentsInRange keys
+        → AreExtentsUpTo longest keys → AreNear change.now number id size longest updates) }
     ensures placed { IfOk result (λ updates. (keys : KeyMap) (nodes : List Place) (layout : Layout)
-        → IsSeen keys (V.made view.new) tree.now → AreExtentsInRange keys
+        → IsSeenUpTo keys (V.made view.new) tree.now (V.most view.new) → AreExtentsInRange keys
         → PutsFresh change.now number id → AreBlocksPlaced keys nodes layout
         → MayBePlaced keys nodes layout (extents_of change.now)
         → AreBlocksPlaced (with_updates updates keys) nodes layout) }
     ensures looks { GoesOn (V.made view.old) (V.made view.new) }
     ensures ids { V.told view.new ≡ V.told view.old }
+    ensures longest { V.most view.new ≡ V.most view.old }
     ensures io { V.io view.new ≡ V.io view.old }
     ensures cause { IfErr result (IsCause (V.held view.new)) }
 {
@@ -86,37 +88,37 @@ fn put<V: Contents>(
     extents: &Keys,
 ) -> Result<Updates, Hold>
     ensures changed { IfOk result (λ updates. (keys : KeyMap) (read : Read) (size : ℕ)
-        → IsSeen keys (V.made view.new) tree.now → HasFile keys id number size
+        → IsSeenUpTo keys (V.made view.new) tree.now (V.most view.new) → HasFile keys id number size
         → IsChanged (Put first extents.now) keys (with_updates updates keys) read id number size) }
     ensures takes { IfOk result (λ updates. (keys : KeyMap) (size : ℕ)
-        → IsSeen keys (V.made view.new) tree.now → HasFile keys id number size
+        → IsSeenUpTo keys (V.made view.new) tree.now (V.most view.new) → HasFile keys id number size
         → TakesChange (Put first extents.now) keys (with_updates updates keys) number id size) }
     ensures own { IfOk result (AreOfContent id) }
     ensures fits { IfOk result (λ updates. (keys : KeyMap)
-        → IsSeen keys (V.made view.new) tree.now → AreExtentsInRange keys
+        → IsSeenUpTo keys (V.made view.new) tree.now (V.most view.new) → AreExtentsInRange keys
         → All (IsKeyOf keys Extents) keys.extents → PutsFresh (Put first extents.now) number id
         → All (λ key. IsContent key.value) (extents_of (Put first extents.now)) → All IsUpdate updates) }
-    ensures near { IfOk result (λ updates. (keys : KeyMap) (size : ℕ)
-        → IsSeen keys (V.made view.new) tree.now → AreExtentsInRange keys
-        → All (IsKeyOf keys Extents) keys.extents → AreNear (Put first extents.now) number id size updates) }
+    ensures near { IfOk result (λ updates. (keys : KeyMap) (size longest : ℕ)
+        → IsSeenUpTo keys (V.made view.new) tree.now (V.most view.new) → AreExtentsInRange keys
+        → AreExtentsUpTo longest keys → AreNear (Put first extents.now) number id size longest updates) }
     ensures placed { IfOk result (λ updates. (keys : KeyMap) (nodes : List Place) (layout : Layout)
-        → IsSeen keys (V.made view.new) tree.now → AreExtentsInRange keys
+        → IsSeenUpTo keys (V.made view.new) tree.now (V.most view.new) → AreExtentsInRange keys
         → PutsFresh (Put first extents.now) number id → AreBlocksPlaced keys nodes layout
         → MayBePlaced keys nodes layout (extents_of (Put first extents.now))
         → AreBlocksPlaced (with_updates updates keys) nodes layout) }
     ensures looks { GoesOn (V.made view.old) (V.made view.new) }
     ensures ids { V.told view.new ≡ V.told view.old }
+    ensures longest { V.most view.new ≡ V.most view.old }
     ensures io { V.io view.new ≡ V.io view.old }
     ensures cause { IfErr result (IsCause (V.held view.new)) }
 {
     tree.ids_fit();
     taken_blocks_show();
-    reached_keys_are_looked_at();
     looked_at_keys_are_content();
     let Some(last) = last_block(extents.as_slice()) else {
         return Ok(Updates::new(alloc));
     };
-    let keys = view.find(&reach(number, first, last))?;
+    let keys = covering_keys(view, number, first, last)?;
     Ok(overwrite(alloc, &keys, id, extents)?)
 }
 
@@ -143,38 +145,38 @@ fn cut<V: Contents>(
     new: u64,
 ) -> Result<Updates, Hold>
     ensures changed { IfOk result (λ updates. (keys : KeyMap) (read : Read)
-        → IsSeen keys (V.made view.new) tree.now → HasFile keys id number size
+        → IsSeenUpTo keys (V.made view.new) tree.now (V.most view.new) → HasFile keys id number size
         → IsChanged (Cut new) keys (with_updates updates keys) read id number size) }
     ensures takes { IfOk result (λ updates. (keys : KeyMap)
-        → IsSeen keys (V.made view.new) tree.now → HasFile keys id number size
+        → IsSeenUpTo keys (V.made view.new) tree.now (V.most view.new) → HasFile keys id number size
         → TakesChange (Cut new) keys (with_updates updates keys) number id size) }
     ensures own { IfOk result (AreOfContent id) }
     ensures fits { IfOk result (λ updates. (keys : KeyMap)
-        → IsSeen keys (V.made view.new) tree.now → AreExtentsInRange keys
+        → IsSeenUpTo keys (V.made view.new) tree.now (V.most view.new) → AreExtentsInRange keys
         → All (IsKeyOf keys Extents) keys.extents → PutsFresh (Cut new) number id
         → All (λ key. IsContent key.value) (extents_of (Cut new)) → All IsUpdate updates) }
-    ensures near { IfOk result (λ updates. (keys : KeyMap)
-        → IsSeen keys (V.made view.new) tree.now → AreExtentsInRange keys
-        → All (IsKeyOf keys Extents) keys.extents → AreNear (Cut new) number id size updates) }
+    ensures near { IfOk result (λ updates. (keys : KeyMap) (longest : ℕ)
+        → IsSeenUpTo keys (V.made view.new) tree.now (V.most view.new) → AreExtentsInRange keys
+        → AreExtentsUpTo longest keys → AreNear (Cut new) number id size longest updates) }
     ensures placed { IfOk result (λ updates. (keys : KeyMap) (nodes : List Place) (layout : Layout)
-        → IsSeen keys (V.made view.new) tree.now → AreExtentsInRange keys
+        → IsSeenUpTo keys (V.made view.new) tree.now (V.most view.new) → AreExtentsInRange keys
         → PutsFresh (Cut new) number id → AreBlocksPlaced keys nodes layout
         → MayBePlaced keys nodes layout (extents_of (Cut new))
         → AreBlocksPlaced (with_updates updates keys) nodes layout) }
     ensures looks { GoesOn (V.made view.old) (V.made view.new) }
     ensures ids { V.told view.new ≡ V.told view.old }
+    ensures longest { V.most view.new ≡ V.most view.old }
     ensures io { V.io view.new ≡ V.io view.old }
     ensures cause { IfErr result (IsCause (V.held view.new)) }
 {
     tree.ids_fit();
     taken_blocks_show();
-    reached_keys_are_looked_at();
     looked_at_keys_are_content();
     let first = blocks_up_to(cut_size(size, new));
     let end = blocks_up_to(size);
     if end <= first {
         return Ok(Updates::new(alloc));
     }
-    let keys = view.find(&reach(number, first, end - 1))?;
+    let keys = covering_keys(view, number, first, end - 1)?;
     Ok(punch(alloc, &keys, tree, id, first, end - 1)?)
 }

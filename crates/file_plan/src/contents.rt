@@ -1,4 +1,4 @@
-ghost use Rattle.std.specs.Prelude.{◌≡◌, ◌≤◌, ◌++◌, ◌∷◌, [], length, IfOk, IfErr, OnOk, OnErr};
+ghost use Rattle.std.specs.Prelude.{◌≡◌, ◌≤◌, ◌++◌, ◌∷◌, [], ℕ, length, IfOk, IfErr, OnOk, OnErr};
 ghost use Rattle.file_plan.specs.BlockIo.{ArePlacesOf, AreReserved, places_of, with_read, with_reserved, with_written};
 ghost use Rattle.file_plan.specs.declared.block_io.BlockIo.{BlockIo as AnIo};
 ghost use Rattle.vol_digest.specs.Digests.{short_of};
@@ -12,12 +12,21 @@ pub trait Contents: View {
     /// What was read, reserved and written through it.
     ghost io: { Self → AnIo };
 
+    /// How many blocks the longest extent or hole of the volume has, or more, as the view was told.
+    ghost most: { Self → ℕ };
+
+    /// No extent or hole of the volume has more blocks than this, so that a look for blocks goes no further behind them: 16 on a
+    /// volume without holes, at most 256 where this program alone wrote it, and 4,096 at most. It stays the same over the calls below.
+    fn longest(&self) -> u64
+        ensures { result ≡ most self.now };
+
     /// The keys that the query asks for. It is a look as `View` makes it, and leaves what is known of blocks.
     fn find(&mut self, query: &Query) -> Result<Keys, Hold>
         ensures ok { IfOk result (λ answer. Self.made self.new
             ≡ Self.made self.old ++ record { query = query.now; answer = answer } ∷ []) }
         ensures err { OnErr result (Self.made self.new ≡ Self.made self.old) }
         ensures ids { Self.told self.new ≡ Self.told self.old }
+        ensures longest { most self.new ≡ most self.old }
         ensures io { io self.new ≡ io self.old }
         ensures cause { IfErr result (Self.held self.new) };
 
@@ -34,6 +43,7 @@ pub trait Contents: View {
         ensures err { OnErr result (io self.new ≡ io self.old) }
         ensures looks { Self.made self.new ≡ Self.made self.old }
         ensures ids { Self.told self.new ≡ Self.told self.old }
+        ensures longest { most self.new ≡ most self.old }
         ensures cause { IfErr result (Self.held self.new) };
 
     /// Reserves places for so many fresh blocks of one extent, behind a pointer for each copy.
@@ -45,6 +55,7 @@ pub trait Contents: View {
         ensures err { OnErr result (io self.new ≡ io self.old) }
         ensures looks { Self.made self.new ≡ Self.made self.old }
         ensures ids { Self.told self.new ≡ Self.told self.old }
+        ensures longest { most self.new ≡ most self.old }
         ensures cause { IfErr result (Self.held self.new) };
 
     /// Writes a block at all its places, which were reserved through this view.
@@ -59,5 +70,6 @@ pub trait Contents: View {
         ensures err { OnErr result (io self.new ≡ io self.old) }
         ensures looks { Self.made self.new ≡ Self.made self.old }
         ensures ids { Self.told self.new ≡ Self.told self.old }
+        ensures longest { most self.new ≡ most self.old }
         ensures cause { IfErr result (Self.held self.new) };
 }

@@ -5,9 +5,10 @@ ghost use Rattle.file_plan.specs.Content.{AreExtentsInRange};
 ghost use Rattle.file_plan.specs.Ends.{IsEndWritten, end_bytes, end_of, has_end, zeroed};
 ghost use Rattle.key_meaning.specs.Forest.{Read};
 ghost use Rattle.file_plan.specs.Runs.{bytes_of};
+ghost use Rattle.file_plan.specs.Seen.{IsSeenUpTo};
 ghost use Rattle.extent_ops.specs.Content.{given_by};
 ghost use Rattle.key_view.specs.Holds.{IsCause};
-ghost use Rattle.key_view.specs.Seen.{GoesOn, IsSeen};
+ghost use Rattle.key_view.specs.Seen.{GoesOn};
 ghost use Rattle.vol_types.specs.KeyMaps.{KeyMap};
 ghost use Rattle.vol_types.specs.Limits.{block_size};
 
@@ -29,16 +30,19 @@ pub fn end_block<V: Contents>(
     size: u64,
 ) -> Result<Option<Bytes>, Hold>
     ensures bytes { IfOk result (λ end. (keys : KeyMap) (read : Read)
-        → IsSeen keys (V.made view.new) tree.now → Holds read (V.io view.new)
+        → IsSeenUpTo keys (V.made view.new) tree.now (V.most view.new) → Holds read (V.io view.new)
         → AreExtentsInRange keys → end ≡ end_bytes keys read id number size) }
-    ensures there { IfOk result (λ end. (keys : KeyMap) → IsSeen keys (V.made view.new) tree.now
+    ensures there { IfOk result (λ end. (keys : KeyMap)
+        → IsSeenUpTo keys (V.made view.new) tree.now (V.most view.new)
         → AreExtentsInRange keys → is_some end ≡ has_end keys id number size) }
-    ensures reads { IfOk result (λ _. (keys : KeyMap) → IsSeen keys (V.made view.new) tree.now
+    ensures reads { IfOk result (λ _. (keys : KeyMap)
+        → IsSeenUpTo keys (V.made view.new) tree.now (V.most view.new)
         → AreExtentsInRange keys
         → ReadsBlock (end_of keys id number size) (V.io view.old) (V.io view.new)) }
     ensures size { IfOk result (λ end. IfSome end (λ bytes. length bytes ≡ block_size)) }
     ensures looks { GoesOn (V.made view.old) (V.made view.new) }
     ensures ids { V.told view.new ≡ V.told view.old }
+    ensures longest { V.most view.new ≡ V.most view.old }
     ensures io { OnlyReads (V.io view.old) (V.io view.new) }
     ensures cause { IfErr result (IsCause (V.held view.new)) }
 {
@@ -62,19 +66,22 @@ pub fn write_end<V: Contents>(
     size: u64,
 ) -> Result<Keys, Hold>
     ensures bytes { IfOk result (λ fresh. (keys : KeyMap) (read : Read)
-        → IsSeen keys (V.made view.new) tree.now → Holds read (V.io view.new)
+        → IsSeenUpTo keys (V.made view.new) tree.now (V.most view.new) → Holds read (V.io view.new)
         → AreExtentsInRange keys → option_and_then (bytes_of read)
         (given_by fresh (size / block_size)) ≡ end_bytes keys read id number size) }
-    ensures there { IfOk result (λ fresh. (keys : KeyMap) → IsSeen keys (V.made view.new) tree.now
+    ensures there { IfOk result (λ fresh. (keys : KeyMap)
+        → IsSeenUpTo keys (V.made view.new) tree.now (V.most view.new)
         → AreExtentsInRange keys
         → is_some (given_by fresh (size / block_size)) ≡ has_end keys id number size) }
-    ensures reads { IfOk result (λ _. (keys : KeyMap) → IsSeen keys (V.made view.new) tree.now
+    ensures reads { IfOk result (λ _. (keys : KeyMap)
+        → IsSeenUpTo keys (V.made view.new) tree.now (V.most view.new)
         → AreExtentsInRange keys
         → ReadsBlock (end_of keys id number size) (V.io view.old) (V.io view.new)) }
     ensures written { IfOk result (λ fresh. IsEndWritten number id size fresh (V.io view.old)
         (V.io view.new)) }
     ensures looks { GoesOn (V.made view.old) (V.made view.new) }
     ensures ids { V.told view.new ≡ V.told view.old }
+    ensures longest { V.most view.new ≡ V.most view.old }
     ensures io { IoGoesOn (V.io view.old) (V.io view.new) }
     ensures cause { IfErr result (IsCause (V.held view.new)) }
 {

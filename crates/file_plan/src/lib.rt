@@ -3,6 +3,9 @@
 //! A file's blocks are put by extents of up to 16 blocks, each at places that were reserved for it, and cut from its end.
 //! Bytes behind the end of a file count for nothing: where it grows, the block of its old end is written anew with zeros behind
 //! that end, and put in front of the other extents. All updates are of the id that sees the file so.
+//!
+//! A look for blocks takes the keys of the file that end in their range, or in as many blocks behind it as the longest extent or hole
+//! of the volume has, and costs a step for each of them: a view is told this number (`Contents::longest`).
 #![tactic(auto)]
 
 mod block_io;

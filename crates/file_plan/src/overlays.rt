@@ -3,9 +3,10 @@ ghost use Rattle.std.specs.List.{range_with_len};
 ghost use Rattle.file_plan.specs.BlockIo.{Holds, OnlyReads};
 ghost use Rattle.file_plan.specs.Content.{AreExtentsInRange, HasFile};
 ghost use Rattle.file_plan.specs.Writes.{block_after, byte_over, is_over};
+ghost use Rattle.file_plan.specs.Seen.{IsSeenUpTo};
 ghost use Rattle.key_meaning.specs.Forest.{Read, bytes_in, content_of};
 ghost use Rattle.key_view.specs.Holds.{IsCause};
-ghost use Rattle.key_view.specs.Seen.{GoesOn, IsSeen};
+ghost use Rattle.key_view.specs.Seen.{GoesOn};
 ghost use Rattle.vol_types.specs.KeyMaps.{KeyMap};
 ghost use Rattle.vol_types.specs.Limits.{block_size};
 
@@ -33,12 +34,13 @@ pub fn block_after<V: Contents>(
     requires numbers { block < 2 ^ 40 }
     requires fits { offset + length bytes.now < 2 ^ 64 }
     ensures after { IfOk result (λ made. (keys : KeyMap) (read : Read)
-        → IsSeen keys (V.made view.new) tree.now → Holds read (V.io view.new)
+        → IsSeenUpTo keys (V.made view.new) tree.now (V.most view.new) → Holds read (V.io view.new)
         → HasFile keys id number size
         → made ≡ block_after offset bytes.now (content_of keys read id number size) block) }
     ensures size { IfOk result (λ made. length made ≡ block_size) }
     ensures looks { GoesOn (V.made view.old) (V.made view.new) }
     ensures ids { V.told view.new ≡ V.told view.old }
+    ensures longest { V.most view.new ≡ V.most view.old }
     ensures io { OnlyReads (V.io view.old) (V.io view.new) }
     ensures cause { IfErr result (IsCause (V.held view.new)) }
 {
@@ -60,12 +62,13 @@ fn base_of<V: Contents>(
     requires numbers { block < 2 ^ 40 }
     requires fits { offset + length bytes.now < 2 ^ 64 }
     ensures shown { IfOk result (λ base. (keys : KeyMap) (read : Read)
-        → IsSeen keys (V.made view.new) tree.now → Holds read (V.io view.new)
+        → IsSeenUpTo keys (V.made view.new) tree.now (V.most view.new) → Holds read (V.io view.new)
         → AreExtentsInRange keys → (block * block_size < offset)
         ⊎ (offset + length bytes.now < block * block_size + block_size)
         → base ≡ unwrap_or (bytes_in keys read id number block) []) }
     ensures looks { GoesOn (V.made view.old) (V.made view.new) }
     ensures ids { V.told view.new ≡ V.told view.old }
+    ensures longest { V.most view.new ≡ V.most view.old }
     ensures io { OnlyReads (V.io view.old) (V.io view.new) }
     ensures cause { IfErr result (IsCause (V.held view.new)) }
 {

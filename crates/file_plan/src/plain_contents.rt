@@ -1,9 +1,13 @@
-ghost use Rattle.std.specs.Prelude.{◌≡◌, ◌∷◌, [], ⊤, length, IfOk, IfSome};
+ghost use Rattle.std.specs.Prelude.{◌≡◌, ◌≤◌, ◌∷◌, [], ⊤, All, length, IfOk, IfSome};
+ghost use Rattle.extent_ops.specs.Looking.{AreExtentsUpTo};
 ghost use Rattle.file_plan.specs.BlockIo.{places_of};
+ghost use Rattle.key_meaning.specs.Blocks.{blocks_of};
+ghost use Rattle.key_view.specs.Plain.{key_map_of};
 ghost use Rattle.vol_digest.specs.Digests.{short_of};
 ghost use Rattle.vol_types.specs.Limits.{block_size};
 
 use crate::{BlockIo, Contents, KnownBlock, Reservation};
+use extent_ops::longest_with;
 use key_view::{Hold, PlainKeys, PlainView, View};
 use snap_tree::SnapTree;
 use std::alloc::{AllocError, Global};
@@ -12,7 +16,7 @@ use std::sync::Arc;
 use vol_digest::short;
 use vol_types::{
     BLOCK_SIZE, Bytes, Duplicate, Keys, Listing, Looks, Lost, Place, Places, Pointer, Pointers,
-    Query, Reads, Short,
+    Pos, Query, Reads, Short, Value,
 };
 
 /// A view of a key map and of blocks in memory, on one device. It waits for nothing, and fails where it is out of memory, where
@@ -23,23 +27,29 @@ pub struct PlainContents {
     view: PlainView,
     blocks: BTreeMap<u32, Bytes>,
     next: u32,
+    longest: u64,
     io: BlockIo,
 }
 
 impl PlainContents {
-    /// A view of these keys, with a tree of ids, and of blocks by their numbers. Places are reserved from a block on.
+    /// A view of these keys, with a tree of ids, and of blocks by their numbers. Places are reserved from a block on. It costs a step
+    /// for each extent and hole.
     pub fn new(
         alloc: Global,
         keys: PlainKeys,
         tree: Arc<SnapTree>,
         blocks: BTreeMap<u32, Bytes>,
         next: u32,
-    ) -> PlainContents {
+    ) -> PlainContents
+        ensures { AreExtentsUpTo result.longest (key_map_of keys) }
+    {
+        let longest = longest_of(&keys.extents);
         PlainContents {
             alloc,
             view: PlainView::new(alloc, keys, tree),
             blocks,
             next,
+            longest,
             io: BlockIo {
                 read: Listing::new(alloc),
                 reserved: Listing::new(alloc),
@@ -76,6 +86,12 @@ impl View for PlainContents {
 
 impl Contents for PlainContents {
     ghost io = { λ contents. contents.io };
+
+    ghost most = { λ contents. contents.longest };
+
+    fn longest(&self) -> u64 {
+        self.longest
+    }
 
     fn find(&mut self, query: &Query) -> Result<Keys, Hold> {
         self.view.look(query)
@@ -120,6 +136,17 @@ impl Contents for PlainContents {
         self.io.written.push(known)?;
         Ok(())
     }
+}
+
+// How many blocks the longest of some extents and holes has.
+fn longest_of(values: &BTreeMap<Pos, Value>) -> u64
+    ensures { All (λ entry. blocks_of entry.1 ≤ result) values.now.entries }
+{
+    let mut longest = 0;
+    for (_, value) in values {
+        longest = longest_with(value, longest);
+    }
+    longest
 }
 
 // The places of pointers.

@@ -35,6 +35,7 @@ pub fn write_run<V: Contents>(
         → GiveBytes read keys first blocks.now) }
     ensures looks { V.made view.new ≡ V.made view.old }
     ensures ids { V.told view.new ≡ V.told view.old }
+    ensures longest { V.most view.new ≡ V.most view.old }
     ensures io { IoGoesOn (V.io view.old) (V.io view.new) }
     ensures cause { IfErr result (IsCause (V.held view.new)) }
 {
@@ -71,6 +72,7 @@ fn write_extent<V: Contents>(
         → GiveBytes read (key ∷ []) first blocks.now) }
     ensures looks { V.made view.new ≡ V.made view.old }
     ensures ids { V.told view.new ≡ V.told view.old }
+    ensures longest { V.most view.new ≡ V.most view.old }
     ensures io { IoGoesOn (V.io view.old) (V.io view.new) }
     ensures cause { IfErr result (IsCause (V.held view.new)) }
 {
@@ -107,6 +109,7 @@ fn write_blocks<V: Contents>(
         ≡ (V.io view.old).written ++ written_at 0 pointers.now blocks.now) }
     ensures looks { V.made view.new ≡ V.made view.old }
     ensures ids { V.told view.new ≡ V.told view.old }
+    ensures longest { V.most view.new ≡ V.most view.old }
     ensures io { IoGoesOn (V.io view.old) (V.io view.new) }
     ensures cause { IfErr result (IsCause (V.held view.new)) }
 {

@@ -332,3 +332,53 @@ fn truncations_in_steps(rt: HostRuntime) -> Result<(), Fail> {
     }
     Ok(())
 }
+
+/// Holes in the copy, each by the block at which it ends and how many it has, and what the copy shows of block 200 then. Its
+/// ancestor has an extent of that block alone.
+const HOLES: [(u64, u32, Option<(u8, u8)>); 4] = [
+    // One that is longer than a truncation makes them, and ends far behind the block.
+    (500, 300, None),
+    (500, 299, Some((1, 2))),
+    (216, 16, None),
+    (217, 16, Some((1, 2))),
+];
+
+// How many blocks the longest extent or hole has, and what the copy shows of block 200.
+fn shown_there(alloc: Global, disk: &mut Disk) -> Result<(u64, Option<(u8, u8)>), Fail> {
+    let mut view = view_of(alloc, disk)?;
+    let longest = view.longest();
+    let tree = view.tree()?;
+    let shown = head_of(shown_block(alloc, &mut view, &tree, COPY, NUMBER, 200)?);
+    let (blocks, _) = view.into_blocks();
+    disk.blocks = blocks;
+    Ok((longest, shown))
+}
+
+#[test]
+fn hidden_by_holes(rt: HostRuntime) -> Result<(), Fail> {
+    let alloc = rt.alloc();
+    let mut disk = Disk {
+        keys: BTreeMap::new(alloc),
+        blocks: BTreeMap::new(alloc),
+        next: 16,
+    };
+    let written = Step::Write {
+        id: OLD,
+        size: 0,
+        offset: 819_200,
+        bytes: [1, 2],
+    };
+    take(alloc, &mut disk, written)?;
+    assert_eq!(rt; shown_there(alloc, &mut disk)?, (1, Some((1, 2))));
+    for (end, blocks, shown) in HOLES {
+        let pos = Pos {
+            inode: NUMBER,
+            offset: end,
+            snapshot: COPY,
+        };
+        disk.keys.insert(pos, Value::Hole { blocks })?;
+        assert_eq!(rt; shown_there(alloc, &mut disk)?, (u64::from(blocks), shown));
+        disk.keys.remove(&pos);
+    }
+    Ok(())
+}

@@ -27,7 +27,7 @@ returns-in-Put-clause-fits g c = carried c.put.result _ _
 
 pub returns-in-Put-clause-near : goal.returns-in-Put-clause-near
 returns-in-Put-clause-near g c = carried c.put.result _ _
-    (λ updates near keys seen range kept. subst (λ (change : Change). AreNear change c.args.number c.args.id c.args.size updates) (sym c.in-Put.is) (near keys c.args.size seen range kept))
+    (λ updates near keys longest seen range up_to. subst (λ (change : Change). AreNear change c.args.number c.args.id c.args.size longest updates) (sym c.in-Put.is) (near keys c.args.size longest seen range up_to))
     c.put.ensures.near
 
 pub returns-in-Put-clause-placed : goal.returns-in-Put-clause-placed
@@ -39,7 +39,7 @@ returns-in-Put-clause-placed g c = carried c.put.result _ _
 
 pub returns-in-Cut-clause-near : goal.returns-in-Cut-clause-near
 returns-in-Cut-clause-near g c = carried c.cut.result _ _
-    (λ updates near keys seen range kept. subst (λ (change : Change). AreNear change c.args.number c.args.id c.args.size updates) (sym c.in-Cut.is) (near keys seen range kept))
+    (λ updates near keys longest seen range up_to. subst (λ (change : Change). AreNear change c.args.number c.args.id c.args.size longest updates) (sym c.in-Cut.is) (near keys longest seen range up_to))
     c.cut.ensures.near
 
 pub returns-in-Cut-clause-placed : goal.returns-in-Cut-clause-placed

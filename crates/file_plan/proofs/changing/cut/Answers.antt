@@ -5,7 +5,6 @@ use Rattle.vol_types.specs.KeyMaps.{with_updates}
 use Rattle.key_meaning.specs.Checks.{AreBlocksPlaced}
 use Rattle.extent_ops.specs.Content.{AreOfContent, IsNear, TakesBlocks, hidden_if, is_covered_above}
 use Rattle.file_plan.specs.Sizes.{blocks_up_to, cut_size}
-use Rattle.file_plan.proofs.Looked.{last_look}
 use Rattle.file_plan.proofs.Losing.{cut_blocks, cut_bytes, nothing_less, nothing_lost}
 use Rattle.file_plan.proofs.Taking.{no_updates, same_range}
 use Rattle.file_plan.proofs.changing.cut.Goals as goal
@@ -47,10 +46,9 @@ returns-clause-changed g c = λ keys read seen had.
     let takes : TakesBlocks keys new c.args.number c.args.id (λ block. nat_le (blocks_up_to new_size) block && nat_lt block (blocks_up_to size)) (λ block. hidden_if (is_covered_above keys c.args.id c.args.number block)) =
     subst (λ cut. TakesBlocks keys new c.args.number c.args.id cut (λ block. hidden_if (is_covered_above keys c.args.id c.args.number block)))
     (λ i block. (same_range first end block (omega (arith, c.if-end-first.false)) ∙ (λ j. nat_le (first_is j) block && nat_lt block (c.blocks_up_to-end.ensures.is j))) i)
-    (c.in_ok-punch.ensures.taken keys c.args.number seen.is_map seen.ids had.once had.in_range.places (let fits = c.ranges.size in omega (arith, c.if-end-first.false))
-    (c.reached_keys_are_looked_at.ensures keys c.args.number first (end - 1) c.in_ok-keys.keys had.in_range.each
-    (last_look keys _ _ _ _ c.in_ok-keys.keys c.in_ok-keys.ensures.ok c.reach.ensures seen.gives))) in
-    let tree = subst IsSnapTree (sym seen.ids) c.ids_fit.ensures.trees in
+    (c.in_ok-punch.ensures.taken keys c.args.number seen.is_seen.is_map seen.is_seen.ids had.once had.in_range.places (let fits = c.ranges.size in omega (arith, c.if-end-first.false))
+    (c.in_ok-keys.ensures.found keys _ seen had.in_range)) in
+    let tree = subst IsSnapTree (sym seen.is_seen.ids) c.ids_fit.ensures.trees in
     cut_bytes keys new read c.args.id c.args.number size new_size had
     (record {
       hidden = λ block is. c.taken_blocks_show.ensures.hidden keys new c.args.number c.args.id (λ b. nat_le (blocks_up_to new_size) b && nat_lt b (blocks_up_to size)) takes tree had.there block is;
@@ -68,10 +66,9 @@ returns-clause-takes g c = λ keys seen had.
     let takes : TakesBlocks keys new c.args.number c.args.id (λ block. nat_le (blocks_up_to new_size) block && nat_lt block (blocks_up_to size)) (λ block. hidden_if (is_covered_above keys c.args.id c.args.number block)) =
     subst (λ cut. TakesBlocks keys new c.args.number c.args.id cut (λ block. hidden_if (is_covered_above keys c.args.id c.args.number block)))
     (λ i block. (same_range first end block (omega (arith, c.if-end-first.false)) ∙ (λ j. nat_le (first_is j) block && nat_lt block (c.blocks_up_to-end.ensures.is j))) i)
-    (c.in_ok-punch.ensures.taken keys c.args.number seen.is_map seen.ids had.once had.in_range.places (let fits = c.ranges.size in omega (arith, c.if-end-first.false))
-    (c.reached_keys_are_looked_at.ensures keys c.args.number first (end - 1) c.in_ok-keys.keys had.in_range.each
-    (last_look keys _ _ _ _ c.in_ok-keys.keys c.in_ok-keys.ensures.ok c.reach.ensures seen.gives))) in
-    let tree = subst IsSnapTree (sym seen.ids) c.ids_fit.ensures.trees in
+    (c.in_ok-punch.ensures.taken keys c.args.number seen.is_seen.is_map seen.is_seen.ids had.once had.in_range.places (let fits = c.ranges.size in omega (arith, c.if-end-first.false))
+    (c.in_ok-keys.ensures.found keys _ seen had.in_range)) in
+    let tree = subst IsSnapTree (sym seen.is_seen.ids) c.ids_fit.ensures.trees in
     cut_blocks keys new c.args.id c.args.number size new_size had
     (record {
       hidden = λ block is. c.taken_blocks_show.ensures.hidden keys new c.args.number c.args.id (λ b. nat_le (blocks_up_to new_size) b && nat_lt b (blocks_up_to size)) takes tree had.there block is;
@@ -85,27 +82,24 @@ returns-clause-fits g c = λ keys seen range kept fresh content.
     let end = c.blocks_up_to-end.result in
     c.in_ok-punch.ensures.fits
     (c.looked_at_keys_are_content.ensures.content keys c.args.number first (end - 1) c.in_ok-keys.keys kept
-    (c.reached_keys_are_looked_at.ensures keys c.args.number first (end - 1) c.in_ok-keys.keys range.each
-    (last_look keys _ _ _ _ c.in_ok-keys.keys c.in_ok-keys.ensures.ok c.reach.ensures seen.gives)))
+    (c.in_ok-keys.ensures.found keys _ seen range))
 
 pub returns-clause-near : goal.returns-clause-near
-returns-clause-near g c = λ keys seen range kept.
+returns-clause-near g c = λ keys longest seen range up_to.
     let first = c.blocks_up_to-first.result in
     let end = c.blocks_up_to-end.result in
     let first_is : first ≡ blocks_up_to (cut_size c.args.size c.args.new) = c.blocks_up_to-first.ensures.is ∙ ap blocks_up_to c.cut_size.ensures.is in
-    let looked = c.reached_keys_are_looked_at.ensures keys c.args.number first (end - 1) c.in_ok-keys.keys range.each
-    (last_look keys _ _ _ _ c.in_ok-keys.keys c.in_ok-keys.ensures.ok c.reach.ensures seen.gives) in
-    subst (λ n. All (IsNear c.args.number n (blocks_up_to c.args.size - 1)) c.in_ok-punch.field-0) first_is
-    (subst (λ n. All (IsNear c.args.number first (n - 1)) c.in_ok-punch.field-0) c.blocks_up_to-end.ensures.is
-    (c.in_ok-punch.ensures.near c.args.number
+    let looked = c.in_ok-keys.ensures.found keys _ seen range in
+    subst (λ n. All (IsNear c.args.number n (blocks_up_to c.args.size - 1) longest) c.in_ok-punch.field-0) first_is
+    (subst (λ n. All (IsNear c.args.number first (n - 1) longest) c.in_ok-punch.field-0) c.blocks_up_to-end.ensures.is
+    (c.in_ok-punch.ensures.near c.args.number longest
     (c.looked_at_keys_are_content.ensures.of_file keys c.args.number first (end - 1) c.in_ok-keys.keys looked)
-    (c.looked_at_keys_are_content.ensures.content keys c.args.number first (end - 1) c.in_ok-keys.keys kept looked)))
+    (c.looked_at_keys_are_content.ensures.up_to keys c.args.number first (end - 1) longest c.in_ok-keys.keys up_to looked)))
 
 pub returns-clause-placed : goal.returns-clause-placed
 returns-clause-placed g c = λ keys nodes layout seen range fresh placed may.
     let first = c.blocks_up_to-first.result in
     let end = c.blocks_up_to-end.result in
-    c.in_ok-punch.ensures.placed keys c.args.number nodes layout seen.is_map range.places
-    (c.reached_keys_are_looked_at.ensures keys c.args.number first (end - 1) c.in_ok-keys.keys range.each
-    (last_look keys _ _ _ _ c.in_ok-keys.keys c.in_ok-keys.ensures.ok c.reach.ensures seen.gives))
+    c.in_ok-punch.ensures.placed keys c.args.number nodes layout seen.is_seen.is_map range.places
+    (c.in_ok-keys.ensures.found keys _ seen range)
     placed

@@ -5,7 +5,6 @@ use Rattle.vol_types.specs.KeyMaps.{with_updates}
 use Rattle.vol_types.specs.declared.keys.Key.{Key}
 use Rattle.key_meaning.specs.Checks.{AreBlocksPlaced}
 use Rattle.extent_ops.specs.Content.{AreFresh, AreFreshWithin, AreOfContent, given_by}
-use Rattle.file_plan.proofs.Looked.{last_look}
 use Rattle.file_plan.proofs.Putting.{fresh_show, if_none, nothing_put, nothing_shows, put_blocks, put_bytes}
 use Rattle.file_plan.proofs.Taking.{no_updates}
 use Rattle.file_plan.proofs.changing.put.Goals as goal
@@ -39,10 +38,9 @@ returns-clause-changed g c = λ keys read size seen had fresh.
       fresh = fresh;
       within = subst (All (λ (key : Key). key.pos.offset ≤ last + 1)) c.as_slice.ensures (c.in-Some.ensures.within c.args.number c.args.id c.args.first (subst (AreFresh c.args.number c.args.id c.args.first) (sym c.as_slice.ensures) fresh));
     } in
-    let takes = c.in_ok-overwrite.ensures.taken keys c.args.number c.args.first last seen.is_map had.once had.in_range.places within
-    (c.reached_keys_are_looked_at.ensures keys c.args.number c.args.first last c.in_ok-keys.keys had.in_range.each
-    (last_look keys _ _ _ _ c.in_ok-keys.keys c.in_ok-keys.ensures.ok c.reach.ensures seen.gives)) in
-    let tree = subst IsSnapTree (sym seen.ids) c.ids_fit.ensures.trees in
+    let takes = c.in_ok-overwrite.ensures.taken keys c.args.number c.args.first last seen.is_seen.is_map had.once had.in_range.places within
+    (c.in_ok-keys.ensures.found keys _ seen had.in_range) in
+    let tree = subst IsSnapTree (sym seen.is_seen.ids) c.ids_fit.ensures.trees in
     put_bytes keys new read c.args.id c.args.number size extents
     (fresh_show keys new c.args.id c.args.number extents
     (λ block is. c.taken_blocks_show.ensures.taken keys new c.args.number c.args.id (λ b. is_some (given_by extents b)) (given_by extents) takes tree had.there block is)
@@ -58,10 +56,9 @@ returns-clause-takes g c = λ keys size seen had fresh.
       fresh = fresh;
       within = subst (All (λ (key : Key). key.pos.offset ≤ last + 1)) c.as_slice.ensures (c.in-Some.ensures.within c.args.number c.args.id c.args.first (subst (AreFresh c.args.number c.args.id c.args.first) (sym c.as_slice.ensures) fresh));
     } in
-    let takes = c.in_ok-overwrite.ensures.taken keys c.args.number c.args.first last seen.is_map had.once had.in_range.places within
-    (c.reached_keys_are_looked_at.ensures keys c.args.number c.args.first last c.in_ok-keys.keys had.in_range.each
-    (last_look keys _ _ _ _ c.in_ok-keys.keys c.in_ok-keys.ensures.ok c.reach.ensures seen.gives)) in
-    let tree = subst IsSnapTree (sym seen.ids) c.ids_fit.ensures.trees in
+    let takes = c.in_ok-overwrite.ensures.taken keys c.args.number c.args.first last seen.is_seen.is_map had.once had.in_range.places within
+    (c.in_ok-keys.ensures.found keys _ seen had.in_range) in
+    let tree = subst IsSnapTree (sym seen.is_seen.ids) c.ids_fit.ensures.trees in
     put_blocks keys new c.args.id c.args.number size extents
     (fresh_show keys new c.args.id c.args.number extents
     (λ block is. c.taken_blocks_show.ensures.taken keys new c.args.number c.args.id (λ b. is_some (given_by extents b)) (given_by extents) takes tree had.there block is)
@@ -77,16 +74,14 @@ returns-clause-fits g c = λ keys seen range kept fresh content.
     } in
     c.in_ok-overwrite.ensures.fits c.args.number c.args.first last within
     (c.looked_at_keys_are_content.ensures.content keys c.args.number c.args.first last c.in_ok-keys.keys kept
-    (c.reached_keys_are_looked_at.ensures keys c.args.number c.args.first last c.in_ok-keys.keys range.each
-    (last_look keys _ _ _ _ c.in_ok-keys.keys c.in_ok-keys.ensures.ok c.reach.ensures seen.gives)))
+    (c.in_ok-keys.ensures.found keys _ seen range))
     content
 
 pub returns-clause-near : goal.returns-clause-near
-returns-clause-near g c = λ keys size seen range kept last within.
-    c.in_ok-overwrite.ensures.near c.args.number c.args.first last within
-    (c.looked_at_keys_are_content.ensures.content keys c.args.number c.args.first c.in-Some.last c.in_ok-keys.keys kept
-    (c.reached_keys_are_looked_at.ensures keys c.args.number c.args.first c.in-Some.last c.in_ok-keys.keys range.each
-    (last_look keys _ _ _ _ c.in_ok-keys.keys c.in_ok-keys.ensures.ok c.reach.ensures seen.gives)))
+returns-clause-near g c = λ keys size longest seen range up_to last within.
+    c.in_ok-overwrite.ensures.near c.args.number c.args.first last longest within
+    (c.looked_at_keys_are_content.ensures.up_to keys c.args.number c.args.first c.in-Some.last longest c.in_ok-keys.keys up_to
+    (c.in_ok-keys.ensures.found keys _ seen range))
 
 pub returns-clause-placed : goal.returns-clause-placed
 returns-clause-placed g c = λ keys nodes layout seen range fresh placed may.
@@ -95,7 +90,6 @@ returns-clause-placed g c = λ keys nodes layout seen range fresh placed may.
       fresh = fresh;
       within = subst (All (λ (key : Key). key.pos.offset ≤ last + 1)) c.as_slice.ensures (c.in-Some.ensures.within c.args.number c.args.id c.args.first (subst (AreFresh c.args.number c.args.id c.args.first) (sym c.as_slice.ensures) fresh));
     } in
-    c.in_ok-overwrite.ensures.placed keys c.args.number c.args.first last nodes layout seen.is_map range.places within
-    (c.reached_keys_are_looked_at.ensures keys c.args.number c.args.first last c.in_ok-keys.keys range.each
-    (last_look keys _ _ _ _ c.in_ok-keys.keys c.in_ok-keys.ensures.ok c.reach.ensures seen.gives))
+    c.in_ok-overwrite.ensures.placed keys c.args.number c.args.first last nodes layout seen.is_seen.is_map range.places within
+    (c.in_ok-keys.ensures.found keys _ seen range)
     placed may

@@ -16,18 +16,18 @@ returns-in-None-clause-io g c = reads_go_on _ _ c.end_block.ensures.io
 pub returns-in-Some-clause-bytes : goal.returns-in-Some-clause-bytes
 returns-in-Some-clause-bytes g c = carried c.write_run.result _ _
     (λ fresh gives keys read seen holds range. (gives read holds).0 ∙ sym c.in-Some.is
-    ∙ c.in_ok-end_block.ensures.bytes keys read (seen_same keys _ _ _ c.write_run.ensures.looks seen) (held_before read _ _ c.write_run.ensures.io holds) range)
+    ∙ c.in_ok-end_block.ensures.bytes keys read (seen_same keys _ _ _ _ _ c.write_run.ensures.looks c.write_run.ensures.longest seen) (held_before read _ _ c.write_run.ensures.io holds) range)
     c.write_run.ensures.holds
 
 pub returns-in-Some-clause-there : goal.returns-in-Some-clause-there
 returns-in-Some-clause-there g c = carried c.write_run.result _ _
     (λ fresh written keys seen range. run_gives c.args.number c.args.id (c.args.size / block_size) _ (c.args.size / block_size) fresh written.run (omega arith) (omega arith)
-    ∙ ap is_some (sym c.in-Some.is) ∙ c.in_ok-end_block.ensures.there keys (seen_same keys _ _ _ c.write_run.ensures.looks seen) range)
+    ∙ ap is_some (sym c.in-Some.is) ∙ c.in_ok-end_block.ensures.there keys (seen_same keys _ _ _ _ _ c.write_run.ensures.looks c.write_run.ensures.longest seen) range)
     c.write_run.ensures.written
 
 pub returns-in-Some-clause-reads : goal.returns-in-Some-clause-reads
 returns-in-Some-clause-reads g c = carried c.write_run.result _ _
-    (λ fresh written keys seen range. reads_then _ _ _ _ (c.in_ok-end_block.ensures.reads keys (seen_same keys _ _ _ c.write_run.ensures.looks seen) range) written.read)
+    (λ fresh written keys seen range. reads_then _ _ _ _ (c.in_ok-end_block.ensures.reads keys (seen_same keys _ _ _ _ _ c.write_run.ensures.looks c.write_run.ensures.longest seen) range) written.read)
     c.write_run.ensures.written
 
 pub returns-in-None-clause-written : goal.returns-in-None-clause-written

@@ -11,5 +11,6 @@ loop-block-init g c = record {
   written = refl;
   looks = refl;
   ids = refl;
+  longest = refl;
   io = io_stays _ _ refl;
 }

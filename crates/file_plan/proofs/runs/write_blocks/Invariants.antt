@@ -13,5 +13,6 @@ invariant-loop-block g l = record {
   written : (g.V.Contents.io l.view).written ++ written_at l.index l.pointers (drop l.block-index l.blocks) ≡ (g.V.Contents.io l.fn.view).written ++ written_at 0 l.pointers l.blocks;
   looks : g.V.View.made l.view ≡ g.V.View.made l.fn.view;
   ids : g.V.View.told l.view ≡ g.V.View.told l.fn.view;
+  longest : g.V.Contents.most l.view ≡ g.V.Contents.most l.fn.view;
   io : GoesOn (g.V.Contents.io l.fn.view) (g.V.Contents.io l.view);
 }

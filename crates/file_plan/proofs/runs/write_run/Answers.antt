@@ -7,17 +7,17 @@ use Rattle.file_plan.proofs.runs.write_run.Goals as goal
 
 pub loop-rest-init : goal.loop-rest-init
 loop-rest-init g c =
-    subst (λ (keys : List Key). RunSoFar c.args.number c.args.id c.args.first c.args.blocks.now keys c.args.first c.args.blocks.now (g.V.Contents.io c.args.view.now) (g.V.Contents.io c.args.view.now) (g.V.View.made c.args.view.now) (g.V.View.made c.args.view.now) (g.V.View.told c.args.view.now) (g.V.View.told c.args.view.now))
-    (sym c.new-keys.ensures) (none_so_far c.args.number c.args.id c.args.first c.args.blocks.now _ _ _)
+    subst (λ (keys : List Key). RunSoFar c.args.number c.args.id c.args.first c.args.blocks.now keys c.args.first c.args.blocks.now (g.V.Contents.io c.args.view.now) (g.V.Contents.io c.args.view.now) (g.V.View.made c.args.view.now) (g.V.View.made c.args.view.now) (g.V.View.told c.args.view.now) (g.V.View.told c.args.view.now) (g.V.Contents.most c.args.view.now) (g.V.Contents.most c.args.view.now))
+    (sym c.new-keys.ensures) (none_so_far c.args.number c.args.id c.args.first c.args.blocks.now _ _ _ _)
 
 pub write_extent-requires-clause-sizes : goal.write_extent-requires-clause-sizes
 write_extent-requires-clause-sizes g c = next_ones (λ (bytes : List ℕ). length bytes ≡ block_size) c.args.blocks.now c.loop-rest.invariant.done c.loop-rest.rest.now c.split_at.result.0.now c.min.result c.loop-rest.invariant.split c.split_at.ensures.front c.requires.sizes
 
 pub loop-rest-preserved : goal.loop-rest-preserved
 loop-rest-preserved g c =
-    subst (λ (keys : List Key). RunSoFar c.args.number c.args.id c.args.first c.args.blocks.now keys c.in_ok-key.key.pos.offset c.split_at.result.1.now (g.V.Contents.io c.args.view.now) (g.V.Contents.io c.write_extent.new.view) (g.V.View.made c.args.view.now) (g.V.View.made c.write_extent.new.view) (g.V.View.told c.args.view.now) (g.V.View.told c.write_extent.new.view))
+    subst (λ (keys : List Key). RunSoFar c.args.number c.args.id c.args.first c.args.blocks.now keys c.in_ok-key.key.pos.offset c.split_at.result.1.now (g.V.Contents.io c.args.view.now) (g.V.Contents.io c.write_extent.new.view) (g.V.View.made c.args.view.now) (g.V.View.made c.write_extent.new.view) (g.V.View.told c.args.view.now) (g.V.View.told c.write_extent.new.view) (g.V.Contents.most c.args.view.now) (g.V.Contents.most c.write_extent.new.view))
     (sym c.in_ok-push.ensures.ok)
-    (one_more c.args.number c.args.id c.args.first c.args.blocks.now c.split_at.result.0.now c.split_at.result.1.now c.loop-rest.keys c.loop-rest.at c.loop-rest.rest.now c.in_ok-key.key _ _ _ _ _ _ _ _ _
+    (one_more c.args.number c.args.id c.args.first c.args.blocks.now c.split_at.result.0.now c.split_at.result.1.now c.loop-rest.keys c.loop-rest.at c.loop-rest.rest.now c.in_ok-key.key _ _ _ _ _ _ _ _ _ _ _ _
     c.loop-rest.invariant (sym (take-append-drop c.min.result c.loop-rest.rest.now) ∙ (λ i. sym c.split_at.ensures.front i ++ sym c.split_at.ensures.back i)) (not_empty c.loop-rest.rest.now c.is_empty.result c.is_empty.ensures c.loop-rest-test.true)
     (λ more. let least = c.min.ensures in let front = c.split_at.ensures.front_len in let back = c.split_at.ensures.back_len in omega (arith, least, front, back, more))
-    c.in_ok-key.ensures.written c.in_ok-key.ensures.holds c.in_ok-key.ensures.io c.in_ok-key.ensures.looks c.in_ok-key.ensures.ids)
+    c.in_ok-key.ensures.written c.in_ok-key.ensures.holds c.in_ok-key.ensures.io c.in_ok-key.ensures.looks c.in_ok-key.ensures.ids c.in_ok-key.ensures.longest)

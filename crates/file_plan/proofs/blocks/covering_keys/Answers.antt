@@ -1,0 +1,12 @@
+use Rattle.std.proofs.Common.{◌∙◌, subst, sym}
+use Rattle.extent_ops.specs.Looking.{AreExtentsUpTo}
+use Rattle.file_plan.proofs.Io.{carried}
+use Rattle.file_plan.proofs.Looked.{last_look}
+use Rattle.file_plan.proofs.blocks.covering_keys.Goals as goal
+
+pub returns-clause-found : goal.returns-clause-found
+returns-clause-found g c = carried c.find.result _ _
+    (λ found made keys tree seen range. c.reached_keys_are_looked_at.ensures keys c.args.number c.args.first c.args.last c.longest-longest.result found range.each
+    (subst (λ n. AreExtentsUpTo n keys) (c.find.ensures.longest ∙ sym c.longest-longest.ensures) seen.up_to)
+    (last_look keys _ _ _ _ found made c.reach.ensures seen.is_seen.gives))
+    c.find.ensures.ok
