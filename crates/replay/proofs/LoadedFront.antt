@@ -1,5 +1,5 @@
 -- What was loaded has the layout, the session and the needed entries that are found in the image, also where reads of nodes failed.
-use Rattle.std.proofs.Common.{◌≡◌, ℕ, List, Option, Some, None, Result, Ok, Err, ap, ◌∙◌, sym, subst}
+use Rattle.std.proofs.Common.{◌≡◌, ℕ, List, Option, Some, Result, Ok, Err, ap, ◌∙◌, sym, subst}
 use Rattle.std.specs.Prelude.{IfOk}
 use Rattle.std.specs.Option.{ok_or}
 use Rattle.dev_model.specs.Disk.{Image}

@@ -30,7 +30,7 @@ use Rattle.sealed_block.specs.Opening.{opened}
 use Rattle.vol_types.specs.declared.layout.Layout.{Layout}
 use Rattle.replay.proofs.Images.{as_many_left, as_many_read, same_sizes}
 use Rattle.replay.proofs.Sessions.{long_devices}
-use Rattle.replay.specs.Mending.{IsInOrderOn, IsMendedTo, IsUntorn, KeepsFound, StandsOnAll}
+use Rattle.replay.specs.Mending.{BringsNoBlock, IsInOrderOn, IsMendedTo, IsUntorn, KeepsFound, StandsOnAll}
 
 tail_of : List ℕ → List ℕ
 tail_of [] = []
@@ -243,7 +243,7 @@ module _ (laws : MendLaws) (f : Found) (mid : DevicesState) (on : IsInOrderOn f 
           (part_at place count)
 
       -- What stands there stood before.
-      stood : (bytes : List ℕ) → StandsIn f.layout (area_of mended) bytes → StandsIn f.layout (area_of one) bytes
+      pub stood : BringsNoBlock f.layout one mended
       stood bytes there = ⊎_elim
           (λ (part : (p : ℕ) × (p < length blocks) × (there.place ≡ (entry.number + p) % f.layout.journal)).
           let same : bytes ≡ get_or blocks part.0 [] = same_Some bytes (get_or blocks part.0 []) (sym there.stands ∙ ap (area_of mended there.dev) part.2 ∙ held there.dev part.0 there.mirror part.1) in
@@ -356,6 +356,7 @@ module _ (laws : MendLaws) (f : Found) (layout : Layout) (needed : List FoundEnt
             (λ (last : index ≤ k). subst (λ n. StandsOnAll f.layout (as_read (now new)) (get_or f.needed n f.last)) (let here : index ≡ k = omega (arith, last, low) in here) (stands_mended laws f mid on index lower new mends_here are steady are_new held_here quiet rest))
             (cases_lt k index);
       };
+      no_block = λ bytes there. so_far.no_block bytes (stood laws f mid on index lower new mends_here are steady are_new held_here quiet rest bytes there);
       past = λ m lo. mends_here.crashes.past m (omega (arith, lo, later)) ∙ so_far.past m lo;
     }
 
@@ -367,5 +368,6 @@ mended_none f state on = record {
       let same : image ≡ as_read (now state) = on.on.quiet image (subst (λ n. IsCrashImage (state.disks n) image) here may) in
       (ap found same ∙ on.on.finds, subst (IsInOrder f) (sym same) on.order);
   mended = record { found_on = on; stand = λ k low. absurd (omega (arith, low)) };
+  no_block = λ bytes there. there;
   past = λ m lo. refl;
 }

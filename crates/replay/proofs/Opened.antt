@@ -1,21 +1,23 @@
 -- What a session's beginning and the mending of the journal come to together.
-use Rattle.std.proofs.Common.{◌≡◌, ℕ, ◌+◌, ◌<◌, ◌≤◌, ⊎_elim, List, Some, Ok, ap, ◌∙◌, sym, subst, arith, All}
+use Rattle.std.proofs.Common.{◌≡◌, ℕ, ◌+◌, ◌<◌, ◌≤◌, ⊎_elim, List, length, ap, ◌∙◌, sym, subst, arith, All}
 use Rattle.std.proofs.lemmas.Bool.{cases_lt}
 use Rattle.std.proofs.lemmas.List.Elements.{All-weaker}
 use Rattle.dev_model.specs.CrashLaws.{as_read_may_be_left}
 use Rattle.dev_model.specs.Crashes.{EachCrash, SameBut}
 use Rattle.dev_model.specs.Devices.{DevicesState, now}
-use Rattle.dev_model.specs.Disk.{Disk, Image, IsCrashImage, IsDisk, as_read, block_at}
+use Rattle.dev_model.specs.Disk.{Disk, Image, IsCrashImage, IsDisk, as_read}
 use Rattle.geometry.specs.Mirrors.{AreAtRest}
 use Rattle.geometry.specs.SessionLaws.{place_is_low}
-use Rattle.geometry.specs.Sessions.{IsSessionPlace, session_place}
-use Rattle.image_view.specs.Found.{Found, IsInOrder, found, with_session}
+use Rattle.geometry.specs.Sessions.{IsSessionPlace}
+use Rattle.image_view.specs.Found.{AreOwned, Found, IsInOrder, with_session}
 use Rattle.image_view.specs.Mends.{HasNoEqualDigest, StandsIn}
+use Rattle.image_view.specs.NextEntries.{AreNumberedBelow}
 use Rattle.journal_ring.specs.Parts.{area_of}
+use Rattle.journal_ring.specs.declared.found.FoundEntry.{FoundEntry}
 use Rattle.key_codec.specs.Combined.{ok_is}
 use Rattle.vol_types.specs.declared.layout.Layout.{Layout}
 use Rattle.replay.specs.Beginning.{IsFoundOn, MeansTheSame}
-use Rattle.replay.specs.Mending.{IsInOrderOn, KeepsMeaning, KeepsPast}
+use Rattle.replay.specs.Mending.{BringsNoBlock, HasMended, IsInOrderOn, IsReady, KeepsMeaning, KeepsPast}
 
 -- ---- one meaning after another
 
@@ -83,3 +85,23 @@ module _ (f : Found) (layout : Layout) (session : ℕ) (layouts : f.layout ≡ l
 -- What was up to the first of two parts stays in the second.
 pub past_then : (old mid new : DevicesState) → old.moment ≤ mid.moment → KeepsPast old mid → KeepsPast mid new → KeepsPast old new
 past_then old mid new later first second moment le = second moment (omega (arith, le, later)) ∙ first moment le
+
+-- ---- no block of the session stands
+
+-- When a session begins no block of it stands in the journal areas, and mending brings none there.
+pub unwritten : (f : Found) (session : ℕ) → f.session ≡ session → (old mid new : Image) → AreOwned f.layout f.session (area_of old) → SameBut (IsSessionPlace f.layout (session + 1)) old mid → BringsNoBlock f.layout mid new
+    → (number : ℕ) → AreNumberedBelow f.layout (session + 1) number (area_of new)
+unwritten f session sessions old mid new owned elsewhere brings number dev place bytes head mirror within stands opens kind id owner =
+    let there = brings bytes (record { dev = dev; place = place; mirror = mirror; within = within; stands = stands }) in
+    let most = owned there.dev there.place bytes head there.mirror there.within (sym (area_same f.layout (session + 1) old mid elsewhere there.dev there.place) ∙ there.stands) opens kind id in
+    absurd (omega (arith, most, owner, sessions))
+
+-- So the volume is ready where its journal was mended then.
+pub is_ready : (f : Found) (layout : Layout) (session : ℕ) (needed : List FoundEntry) → f.layout ≡ layout → f.session ≡ session → f.needed ≡ needed → (old mid new : List Disk) → AreOwned f.layout f.session (area_of (as_read old))
+    → SameBut (IsSessionPlace layout (session + 1)) (as_read old) (as_read mid) → BringsNoBlock layout (as_read mid) (as_read new) → HasMended (with_session (session + 1) f) (length needed) new → IsReady (with_session (session + 1) f) new
+is_ready f layout session needed layouts sessions needs old mid new owned elsewhere brings mended = record {
+  mended = subst (λ (es : List FoundEntry). HasMended (with_session (session + 1) f) (length es) new) (sym needs) mended;
+  unwritten = unwritten f session sessions (as_read old) (as_read mid) (as_read new) owned
+      (subst (λ (l : Layout). SameBut (IsSessionPlace l (session + 1)) (as_read old) (as_read mid)) (sym layouts) elsewhere)
+      (subst (λ (l : Layout). BringsNoBlock l (as_read mid) (as_read new)) (sym layouts) brings);
+}

@@ -1,5 +1,5 @@
 -- What a volume's loading and its beginning come to together.
-use Rattle.std.proofs.Common.{◌≡◌, ℕ, zero, suc, ◌+◌, ◌<◌, ◌≤◌, ◌⊎◌, inl, inr, ⊎_elim, Bool, true, false, nat_lt, if◌then◌else◌, List, [], ◌∷◌, length, Option, Some, None, Result, Ok, Err, refl, ap, ◌∙◌, sym, subst, arith}
+use Rattle.std.proofs.Common.{◌≡◌, ℕ, zero, suc, ◌+◌, ◌<◌, ◌≤◌, ⊎_elim, Bool, true, false, nat_lt, if◌then◌else◌, List, [], ◌∷◌, length, Option, Some, None, Result, Ok, Err, refl, ap, ◌∙◌, sym, subst, arith}
 use Rattle.std.proofs.lemmas.Bool.{cases_lt}
 use Rattle.std.proofs.lemmas.Bool.Decides.{nat_tests}
 use Rattle.std.specs.Prelude.{IfOk, IfSome, OnOk, slice_index_or}
@@ -11,7 +11,6 @@ use Rattle.geometry.specs.Faults.{DeviceFailed, SomeFailed}
 use Rattle.image_view.specs.Found.{Found, found, with_session}
 use Rattle.image_view.specs.declared.fault.MountFault.{MountFault}
 use Rattle.image_view.specs.declared.fault.MountFault.TheVariants.{NoSuper, Version, Mixed, BadLayout, NoEntry, MissingEntry, BadNode, Unsound, DeviceFault, NoMemory}
-use Rattle.journal_ring.specs.declared.found.FoundEntry.{FoundEntry}
 use Rattle.plain_reader.specs.Answers.{Finds, IsEarly}
 use Rattle.plain_reader.specs.Faults.{mount_fault_device}
 use Rattle.tree_nodes.specs.Levels.{Levels}
@@ -19,7 +18,7 @@ use Rattle.vol_types.specs.Faults.{RoseBy}
 use Rattle.vol_types.specs.declared.layout.Layout.{Layout}
 use Rattle.replay.specs.Answers.{IsLoaded}
 use Rattle.replay.specs.Beginning.{MeansTheSame, begin_fault_device}
-use Rattle.replay.specs.Mending.{HasMended, IsInOrderOn, KeepsMeaning, KeepsPast}
+use Rattle.replay.specs.Mending.{IsInOrderOn, IsReady, KeepsMeaning, KeepsPast}
 use Rattle.replay.specs.Opening.{IsRefusal, in_next_session, opening_fault}
 use Rattle.replay.specs.Volumes.{found_in}
 use Rattle.replay.specs.declared.beginning.BeginFault.{BeginFault}
@@ -205,9 +204,7 @@ of_opened loaded (Ok opened) layouts nodes ragged P p =
     (subst (λ (births : List ℕ). P loaded.layout loaded.map.nodes births) (sym ragged) p))
 of_opened loaded (Err fault) layouts nodes ragged P p = tt
 
--- What is mended of what was loaded is mended of what was found.
-pub ready_with : (f : Found) (session : ℕ) (needed : List FoundEntry) → f.session ≡ session → f.needed ≡ needed → (result : Result Loaded MountFault) (disks : List Disk)
-    → OnOk result (HasMended (with_session (session + 1) f) (length needed) disks) → OnOk result (HasMended (with_session (f.session + 1) f) (length f.needed) disks)
-ready_with f session needed sessions needs result disks ready =
-    subst (λ (s : ℕ). OnOk result (HasMended (with_session (s + 1) f) (length f.needed) disks)) (sym sessions)
-    (subst (λ (es : List FoundEntry). OnOk result (HasMended (with_session (session + 1) f) (length es) disks)) (sym needs) ready)
+-- What is ready as it was loaded is ready as it was found.
+pub ready_with : (f : Found) (session : ℕ) → f.session ≡ session → (result : Result Loaded MountFault) (disks : List Disk)
+    → OnOk result (IsReady (with_session (session + 1) f) disks) → OnOk result (IsReady (with_session (f.session + 1) f) disks)
+ready_with f session sessions result disks ready = subst (λ (s : ℕ). OnOk result (IsReady (with_session (s + 1) f) disks)) (sym sessions) ready

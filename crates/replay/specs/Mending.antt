@@ -1,4 +1,5 @@
--- What it is that the journal of a volume is mended: each needed entry stands on every metadata device, and the image means the same.
+-- What it is that the journal of a volume is mended: each needed entry stands on every metadata device, and the image means the same; and
+-- that it is ready for a session that writes.
 use Rattle.std.specs.Prelude.{◌≡◌, ℕ, ◌+◌, ◌<◌, ◌≤◌, List, length, Ok, slice_index_or}
 use Rattle.dev_model.specs.Crashes.{EachCrash, SameBut}
 use Rattle.dev_model.specs.Devices.{DevicesState, now}
@@ -7,7 +8,8 @@ use Rattle.dev_model.specs.HeldBlocks.{HasNoChanceMatch}
 use Rattle.geometry.specs.Mirrors.{AreAtRest}
 use Rattle.image_view.specs.CrashEntries.{OnlyHeldEntriesOpen, opens}
 use Rattle.image_view.specs.Found.{Found, IsInOrder, found}
-use Rattle.image_view.specs.Mends.{HasNoEqualDigest}
+use Rattle.image_view.specs.Mends.{HasNoEqualDigest, StandsIn}
+use Rattle.image_view.specs.NextEntries.{AreNumberedBelow}
 use Rattle.journal_ring.specs.declared.found.FoundEntry.{FoundEntry}
 use Rattle.journal_ring.specs.EntryBlocks.{AreEntryBlocks, HoldBlocks}
 use Rattle.journal_ring.specs.Parts.{area_of}
@@ -44,6 +46,10 @@ KeepsMeaning f old new =
     (moment : ℕ) → old.moment ≤ moment → moment ≤ new.moment → (image : Image) → IsCrashImage (new.disks moment) image
     → IsUntorn f.layout old.moment moment new image → MeansTheSame f (as_read (now old)) image
 
+-- Each block that stands in the journal areas of the second image stands in those of the first one.
+abbrev pub BringsNoBlock : Layout → Image → Image → Type 0
+BringsNoBlock layout one other = (bytes : List ℕ) → StandsIn layout (area_of other) bytes → StandsIn layout (area_of one) bytes
+
 -- It is a block of the journal area of a metadata device.
 pub record IsJournalBlock (layout : Layout) (dev block : ℕ) : Type 0 where
   pub mirror : dev < layout.metadata_replicas
@@ -65,8 +71,15 @@ pub record HasMended (f : Found) (count : ℕ) (disks : List Disk) : Type 0 wher
   pub found_on : IsInOrderOn f disks
   pub stand : (index : ℕ) → index < count → StandsOnAll f.layout (as_read disks) (slice_index_or f.needed index f.last)
 
+-- The volume is ready for a session that writes: what was found is found in order, each needed entry stands on every metadata device, and
+-- no block of the session stands in the journal areas, so that those of it are numbered below any number.
+pub record IsReady (f : Found) (disks : List Disk) : Type 0 where
+  pub mended : HasMended f (length f.needed) disks
+  pub unwritten : (number : ℕ) → AreNumberedBelow f.layout f.session number (area_of (as_read disks))
+
 -- From one state to a later one the first so many needed entries were mended.
 pub record IsMendedTo (f : Found) (count : ℕ) (first here : DevicesState) : Type 0 where
   pub keeps : KeepsFound f first here
   pub mended : HasMended f count (now here)
+  pub no_block : BringsNoBlock f.layout (as_read (now first)) (as_read (now here))
   pub past : (m : ℕ) → m ≤ first.moment → here.disks m ≡ first.disks m

@@ -1,12 +1,13 @@
 ghost use Rattle.std.specs.Prelude.{◌≡◌, ◌<◌, All, IfSome, OnOk, length, true};
 ghost use Rattle.dev_model.specs.Crashes.{IsQuiet};
 ghost use Rattle.dev_model.specs.Devices.{now};
+ghost use Rattle.dev_model.specs.Disk.{as_read};
 ghost use Rattle.dev_model.specs.Frames.{AreAfterCalls, GoOn};
 ghost use Rattle.geometry.specs.Faults.{failed_device};
 ghost use Rattle.geometry.specs.Layouts.{is_layout_of};
 ghost use Rattle.image_view.specs.Found.{Found};
 ghost use Rattle.plain_reader.specs.Answers.{WasWhole};
-ghost use Rattle.replay.specs.Mending.{ChangesJournal, HasMended, IsInOrderOn, KeepsFound, KeepsMeaning};
+ghost use Rattle.replay.specs.Mending.{BringsNoBlock, ChangesJournal, HasMended, IsInOrderOn, KeepsFound, KeepsMeaning};
 
 use dev_model::Devices;
 use geometry::DiskFault;
@@ -23,7 +24,8 @@ use vol_types::Layout;
 /// place, and flushes these devices after each entry of which one lacked. It reads each part once on each of them.
 ///
 /// A crash may have left the newest entry on one mirror alone; what is acknowledged later would hang on that copy. Whatever a crash
-/// leaves meanwhile means the same, and then each needed entry stands on every metadata device.
+/// leaves meanwhile means the same, and then each needed entry stands on every metadata device. No block stands in the journal
+/// areas then that stood on none of them.
 pub fn mend_journal<D: Devices>(
     alloc: Global,
     devices: &mut D,
@@ -44,6 +46,11 @@ pub fn mend_journal<D: Devices>(
     ensures mended { D.tells → (f : Found) → IsInOrderOn f (now (D.state devices.old))
         → f.layout ≡ layout.now → f.needed ≡ needed.now
         → OnOk result (HasMended f (length needed.now) (now (D.state devices.new))) }
+    // Each block of the journal areas stood in them before, if on another device.
+    ensures no_block { D.tells → (f : Found) → IsInOrderOn f (now (D.state devices.old))
+        → f.layout ≡ layout.now → f.needed ≡ needed.now
+        → OnOk result (BringsNoBlock layout.now (as_read (now (D.state devices.old)))
+        (as_read (now (D.state devices.new)))) }
     ensures goes_on { GoOn (D.state devices.old) (D.state devices.new) }
     ensures cause { AreAfterCalls (failed_device result) (D.state devices.old).faults
         (D.state devices.new).faults }

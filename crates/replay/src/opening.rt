@@ -10,7 +10,7 @@ ghost use Rattle.image_view.specs.declared.fault.MountFault.{MountFault as AFaul
 ghost use Rattle.plain_reader.specs.Answers.{AreRagged, Finds, IsEarly, NodesAgree, WasWhole};
 ghost use Rattle.plain_reader.specs.Faults.{failed_mount_device};
 ghost use Rattle.replay.specs.Beginning.{failed_begin_device};
-ghost use Rattle.replay.specs.Mending.{HasMended, IsInOrderOn, KeepsMeaning, KeepsPast};
+ghost use Rattle.replay.specs.Mending.{IsInOrderOn, IsReady, KeepsMeaning, KeepsPast};
 ghost use Rattle.replay.specs.Opening.{IsRefusal, IsSpent, in_next_session, opening_fault};
 ghost use Rattle.replay.specs.Volumes.{found_in};
 
@@ -26,7 +26,8 @@ use vol_types::Layout;
 ///
 /// Where the devices showed an orderly volume, whatever a crash leaves meanwhile means the same volume, in the session that was
 /// found or a later one, as far as no torn block opens by chance. After `Ok` the devices hold it in the next session, nothing of
-/// the metadata devices is pending, and each needed entry stands on all of them. Both hold also where reads of nodes failed.
+/// the metadata devices is pending, each needed entry stands on all of them, and no block of that session in their journal areas. Both
+/// hold also where reads of nodes failed.
 pub fn open_volume<D: Devices>(alloc: Global, devices: &mut D) -> Result<Loaded, MountFault>
     // Where no call failed, it is what the image means, in its next session.
     ensures found { D.tells → ¬ SomeFailed (D.state devices.old).faults (D.state devices.new).faults
@@ -38,8 +39,7 @@ pub fn open_volume<D: Devices>(alloc: Global, devices: &mut D) -> Result<Loaded,
     ensures crashes { D.tells → (f : Found) → IsInOrderOn f (now (D.state devices.old))
         → KeepsMeaning f (D.state devices.old) (D.state devices.new) }
     ensures ready { D.tells → (f : Found) → IsInOrderOn f (now (D.state devices.old))
-        → OnOk result (HasMended (with_session (f.session + 1) f) (length f.needed)
-        (now (D.state devices.new))) }
+        → OnOk result (IsReady (with_session (f.session + 1) f) (now (D.state devices.new))) }
     // A fault before the nodes is the image's, and comes only where no call failed, or no number of a session is left.
     ensures early { D.tells → (fault : AFault) → result ≡ Err fault → IsEarly fault
         → (found (as_read (now (D.state devices.old))) ≡ Err fault)
@@ -88,8 +88,7 @@ fn begin_loaded<D: Devices>(
         → KeepsMeaning f (D.state devices.old) (D.state devices.new) }
     ensures ready { D.tells → (f : Found) → IsInOrderOn f (now (D.state devices.old))
         → f.layout ≡ loaded.layout → f.session ≡ loaded.session → f.needed ≡ loaded.needed
-        → OnOk result (HasMended (with_session (loaded.session + 1) f) (length loaded.needed)
-        (now (D.state devices.new))) }
+        → OnOk result (IsReady (with_session (loaded.session + 1) f) (now (D.state devices.new))) }
     ensures refused { (fault : AFault) → result ≡ Err fault → IsRefusal fault
         → devices.new ≡ devices.old }
     ensures spent { (fault : AFault) → result ≡ Err fault → IsRefusal fault
@@ -141,7 +140,7 @@ fn opening_fault(fault: BeginFault) -> MountFault
 ///
 /// Where the devices showed an orderly volume, whatever a crash leaves meanwhile means the same volume, in this session or a later
 /// one, as far as no torn block opens by chance. After `Ok` the devices hold it in the next session, nothing of the metadata
-/// devices is pending, and each needed entry stands on all of them.
+/// devices is pending, each needed entry stands on all of them, and no block of that session in their journal areas.
 pub fn begin_and_mend<D: Devices>(
     alloc: Global,
     devices: &mut D,
@@ -162,8 +161,7 @@ pub fn begin_and_mend<D: Devices>(
         → KeepsPast (D.state devices.old) (D.state devices.new) }
     ensures ready { D.tells → (f : Found) → IsInOrderOn f (now (D.state devices.old))
         → f.layout ≡ layout.now → f.session ≡ session → f.needed ≡ needed.now
-        → OnOk result (HasMended (with_session (session + 1) f) (length needed.now)
-        (now (D.state devices.new))) }
+        → OnOk result (IsReady (with_session (session + 1) f) (now (D.state devices.new))) }
     ensures goes_on { GoOn (D.state devices.old) (D.state devices.new) }
     ensures cause { AreAfterCalls (failed_begin_device result) (D.state devices.old).faults
         (D.state devices.new).faults }

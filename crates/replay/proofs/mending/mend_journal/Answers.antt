@@ -1,10 +1,11 @@
 use Rattle.std.proofs.Common.{◌≡◌, ◌∙◌, arith, length, refl, subst, sym}
 use Rattle.dev_model.specs.Devices.{now}
+use Rattle.dev_model.specs.Disk.{as_read}
 use Rattle.dev_model.specs.FrameLaws.{go_on_here, go_on_then}
 use Rattle.geometry.specs.Mirrors.{AreAtRest}
 use Rattle.vol_types.specs.declared.layout.Layout.{Layout}
 use Rattle.plain_reader.specs.Answers.{WasWhole}
-use Rattle.replay.specs.Mending.{HasMended}
+use Rattle.replay.specs.Mending.{BringsNoBlock, HasMended}
 use Rattle.replay.proofs.MendedEntry.{MendLaws, keeps_more, mended_more, mended_none}
 use Rattle.replay.proofs.MendedMeaning.{journal_here, journal_more, keeps_meaning}
 use Rattle.replay.proofs.mending.mend_journal.Goals as goal
@@ -129,3 +130,8 @@ pub returns-clause-mended : goal.returns-clause-mended
 returns-clause-mended g c tells f on layouts needs =
     let D = g.D.Devices in
     subst (λ n. HasMended f n (now (D.state c.loop-index.devices))) (let e : c.loop-index.index ≡ length c.args.needed.now = omega (arith, c.loop-index-test.false, c.loop-index.auto.index-end) in e) (c.loop-index.invariant.mended tells f on layouts needs).mended
+
+pub returns-clause-no_block : goal.returns-clause-no_block
+returns-clause-no_block g c tells f on layouts needs =
+    let D = g.D.Devices in
+    subst (λ (l : Layout). BringsNoBlock l (as_read (now (D.state c.args.devices.now))) (as_read (now (D.state c.loop-index.devices)))) layouts (c.loop-index.invariant.mended tells f on layouts needs).no_block

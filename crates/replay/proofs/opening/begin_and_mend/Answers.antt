@@ -1,8 +1,7 @@
-use Rattle.std.proofs.Common.{◌≡◌, ◌+◌, ℕ}
+use Rattle.std.proofs.Common.{◌+◌}
 use Rattle.dev_model.specs.Devices.{now}
-use Rattle.image_view.specs.Found.{Found, with_session}
-use Rattle.replay.specs.Mending.{IsInOrderOn}
-use Rattle.replay.proofs.Opened.{in_order_begun, keeps_begun, keeps_both, past_then}
+use Rattle.image_view.specs.Found.{with_session}
+use Rattle.replay.proofs.Opened.{in_order_begun, is_ready, keeps_begun, keeps_both, past_then}
 use Rattle.replay.proofs.opening.begin_and_mend.Goals as goal
 
 pub returns-in_err-next-clause-crashes : goal.returns-in_err-next-clause-crashes
@@ -46,8 +45,11 @@ returns-clause-ready g c tells f on layouts sessions needs =
     let crashes = c.begin_session.ensures.crashes tells f on.on layouts sessions in
     let are = g.met.D.Devices.sound tells c.begin_session.new.devices in
     let begun = c.in_ok-next.ensures.begun tells f on.on layouts sessions in
-    let order = in_order_begun f c.args.layout.now c.args.session layouts sessions old mid on crashes are begun (c.in_ok-next.ensures.rest tells) (c.begin_session.ensures.elsewhere tells) in
-    c.in_ok-mend_journal.ensures.mended tells (with_session (c.args.session + 1) f) order layouts needs
+    let elsewhere = c.begin_session.ensures.elsewhere tells in
+    let order = in_order_begun f c.args.layout.now c.args.session layouts sessions old mid on crashes are begun (c.in_ok-next.ensures.rest tells) elsewhere in
+    let next = with_session (c.args.session + 1) f in
+    is_ready f c.args.layout.now c.args.session c.args.needed.now layouts sessions needs (now old) (now mid) (now (D.state c.mend_journal.new.devices)) on.order.owners elsewhere
+    (c.in_ok-mend_journal.ensures.no_block tells next order layouts needs) (c.in_ok-mend_journal.ensures.mended tells next order layouts needs)
 
 pub returns-in_err-next-clause-past : goal.returns-in_err-next-clause-past
 returns-in_err-next-clause-past g c tells f on layouts sessions needs = (c.begin_session.ensures.crashes tells f on.on layouts sessions).past

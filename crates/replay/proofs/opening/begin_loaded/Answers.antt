@@ -1,13 +1,9 @@
-use Rattle.std.proofs.Common.{◌≡◌, ◌+◌, ◌<◌, ◌∙◌, ℕ, List, Option, Ok, Err, length, ap, sym, subst}
+use Rattle.std.proofs.Common.{◌<◌, ◌∙◌, ℕ, Option, Ok, Err, ap, sym, subst}
 use Rattle.std.specs.Prelude.{IfSome}
-use Rattle.dev_model.specs.Devices.{now}
 use Rattle.dev_model.specs.Frames.{AreAfterCalls}
-use Rattle.image_view.specs.Found.{with_session}
 use Rattle.image_view.specs.declared.fault.MountFault.{MountFault}
-use Rattle.journal_ring.specs.declared.found.FoundEntry.{FoundEntry}
 use Rattle.plain_reader.specs.Answers.{Finds}
 use Rattle.plain_reader.specs.Faults.{mount_fault_device}
-use Rattle.replay.specs.Mending.{HasMended}
 use Rattle.replay.specs.Opening.{in_next_session}
 use Rattle.replay.specs.Volumes.{found_in}
 use Rattle.replay.specs.declared.beginning.BeginFault.TheVariants.{Spent}
@@ -26,10 +22,7 @@ pub returns-in-Ok-clause-crashes : goal.returns-in-Ok-clause-crashes
 returns-in-Ok-clause-crashes g c tells f on layouts sessions needs = c.in-Ok.ensures.crashes tells f on layouts sessions (needs ∙ sym c.as_slice.ensures)
 
 pub returns-in-Ok-clause-ready : goal.returns-in-Ok-clause-ready
-returns-in-Ok-clause-ready g c tells f on layouts sessions needs =
-    let disks = now (g.D.Devices.state c.begin_and_mend.new.devices) in
-    subst (λ (es : List FoundEntry). HasMended (with_session (c.args.loaded.session + 1) f) (length es) disks) c.as_slice.ensures
-    (c.in-Ok.ensures.ready tells f on layouts sessions (needs ∙ sym c.as_slice.ensures))
+returns-in-Ok-clause-ready g c tells f on layouts sessions needs = c.in-Ok.ensures.ready tells f on layouts sessions (needs ∙ sym c.as_slice.ensures)
 
 pub returns-in-Err-clause-found : goal.returns-in-Err-clause-found
 returns-in-Err-clause-found g c =

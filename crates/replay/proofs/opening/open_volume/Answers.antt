@@ -1,21 +1,17 @@
-use Rattle.std.proofs.Common.{◌≡◌, ◌+◌, ◌≤◌, ◌∙◌, ℕ, inl, inr, List, Ok, Result, length, ap, arith, true, sym, subst}
-use Rattle.std.specs.Prelude.{IfOk, OnOk}
-use Rattle.dev_model.specs.Devices.{DevicesState, now}
+use Rattle.std.proofs.Common.{◌≡◌, ℕ, inl, inr, List, Ok, Result, arith, true, sym, subst}
+use Rattle.dev_model.specs.Devices.{now}
 use Rattle.dev_model.specs.Disk.{as_read}
 use Rattle.dev_model.specs.FrameLaws.{go_on_reading, go_on_then}
 use Rattle.dev_model.specs.Frames.{AreOnlyRead}
 use Rattle.geometry.specs.LayoutFacts.{has_places}
 use Rattle.geometry.specs.Layouts.{is_layout_of}
-use Rattle.image_view.specs.Found.{Found, found, with_session}
+use Rattle.image_view.specs.Found.{Found, found}
 use Rattle.image_view.specs.Trees.{nodes_of}
 use Rattle.image_view.specs.declared.fault.MountFault.{MountFault}
-use Rattle.journal_ring.specs.declared.found.FoundEntry.{FoundEntry}
 use Rattle.plain_reader.specs.Answers.{AreRagged, Finds}
 use Rattle.plain_reader.specs.Faults.{failed_mount_device}
-use Rattle.replay.specs.Mending.{HasMended}
 use Rattle.replay.specs.Opening.{in_next_session}
 use Rattle.replay.specs.Volumes.{found_in}
-use Rattle.replay.specs.declared.volume.Loaded.{Loaded}
 use Rattle.replay.proofs.LoadedFront.{front_is}
 use Rattle.replay.proofs.OpenedVolume.{early_refuses, failed_by_call, in_order_now, next_failed, next_unloaded, none_before, of_opened, ready_with, stay_means, stay_then_means}
 use Rattle.replay.proofs.opening.open_volume.Goals as goal
@@ -54,7 +50,7 @@ returns-in-Ok-clause-ready g c tells f on =
     let loaded = c.in-Ok.loaded in
     let order = in_order_now f old mid on (c.load.ensures.read.disks tells) in
     let front = front_is (as_read (now old)) f on.on.finds loaded.layout loaded.session loaded.needed (c.in-Ok.ensures.front tells) in
-    ready_with f loaded.session loaded.needed front.sessions front.needs c.begin_loaded.result (now (D.state c.begin_loaded.new.devices))
+    ready_with f loaded.session front.sessions c.begin_loaded.result (now (D.state c.begin_loaded.new.devices))
     (c.begin_loaded.ensures.ready tells f order front.layouts front.sessions front.needs)
 
 pub returns-in-Ok-clause-early : goal.returns-in-Ok-clause-early
