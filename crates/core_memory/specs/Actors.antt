@@ -8,7 +8,7 @@ use Rattle.core_memory.specs.declared.actor.Failure.{Failure}
 use Rattle.core_memory.specs.declared.actor.Failure.TheVariants as failures
 use Rattle.core_memory.specs.declared.answer.Refusal.{Refusal}
 use Rattle.core_memory.specs.declared.answer.Refusal.TheVariants as refusals
-use Rattle.core_memory.specs.declared.event.Stage.{Stage}
+use Rattle.entry_writer.specs.declared.stage.Stage.{Stage}
 
 -- an actor without an operation
 abbrev pub idle_actor : Actor
@@ -68,6 +68,10 @@ later before (Some failure) = Some failure
 -- an actor whose commit was refused
 abbrev pub noted : Refusal → Actor → Actor
 noted refusal actor = record actor { failure = later actor.failure (failure_of refusal) }
+
+-- an actor of which an event found that this device failed
+abbrev pub with_fault : ℕ → Actor → Actor
+with_fault dev actor = record actor { failure = Some (failures.DeviceFault dev) }
 
 -- an actor without a transaction
 abbrev pub dropped : Actor → Actor

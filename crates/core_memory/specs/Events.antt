@@ -1,19 +1,24 @@
 -- Which events an actor may make, and what each is answered and makes of the state.
 use Rattle.std.specs.Arc.{arc_value}
-use Rattle.std.specs.Prelude.{◌≡◌, ℕ, ◌<◌, ⊤, ◌⊎◌, Bool, false, Option, Some, None, IsSome, List, [], unwrap_or}
+use Rattle.std.specs.Prelude.{◌≡◌, ℕ, ◌<◌, ⊤, ◌⊎◌, Bool, false, Option, Some, None, IsSome, List, [], length, unwrap_or}
 use Rattle.btree_map.specs.Trees.{keys_in}
 use Rattle.commit_plan.specs.Ids.{id_trees}
 use Rattle.snap_tree.specs.Snaps.{Snaps}
 use Rattle.vol_types.specs.KeyMaps.{answer_of}
 use Rattle.vol_types.specs.declared.keys.Update.{Update}
-use Rattle.core_memory.specs.Actors.{begun, committed, dropped, ended, holds, noted, told_of, with_ids, with_intent, with_look}
+use Rattle.entry_writer.specs.Writers.{Writer, settled, unsettled_by, with_flushed, with_next_part}
+use Rattle.entry_writer.specs.declared.stage.Stage.TheVariants as stages
+use Rattle.core_memory.specs.Actors.{begun, committed, dropped, ended, holds, noted, told_of, with_fault, with_ids, with_intent, with_look}
 use Rattle.core_memory.specs.Commits.{AreIntended, IsCommitted}
 use Rattle.core_memory.specs.Rulings.{IsAllowed, IsRefused}
+use Rattle.core_memory.specs.Sealing.{IsFlown, IsOtherStage, IsSealRefused, IsStage, with_writer}
 use Rattle.core_memory.specs.States.{State, actor_count, mine, other_holder, with_mine, with_turn, without_turn}
-use Rattle.core_memory.specs.Volumes.{Volume, are_durable, commits_of, stage_of}
+use Rattle.core_memory.specs.Volumes.{Volume, are_durable, commits_of, halted_at, stage_of}
 use Rattle.core_memory.specs.declared.actor.Actor.{Actor}
 use Rattle.core_memory.specs.declared.answer.Answer.{Answer}
-use Rattle.core_memory.specs.declared.answer.Answer.TheVariants.{At, Done, Found, Ids, NoMemory, Refused, Wait}
+use Rattle.core_memory.specs.declared.answer.Answer.TheVariants.{At, DeviceFault, Done, Found, Ids, NoMemory, Refused, Wait}
+use Rattle.core_memory.specs.declared.answer.Refusal.{Refusal}
+use Rattle.core_memory.specs.declared.answer.Refusal.TheVariants as refusals
 use Rattle.core_memory.specs.declared.event.Event.{Event}
 use Rattle.core_memory.specs.declared.event.Event.TheVariants as events
 
@@ -32,6 +37,10 @@ FitsActor volume actor (events.Commit counted) = IsSome actor.operation × IsSom
 FitsActor volume actor events.Finish = IsSome actor.operation
 FitsActor volume actor events.Drop = ⊤
 FitsActor volume actor (events.Next work) = ⊤
+FitsActor volume actor events.Seal = ⊤
+FitsActor volume actor events.WriteEntry = ⊤
+FitsActor volume actor (events.Flush dev) = dev < length volume.layout.blocks
+FitsActor volume actor events.Settle = ⊤
 
 -- The event is one of an actor that is there, and fits what it has under way.
 pub record Fits (state : State) (actor : ℕ) (event : Event) : Type 0 where
@@ -82,6 +91,62 @@ CommitGives old actor counted (Refused refusal) new =
 CommitGives old actor counted NoMemory new = new ≡ old
 CommitGives old actor counted other new = ⊥
 
+-- The actor is told the stage of the journal, and whether its commits are durable; nothing else has changed.
+abbrev pub IsTold : State → ℕ → Answer → State → Type 0
+IsTold old actor answer new =
+    let durable = are_durable (mine old actor).operation old.volume in
+    Gives (At (stage_of old.volume) durable) (with_mine actor (told_of (stage_of old.volume) durable (mine old actor)) old) answer new
+
+-- It is refused, and why is noted.
+abbrev pub IsNoted : Refusal → State → ℕ → State → Type 0
+IsNoted refusal old actor new = new ≡ with_mine actor (noted refusal (mine old actor)) old
+
+-- The session has stopped writing, which refuses an event.
+abbrev pub IsHalted : Refusal → Volume → Type 0
+IsHalted (refusals.Halted halt) volume = volume.halted ≡ Some halt
+IsHalted other volume = ⊥
+
+-- the state in which a device failed an actor, so that the session stops writing; the writer is another one
+abbrev pub failed_by : ℕ → ℕ → ℕ → Writer → State → State
+failed_by dev tick actor writer old =
+    record (with_mine actor (with_fault dev (mine old actor)) old) { volume = halted_at (record { dev = dev; tick = tick }) (with_writer writer old.volume) }
+
+-- The oldest entry that isn't durable is put in flight, or not.
+abbrev pub SealGives : State → ℕ → Answer → State → Type 0
+SealGives old actor Done new = IsFlown old.volume new.volume × (new ≡ record old { volume = new.volume })
+SealGives old actor (At stage durable) new = IsOtherStage stages.Seal old.volume × IsTold old actor (At stage durable) new
+SealGives old actor (Refused refusal) new = IsSealRefused old.volume refusal × IsNoted refusal old actor new
+SealGives old actor NoMemory new = new ≡ old
+SealGives old actor other new = ⊥
+
+-- The next part of the entry in flight is written, or not. Where a device failed, the session stops writing at this moment.
+abbrev pub WriteGives : ℕ → State → ℕ → Answer → State → Type 0
+WriteGives tick old actor Done new = IsStage stages.WriteEntry old.volume × (new ≡ record old { volume = with_writer (with_next_part old.volume.writer) old.volume })
+WriteGives tick old actor (At stage durable) new = IsOtherStage stages.WriteEntry old.volume × IsTold old actor (At stage durable) new
+WriteGives tick old actor (Refused refusal) new = IsHalted refusal old.volume × IsNoted refusal old actor new
+WriteGives tick old actor (DeviceFault dev) new = IsStage stages.WriteEntry old.volume × (new ≡ failed_by dev tick actor (unsettled_by old.volume.writer) old)
+WriteGives tick old actor other new = ⊥
+
+-- A device is flushed, or not. Where it failed, the session stops writing at this moment.
+abbrev pub FlushGives : ℕ → ℕ → State → ℕ → Answer → State → Type 0
+FlushGives dev tick old actor Done new = (old.volume.halted ≡ None) × (new ≡ record old { volume = with_writer (with_flushed dev old.volume.writer) old.volume })
+FlushGives dev tick old actor (Refused refusal) new = IsHalted refusal old.volume × IsNoted refusal old actor new
+FlushGives dev tick old actor (DeviceFault failed) new = (failed ≡ dev) × (old.volume.halted ≡ None) × (new ≡ failed_by dev tick actor old.volume.writer old)
+FlushGives dev tick old actor other new = ⊥
+
+-- The entry in flight becomes the last durable one, or not.
+abbrev pub SettleGives : State → ℕ → Answer → State → Type 0
+SettleGives old actor Done new = IsStage stages.Settle old.volume × (new ≡ record old { volume = with_writer (settled old.volume.writer) old.volume })
+SettleGives old actor (At stage durable) new = IsOtherStage stages.Settle old.volume × IsTold old actor (At stage durable) new
+SettleGives old actor (Refused refusal) new = IsHalted refusal old.volume × IsNoted refusal old actor new
+SettleGives old actor other new = ⊥
+
+-- The event calls no device.
+abbrev pub IsOfMemory : Event → Type 0
+IsOfMemory events.WriteEntry = ⊥
+IsOfMemory (events.Flush dev) = ⊥
+IsOfMemory other = ⊤
+
 -- What an actor's event is answered, and what the state is then.
 abbrev pub EventGives : State → ℕ → Event → Answer → State → Type 0
 EventGives old actor (events.Begin first) answer new = Gives Done (with_mine actor (begun first (commits_of old.volume) (mine old actor)) old) answer new
@@ -96,6 +161,8 @@ EventGives old actor (events.Intend updates) answer new =
 EventGives old actor (events.Commit counted) answer new = CommitGives old actor counted answer new
 EventGives old actor events.Finish answer new = Gives Done (left actor ended old) answer new
 EventGives old actor events.Drop answer new = Gives Done (left actor dropped old) answer new
-EventGives old actor (events.Next work) answer new =
-    let durable = are_durable (mine old actor).operation old.volume in
-    Gives (At (stage_of old.volume) durable) (with_mine actor (told_of (stage_of old.volume) durable (mine old actor)) old) answer new
+EventGives old actor (events.Next work) answer new = IsTold old actor answer new
+EventGives old actor events.Seal answer new = SealGives old actor answer new
+EventGives old actor events.WriteEntry answer new = (tick : ℕ) × WriteGives tick old actor answer new
+EventGives old actor (events.Flush dev) answer new = (tick : ℕ) × FlushGives dev tick old actor answer new
+EventGives old actor events.Settle answer new = SettleGives old actor answer new

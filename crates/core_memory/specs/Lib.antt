@@ -6,5 +6,7 @@ pub mod Commits
 pub mod Uncommitted
 pub mod Opening
 pub mod States
+pub mod Sealing
+pub mod Devices
 pub mod Events
 pub mod Nodes

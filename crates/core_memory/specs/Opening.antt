@@ -5,6 +5,7 @@ use Rattle.bucket_pool.specs.Opening.{space_of}
 use Rattle.btree_map.specs.Trees.{Trees, keys_in}
 use Rattle.commit_plan.specs.Dirty.{changed_nodes, paths_of, with_pins}
 use Rattle.entry_queue.specs.Queues.{empty_queue}
+use Rattle.entry_writer.specs.Writers.{opened_by as writer_opened}
 use Rattle.journal_ring.specs.declared.found.FoundEntry.{FoundEntry}
 use Rattle.vol_types.specs.KeyMaps.{KeyMap, answer_of}
 use Rattle.vol_types.specs.Positions.{greatest_pos, least_pos}
@@ -26,17 +27,17 @@ updates_in needed = flat_map (λ (found : FoundEntry). found.entry.updates) need
 abbrev pub keys_of_buckets : KeyMap → List Key
 keys_of_buckets keys = answer_of (Span Alloc least_pos greatest_pos) keys
 
--- what is kept of a volume without its actors, given the oldest entry that is needed and the newest one
-abbrev pub opened_by : Layout → ℕ → Trees → List Update → List Place → FoundEntry → FoundEntry → Volume
-opened_by layout session trees updates nodes oldest newest = record {
+-- what is kept of a volume without its actors, given the needed entries and the newest of them
+abbrev pub opened_by : Layout → ℕ → Trees → List FoundEntry → List Place → FoundEntry → Volume
+opened_by layout session trees needed nodes newest = record {
   layout = layout;
   session = session;
   trees = trees;
   queue = empty_queue layout.metadata_replicas newest.entry.sequence (newest.end - 1) newest.entry.commits;
-  pins = with_pins newest.entry.oldest (changed_nodes trees.nodes updates) [];
-  marks = with_pins newest.entry.oldest (paths_of trees.nodes updates) [];
+  pins = with_pins newest.entry.oldest (changed_nodes trees.nodes (updates_in needed)) [];
+  marks = with_pins newest.entry.oldest (paths_of trees.nodes (updates_in needed)) [];
   space = space_of layout (keys_of_buckets (keys_in trees)) nodes;
-  durable = record { sequence = newest.entry.sequence; commits = newest.entry.commits; oldest = newest.entry.oldest; first = oldest.number };
+  writer = writer_opened layout needed newest;
   halted = None;
   changes = 0;
 }
@@ -44,11 +45,9 @@ opened_by layout session trees updates nodes oldest newest = record {
 -- Nothing waits to be written behind the newest of the needed entries, which is the last durable one; each node that their updates
 -- change is dirty, and pins the oldest of them; the buckets are as the keys and the places of the nodes say.
 pub record IsVolumeOpened (layout : Layout) (session : ℕ) (trees : Trees) (needed : List FoundEntry) (nodes : List Place) (volume : Volume) : Type 0 where
-  pub oldest : FoundEntry
   pub newest : FoundEntry
-  pub first : slice_get needed 0 ≡ Some oldest
   pub last : slice_get needed (length needed - 1) ≡ Some newest
-  pub is : volume ≡ opened_by layout session trees (updates_in needed) nodes oldest newest
+  pub is : volume ≡ opened_by layout session trees needed nodes newest
 
 -- So is the volume, no actor has an operation, and none has the turn.
 pub record IsOpened (layout : Layout) (session : ℕ) (trees : Trees) (needed : List FoundEntry) (nodes : List Place) (state : State) : Type 0 where

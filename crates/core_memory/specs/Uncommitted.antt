@@ -1,4 +1,4 @@
--- Why updates weren't committed.
+-- Why updates weren't committed, or an entry wasn't put in flight.
 use Rattle.std.specs.Prelude.{⊤, Bool, List}
 use Rattle.vol_types.specs.declared.keys.Update.{Update}
 use Rattle.core_memory.specs.Actors.{noted}
@@ -7,7 +7,11 @@ use Rattle.core_memory.specs.declared.answer.Answer.{Answer}
 use Rattle.core_memory.specs.declared.answer.Answer.TheVariants as answers
 use Rattle.core_memory.specs.declared.commit.Why.{Why}
 use Rattle.core_memory.specs.declared.commit.Why.TheVariants.{NoMemory, Refused}
+use Rattle.core_memory.specs.declared.answer.Refusal.TheVariants as refusals
 use Rattle.core_memory.specs.Rulings.{IsRefused}
+use Rattle.core_memory.specs.Sealing.{IsSealRefused}
+use Rattle.entry_writer.specs.declared.writer.Why.{Why as WhyUnsealed}
+use Rattle.entry_writer.specs.declared.writer.Why.TheVariants as unsealed
 use Rattle.core_memory.specs.Volumes.{Volume}
 
 -- The updates were refused for this cause; want of memory has none.
@@ -24,3 +28,14 @@ noted_why NoMemory actor = actor
 abbrev pub answer_of_why : Why → Answer
 answer_of_why (Refused refusal) = answers.Refused refusal
 answer_of_why NoMemory = answers.NoMemory
+
+-- why an entry isn't put in flight
+abbrev pub why_of : WhyUnsealed → Why
+why_of unsealed.Spent = Refused refusals.Spent
+why_of (unsealed.RingFull full) = Refused (refusals.RingFull full)
+why_of unsealed.NoMemory = NoMemory
+
+-- The next entry wasn't put in flight for this cause; want of memory has none.
+abbrev pub IsWhySealed : Volume → Why → Type 0
+IsWhySealed volume (Refused refusal) = IsSealRefused volume refusal
+IsWhySealed volume NoMemory = ⊤

@@ -1,22 +1,25 @@
 -- What is kept of a volume in memory, but for what actors have under way.
-use Rattle.std.specs.Prelude.{◌≡◌, ℕ, ◌+◌, ◌-◌, ◌*◌, ◌^◌, min, Bool, true, ◌||◌, ◌&&◌, not, ◌==◌, nat_lt, nat_le, if◌then◌else◌, Option, Some, None, List, length, sum_by}
+use Rattle.std.specs.Prelude.{◌≡◌, ℕ, ◌+◌, ◌-◌, ◌*◌, ◌^◌, min, Bool, true, ◌||◌, ◌&&◌, not, ◌==◌, nat_lt, nat_le, if◌then◌else◌, Option, Some, None, IfSome, List, [], ◌∷◌, ◌++◌, length, sum_by}
 use Rattle.bucket_pool.specs.Space.{Space}
 use Rattle.btree_map.specs.Trees.{Trees, keys_in}
 use Rattle.commit_plan.specs.Dirty.{AreMarked}
 use Rattle.entry_queue.specs.Changes.{LeadTo}
-use Rattle.entry_queue.specs.Queues.{Queue, last_block, waiting}
+use Rattle.entry_queue.specs.Queues.{Queue, last_block, oldest, waiting}
 use Rattle.pin_list.specs.Pins.{least_pin}
 use Rattle.tree_nodes.specs.Levels.{Levels}
 use Rattle.vol_types.specs.KeyMaps.{IsKeyMap, KeyMap}
 use Rattle.vol_types.specs.Layouts.{is_layout}
 use Rattle.vol_types.specs.declared.layout.Layout.{Layout}
 use Rattle.core_memory.specs.declared.answer.Halt.{Halt}
-use Rattle.core_memory.specs.declared.durable.Durable.{Durable}
-use Rattle.core_memory.specs.declared.event.Stage.{Stage}
-use Rattle.core_memory.specs.declared.event.Stage.TheVariants.{Rest, Seal}
+use Rattle.entry_writer.specs.Writers.{Writer, stage_of as writer_stage}
+use Rattle.entry_writer.specs.declared.durable.Durable.{Durable}
+use Rattle.entry_writer.specs.declared.stage.Stage.{Stage}
+use Rattle.entry_writer.specs.declared.writer.Flight.{Flight}
+use Rattle.entry_queue.specs.declared.changes.KeyChanges.{KeyChanges}
+use Rattle.journal_ring.specs.Rings.{RingState}
 
--- How the volume lies on its devices; its session; its keys and nodes; the entries that wait to be written; the dirty nodes and the marked ones, each with the entry that it pins; the buckets of each device; the last durable
--- entry; where the session stopped writing, if it did; and how many commits of updates and of nodes there were in it.
+-- How the volume lies on its devices; its session; its keys and nodes; the entries that wait to be written; the dirty nodes and the marked ones, each with the entry that it pins; the buckets of each device; the entry
+-- that is being written, and the last durable one; where the session stopped writing, if it did; and how many commits of updates and of nodes there were in it.
 pub record Volume : Type 0 where
   pub layout : Layout
   pub session : ℕ
@@ -25,7 +28,7 @@ pub record Volume : Type 0 where
   pub pins : List (ℕ × ℕ)
   pub marks : List (ℕ × ℕ)
   pub space : Space
-  pub durable : Durable
+  pub writer : Writer
   pub halted : Option Halt
   pub changes : ℕ
 
@@ -47,7 +50,7 @@ held_on volume dev = if nat_lt dev volume.layout.metadata_replicas then held vol
 
 -- how many blocks of the journal area are left: not from the oldest needed entry of the last durable one to the end of the open one
 abbrev pub blocks_left : Volume → ℕ
-blocks_left volume = volume.layout.journal - (last_block volume.queue + 1 - volume.durable.first)
+blocks_left volume = volume.layout.journal - (last_block volume.queue + 1 - volume.writer.durable.first)
 
 -- whether no node is dirty
 abbrev pub is_idle : Volume → Bool
@@ -67,17 +70,17 @@ abbrev pub needs_entry : Volume → Bool
 needs_entry volume =
     not (length volume.queue.closed == 0)
     || not (length volume.queue.open_entry.changes.updates == 0)
-    || not (commits_of volume == volume.durable.commits)
-    || can_let_go volume.durable volume.pins
+    || not (commits_of volume == volume.writer.durable.commits)
+    || can_let_go volume.writer.durable volume.pins
 
 -- the next event that the journal needs
 abbrev pub stage_of : Volume → Stage
-stage_of volume = if needs_entry volume then Seal else Rest
+stage_of volume = writer_stage (needs_entry volume) volume.writer
 
 -- whether so many commits are durable, or all of them where no number is given
 abbrev pub are_durable : Option ℕ → Volume → Bool
-are_durable None volume = nat_le (commits_of volume) volume.durable.commits
-are_durable (Some count) volume = nat_le count volume.durable.commits
+are_durable None volume = nat_le (commits_of volume) volume.writer.durable.commits
+are_durable (Some count) volume = nat_le count volume.writer.durable.commits
 
 -- where a session stopped writing: the first time counts
 abbrev pub first_halt : Halt → Option Halt → Option Halt
@@ -88,13 +91,36 @@ first_halt halt (Some before) = Some before
 abbrev pub halted_at : Halt → Volume → Volume
 halted_at halt volume = record volume { halted = first_halt halt volume.halted }
 
+-- what an entry in flight changes, if there is one
+abbrev pub changes_in : Option Flight → List KeyChanges
+changes_in None = []
+changes_in (Some flight) = flight.entry.changes ∷ []
+
+-- the sequence of the last entry that was put in flight, where the last durable one has this sequence
+abbrev pub last_sealed : Option Flight → ℕ → ℕ
+last_sealed None durable = durable
+last_sealed (Some flight) durable = flight.entry.after + 1
+
+-- The ring is the one of a layout.
+pub record IsRingOf (layout : Layout) (ring : RingState) : Type 0 where
+  pub id : ring.id ≡ layout.id
+  pub mirrors : ring.mirrors ≡ layout.metadata_replicas
+  pub journal : ring.journal ≡ layout.journal
+
+-- Entries have one sequence after the other: the durable one, the one in flight, and those that wait.
+pub record AreInTurn (writer : Writer) (queue : Queue) : Type 0 where
+  pub flying : IfSome writer.flight (λ flight. flight.entry.after ≡ writer.durable.sequence)
+  pub waiting_ones : (oldest queue).after ≡ last_sealed writer.flight writer.durable.sequence
+
 -- What is kept of a volume. The marked nodes are exactly those that are dirty or have a dirty node
--- under them; the changes that wait lead from some key map, which the durable entries mean, to the one in memory.
+-- under them; the changes that aren't durable lead from some key map, which the durable entries mean, to the one in memory.
 pub record IsVolume (volume : Volume) : Type 0 where
   pub placed : is_layout volume.layout ≡ true
   pub mirrors : volume.queue.mirrors ≡ volume.layout.metadata_replicas
   pub devices : length volume.space ≡ length volume.layout.blocks
+  pub ring : IsRingOf volume.layout volume.writer.ring
+  pub in_turn : AreInTurn volume.writer volume.queue
   pub marked : AreMarked volume.trees.nodes volume.pins volume.marks
   pub durable_keys : KeyMap
   pub are_keys : IsKeyMap durable_keys
-  pub lead : LeadTo (waiting volume.queue) durable_keys (keys_in volume.trees)
+  pub lead : LeadTo (changes_in volume.writer.flight ++ waiting volume.queue) durable_keys (keys_in volume.trees)

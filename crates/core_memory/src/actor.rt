@@ -1,5 +1,5 @@
 ghost use Rattle.std.specs.Prelude.{◌≡◌, OnErr, OnOk, Some};
-ghost use Rattle.core_memory.specs.Actors.{begun, committed, dropped, ended, failure_of, holds, idle_actor, noted, told_of, with_intent, with_look};
+ghost use Rattle.core_memory.specs.Actors.{begun, committed, dropped, ended, failure_of, holds, idle_actor, noted, told_of, with_fault, with_intent, with_look};
 
 use crate::{Refusal, Stage};
 use std::alloc::{AllocError, Global};
@@ -14,6 +14,8 @@ pub enum Failure {
     Spent,
     /// There are too few free buckets; whether a checkpoint would free none; and how many commits there were.
     NoSpace { idle: bool, changes: u64 },
+    /// A write or a flush of this device failed.
+    DeviceFault(u8),
 }
 
 /// What an actor has under way, which the events of other actors don't change.
@@ -23,7 +25,7 @@ pub struct Actor {
     pub operation: Option<u64>,
     /// How many commits that don't count the operation has made, up to 2^64 - 1.
     pub uncounted: u64,
-    /// The last failure of a commit of the operation.
+    /// The last failure of a commit of the operation, or of an event of its that writes.
     pub failure: Option<Failure>,
     /// Whether it was told, since its transaction began, that the commits are durable that stood then.
     pub durable: bool,
@@ -115,6 +117,13 @@ impl Actor {
             None => {}
             Some(failure) => self.failure = Some(failure),
         }
+    }
+
+    /// Notes that a device failed.
+    pub(crate) fn note_fault(&mut self, dev: u8)
+        ensures { self.new ≡ with_fault dev self.old }
+    {
+        self.failure = Some(Failure::DeviceFault(dev));
     }
 
     /// Ends the transaction.

@@ -23,16 +23,17 @@ pub struct NoSpace {
     pub changes: u64,
 }
 
-/// Why a commit isn't made. The transaction stands as it was.
+/// Why a commit isn't made, or an entry isn't written. The transaction stands as it was.
 #[derive(Debug, PartialEq, Eq, Drop)]
 pub enum Refusal {
     /// The session has stopped writing.
     Halted(Halt),
     /// A leaf would be larger than nodes may be.
     NeedSplit(NeedSplit),
-    /// A number that the commit would draw isn't left: a sequence, a journal block, a count of commits or of changes.
+    /// A number that the event would draw isn't left: a sequence, a journal block, a count of commits or of changes.
     Spent,
-    /// The journal would have fewer than 64 blocks left.
+    /// The journal would have fewer than 64 blocks left after a commit, or has no room for an entry that is to be written. The last
+    /// is so of no volume that this program wrote.
     RingFull(RingFull),
     /// There would be too few free buckets for nodes.
     NoSpace(NoSpace),
@@ -52,8 +53,10 @@ pub enum Answer {
     At { stage: Stage, durable: bool },
     /// Another actor has the turn.
     Wait { holder: u8 },
-    /// The commit isn't made.
+    /// The event doesn't happen.
     Refused(Refusal),
+    /// A write or a flush of this device failed: the session stops writing.
+    DeviceFault(u8),
     /// Out of memory. Nothing has changed.
     NoMemory,
 }

@@ -7,15 +7,6 @@ pub enum Work {
     Journal,
 }
 
-/// The next event that a work needs.
-#[derive(Clone, Copy, Debug, PartialEq, Eq)]
-pub enum Stage {
-    /// None.
-    Rest,
-    /// The oldest entry that isn't durable is to be written: a closed one, or the open one, which is closed then.
-    Seal,
-}
-
 /// What an actor asks of the volume.
 #[derive(Debug, PartialEq, Eq, Drop)]
 pub enum Event {
@@ -35,4 +26,12 @@ pub enum Event {
     Drop,
     /// Asks what a work needs next.
     Next(Work),
+    /// Puts the oldest entry in flight that isn't durable: a closed one, or the open one, which is closed then.
+    Seal,
+    /// Writes the next part of the entry in flight on every metadata device.
+    WriteEntry,
+    /// Flushes a device.
+    Flush(u8),
+    /// Takes the entry in flight, all of which is settled, as the last durable one.
+    Settle,
 }

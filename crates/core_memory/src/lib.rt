@@ -1,5 +1,5 @@
-//! What a volume keeps in memory, and the events that change it without a call of a device: transactions look at keys and
-//! commit updates, which join the journal's open entry.
+//! What a volume keeps in memory, and the events that change it: transactions look at keys and commit updates, which join the
+//! journal's open entry; entries are put in flight, written, settled and become durable.
 //!
 //! Each event is an actor's: one of 16 clients, or the reclaimer. What an actor has under way is changed by its own events
 //! alone. The first look of a transaction takes the turn, which it has until it commits, finishes or is dropped; another
@@ -10,20 +10,22 @@ mod actor;
 mod answer;
 mod answering;
 mod commit;
-mod durable;
+mod device_events;
 mod event;
 mod keys;
 mod memory;
 mod nodes;
 mod opening;
+mod roots;
 mod ruling;
+mod sealing;
 mod space;
 mod volume;
 
 pub use actor::{Actor, Failure};
 pub use answer::{Answer, Halt, NoSpace, Refusal};
-pub use durable::Durable;
-pub use event::{Event, Stage, Work};
+pub use entry_writer::{Durable, Stage};
+pub use event::{Event, Work};
 pub use memory::Memory;
 pub use nodes::node_places;
 

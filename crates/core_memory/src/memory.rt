@@ -1,13 +1,13 @@
-ghost use Rattle.std.specs.Prelude.{◌≡◌, ◌<◌, ◌↔◌, IsTrue};
-ghost use Rattle.core_memory.specs.Events.{CommitGives, EventGives, Fits, FitsActor, MayBegin};
+ghost use Rattle.std.specs.Prelude.{◌≡◌, ◌<◌, ◌↔◌, IsTrue, None};
+ghost use Rattle.core_memory.specs.Events.{CommitGives, EventGives, Fits, FitsActor, IsNoted, IsOfMemory, IsTold, MayBegin, SealGives, SettleGives, failed_by};
 ghost use Rattle.core_memory.specs.States.{actor_count, mine, other_holder, with_halt};
 ghost use Rattle.core_memory.specs.Uncommitted.{answer_of_why, noted_why};
-ghost use Rattle.core_memory.specs.declared.event.Event.TheVariants.{Begin, Commit, Drop, Finish, Intend, Look, LookIds, Next};
-ghost use Rattle.core_memory.specs.declared.event.Work.TheVariants.{Journal};
+ghost use Rattle.core_memory.specs.declared.event.Event.TheVariants.{Begin, Commit, Drop, Finish, Intend, Look, LookIds, Seal, Settle};
+ghost use Rattle.core_memory.specs.declared.answer.Answer.TheVariants as Answer;
 
 use crate::commit::{Uncommitted, Why};
 use crate::volume::Volume;
-use crate::{Actor, Answer, Event, Halt, Work};
+use crate::{Actor, Answer, Event, Halt, Refusal, Stage, Work};
 use std::alloc::Global;
 use std::marker::Model;
 use vol_types::{Query, Updates};
@@ -72,7 +72,8 @@ impl Memory {
                 }
                 actor.intended.is_some()
             }
-            Event::Drop | Event::Next(_) => true,
+            Event::Flush(dev) => *dev < self.volume.devices(),
+            Event::Drop | Event::Next(_) | Event::Seal | Event::WriteEntry | Event::Settle => true,
         }
     }
 
@@ -87,9 +88,10 @@ impl Memory {
     /// each node that it makes dirty moves at most 16 bytes for each that is dirty already. A `LookIds` shares the trees of ids,
     /// which it makes anew, going over all ids, where a commit couldn't change them in place.
     ///
-    /// `Begin`, `Intend`, `Finish`, `Drop` and `Next` take no memory.
+    /// `Begin`, `Intend`, `Finish`, `Drop`, `Next` and `Settle` take no memory; a `Seal` takes that of the entry's bytes.
     pub fn step(&mut self, actor: u8, event: Event) -> Answer
-        requires { Fits self.old actor event }
+        requires fits { Fits self.old actor event }
+        requires of_memory { IsOfMemory event }
         ensures { EventGives self.old actor event result self.new }
     {
         match event {
@@ -100,7 +102,10 @@ impl Memory {
             Event::Commit { counted } => self.commit(actor, counted),
             Event::Finish => self.finish(actor),
             Event::Drop => self.drop_transaction(actor),
-            Event::Next(Work::Journal) => self.next_of_journal(actor),
+            Event::Next(Work::Journal) => self.tell(actor),
+            Event::Seal => self.seal(actor),
+            Event::Settle => self.settle(actor),
+            Event::WriteEntry | Event::Flush(_) => unreachable!(),
         }
     }
 
@@ -204,15 +209,71 @@ impl Memory {
         Answer::Done
     }
 
-    fn next_of_journal(&mut self, actor: u8) -> Answer
-        requires { Fits self.old actor (Next Journal) }
-        ensures { EventGives self.old actor (Next Journal) result self.new }
+    // Tells an actor the stage of the journal, and whether its commits are durable.
+    pub(crate) fn tell(&mut self, actor: u8) -> Answer
+        requires { actor < actor_count }
+        ensures told { IsTold self.old actor result self.new }
     {
         let stage = self.volume.stage();
         let mine = &mut self.actors[usize::from(actor)];
         let durable = self.volume.are_durable(mine.operation);
         mine.tell(stage, durable);
         Answer::At { stage, durable }
+    }
+
+    fn seal(&mut self, actor: u8) -> Answer
+        requires { Fits self.old actor Seal }
+        ensures { SealGives self.old actor result self.new }
+    {
+        if let Some(halt) = self.volume.halted {
+            return self.refused(actor, Refusal::Halted(halt));
+        }
+        if self.volume.stage() != Stage::Seal {
+            return self.tell(actor);
+        }
+        match self.volume.seal(self.alloc) {
+            Ok(()) => Answer::Done,
+            Err(Why::NoMemory) => Answer::NoMemory,
+            Err(Why::Refused(refusal)) => self.refused(actor, refusal),
+        }
+    }
+
+    fn settle(&mut self, actor: u8) -> Answer
+        requires { Fits self.old actor Settle }
+        ensures { SettleGives self.old actor result self.new }
+    {
+        if let Some(halt) = self.volume.halted {
+            return self.refused(actor, Refusal::Halted(halt));
+        }
+        if self.volume.stage() != Stage::Settle {
+            return self.tell(actor);
+        }
+        self.volume.settle();
+        Answer::Done
+    }
+
+    // Refuses an event of an actor, and notes why.
+    pub(crate) fn refused(&mut self, actor: u8, refusal: Refusal) -> Answer
+        requires { actor < actor_count }
+        ensures answer { result ≡ Answer.Refused refusal }
+        ensures noted { IsNoted refusal self.old actor self.new }
+    {
+        let mine = &mut self.actors[usize::from(actor)];
+        mine.note(&refusal);
+        Answer::Refused(refusal)
+    }
+
+    // Notes that a device failed an actor: the session stops writing.
+    pub(crate) fn fail(&mut self, actor: u8, dev: u8, tick: u64) -> Answer
+        requires { actor < actor_count }
+        ensures answer { result ≡ Answer.DeviceFault dev }
+        ensures failed { self.old.volume.halted ≡ None
+            → self.new ≡ failed_by dev tick actor self.old.volume.writer self.old }
+    {
+        let mine = &mut self.actors[usize::from(actor)];
+        mine.note_fault(dev);
+        self.volume.halt(Halt { dev, tick });
+        Answer::DeviceFault(dev)
     }
 }
 

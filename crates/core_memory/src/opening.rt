@@ -7,15 +7,16 @@ ghost use Rattle.core_memory.specs.States.{actor_count};
 ghost use Rattle.core_memory.specs.Volumes.{IsVolume};
 ghost use Rattle.vol_types.specs.Layouts.{is_layout};
 
+use crate::Actor;
 use crate::answering::answer;
 use crate::keys::VolumeKeys;
 use crate::memory::{ACTORS, Memory};
 use crate::volume::{Volume, see_widths};
-use crate::{Actor, Durable};
 use btree_map::{KeyMap, btrees_hold_a_key_map};
 use bucket_pool::Pool;
 use commit_plan::{DirtyNodes, dirty_nodes_are_marked, paths_of};
 use entry_queue::{EntryQueue, waiting_changes_lead_from_durable_keys};
+use entry_writer::EntryWriter;
 use journal_ring::FoundEntry;
 use std::alloc::{AllocError, Global};
 use vol_types::{Btree, Keys, Layout, Places, Pos, Query, Update, layouts_are_tested};
@@ -64,7 +65,6 @@ fn volume_of(
     btrees_hold_a_key_map();
     waiting_changes_lead_from_durable_keys();
     let _ = map.height(Btree::Extents);
-    let oldest = &needed[0];
     let newest = &needed[needed.len() - 1];
     let entry = &newest.entry;
     let mirrors = layout.metadata_replicas;
@@ -75,12 +75,7 @@ fn volume_of(
         queue: EntryQueue::new(alloc, mirrors, entry.sequence, behind, entry.commits),
         dirty: dirty_nodes(alloc, &map, needed, entry.oldest)?,
         pool: Pool::of(alloc, &layout, &live, nodes)?,
-        durable: Durable {
-            sequence: entry.sequence,
-            commits: entry.commits,
-            oldest: entry.oldest,
-            first: oldest.number,
-        },
+        writer: EntryWriter::of(alloc, &layout, needed)?,
         halted: None,
         changes: 0,
         layout,

@@ -120,7 +120,7 @@ fn blocks_left(volume: &Volume) -> u32
     ensures { result ≡ blocks_left volume.now }
 {
     let end = u128::from(volume.queue.last_block()) + 1;
-    let used = end.saturating_sub(u128::from(volume.durable.first));
+    let used = end.saturating_sub(u128::from(volume.durable().first));
     u128::from(volume.layout.journal).saturating_sub(used) as u32
 }
 

@@ -198,6 +198,9 @@ fn code_of_stage(stage: Stage) -> u64 {
     match stage {
         Stage::Rest => 0,
         Stage::Seal => 1,
+        Stage::WriteEntry => 2,
+        Stage::Flush(_) => 3,
+        Stage::Settle => 4,
     }
 }
 
@@ -217,12 +220,18 @@ fn code_of(answer: &Answer) -> u64 {
         Answer::Wait { holder } => 30 + u64::from(*holder),
         Answer::Refused(_) => 3,
         Answer::NoMemory => 4,
+        Answer::DeviceFault(_) => 5,
     }
+}
+
+// Whether an event calls devices.
+fn is_of_devices(event: &Event) -> bool {
+    matches!(event, Event::WriteEntry | Event::Flush(_))
 }
 
 // What an event is answered, if it fits.
 fn step(memory: &mut Memory, actor: u8, event: Event) -> Option<Answer> {
-    if !memory.may(actor, &event) {
+    if !memory.may(actor, &event) || is_of_devices(&event) {
         return None;
     }
     Some(memory.step(actor, event))

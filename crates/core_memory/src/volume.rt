@@ -14,6 +14,7 @@ use crate::{Durable, Halt, Stage};
 use bucket_pool::Pool;
 use commit_plan::DirtyNodes;
 use entry_queue::EntryQueue;
+use entry_writer::EntryWriter;
 use snap_tree::SnapTree;
 use std::alloc::{AllocError, Global};
 use std::marker::Model;
@@ -29,7 +30,7 @@ pub(crate) struct Volume {
     pub(crate) queue: EntryQueue,
     pub(crate) dirty: DirtyNodes,
     pub(crate) pool: Pool,
-    pub(crate) durable: Durable,
+    pub(crate) writer: EntryWriter,
     pub(crate) halted: Option<Halt>,
     pub(crate) changes: u64,
 }
@@ -41,9 +42,9 @@ impl Model for Volume {
 
     ghost Value = { AVolume };
 
-    ghost view = { λ v. record { layout = v.layout; session = v.session; trees = v.keys; queue = v.queue.queue; pins = v.dirty.pins.numbers; marks = v.dirty.marks.numbers; space = v.pool; durable = v.durable; halted = v.halted; changes = v.changes } };
+    ghost view = { λ v. record { layout = v.layout; session = v.session; trees = v.keys; queue = v.queue.queue; pins = v.dirty.pins.numbers; marks = v.dirty.marks.numbers; space = v.pool; writer = v.writer; halted = v.halted; changes = v.changes } };
 
-    ghost invariant = { λ v. IsVolume (record { layout = v.layout; session = v.session; trees = v.keys; queue = v.queue.queue; pins = v.dirty.pins.numbers; marks = v.dirty.marks.numbers; space = v.pool; durable = v.durable; halted = v.halted; changes = v.changes }) };
+    ghost invariant = { λ v. IsVolume (record { layout = v.layout; session = v.session; trees = v.keys; queue = v.queue.queue; pins = v.dirty.pins.numbers; marks = v.dirty.marks.numbers; space = v.pool; writer = v.writer; halted = v.halted; changes = v.changes }) };
 }
 
 impl Volume {
@@ -104,11 +105,14 @@ impl Volume {
     pub(crate) fn stage(&self) -> Stage
         ensures { result ≡ stage_of self.now }
     {
-        if self.needs_entry() {
-            Stage::Seal
-        } else {
-            Stage::Rest
-        }
+        self.writer.stage(self.needs_entry())
+    }
+
+    /// The last durable entry.
+    pub(crate) fn durable(&self) -> &Durable
+        ensures { result.now ≡ self.now.writer.durable }
+    {
+        self.writer.durable()
     }
 
     // Whether an entry of the journal is to be written.
@@ -121,10 +125,10 @@ impl Volume {
         if self.queue.has_keys() {
             return true;
         }
-        if self.queue.commits() != self.durable.commits {
+        if self.queue.commits() != self.durable().commits {
             return true;
         }
-        can_let_go(&self.durable, &self.dirty)
+        can_let_go(self.durable(), &self.dirty)
     }
 
     /// Says where the session stops writing. What it was told first stays.
@@ -141,8 +145,8 @@ impl Volume {
         ensures { result ≡ are_durable commits self.now }
     {
         match commits {
-            None => self.queue.commits() <= self.durable.commits,
-            Some(count) => count <= self.durable.commits,
+            None => self.queue.commits() <= self.durable().commits,
+            Some(count) => count <= self.durable().commits,
         }
     }
 }

@@ -85,11 +85,15 @@ impl<D: Devices> Core<D> {
     /// `Begin`, `Intend`, `Finish`, `Drop` and `Next` take no memory.
     pub fn step(&mut self, actor: u8, event: Event) -> Answer
         requires { Fits self.old.memory actor event }
-        ensures gives { StepGives self.old actor event result self.new }
+        ensures gives { StepGives D.tells D.state self.old actor event result self.new }
         ensures others { (other : ℕ) → other ≢ actor → mine self.new.memory other
             ≡ mine self.old.memory other }
     {
-        self.memory.step(actor, event)
+        match event {
+            Event::WriteEntry => self.memory.write_entry(&mut self.devices, actor),
+            Event::Flush(dev) => self.memory.flush_device(&mut self.devices, actor, dev),
+            event => self.memory.step(actor, event),
+        }
     }
 }
 

@@ -1,0 +1,51 @@
+ghost use Rattle.std.specs.Prelude.{◌≡◌, ◌<◌, true};
+ghost use Rattle.core_memory.specs.Devices.{FlushesDevice, WritesEntry};
+ghost use Rattle.core_memory.specs.Events.{Fits, FlushGives, WriteGives};
+ghost use Rattle.core_memory.specs.declared.event.Event.TheVariants.{Flush, WriteEntry};
+ghost use Rattle.geometry.specs.Layouts.{is_layout_of};
+
+use crate::memory::Memory;
+use crate::{Answer, Refusal, Stage};
+use dev_model::Devices;
+use geometry::DiskFault;
+
+impl Memory {
+    /// Writes the next part of the entry in flight on every metadata device, if that is the stage of the journal: for each of them
+    /// a write. It takes no memory. Where a device fails, the session stops writing.
+    pub fn write_entry<D: Devices>(&mut self, devices: &mut D, actor: u8) -> Answer
+        requires fits { Fits self.old actor WriteEntry }
+        requires layout { is_layout_of (D.state devices.old).sizes self.old.volume.layout ≡ true }
+        ensures gives { WriteGives (D.state devices.new).moment self.old actor result self.new }
+        ensures devices { WritesEntry D.tells self.old.volume.writer.ring result
+            (D.state devices.old) (D.state devices.new) }
+    {
+        if let Some(halt) = self.volume.halted {
+            return self.refused(actor, Refusal::Halted(halt));
+        }
+        if self.volume.stage() != Stage::WriteEntry {
+            return self.tell(actor);
+        }
+        match self.volume.write_part(devices) {
+            Ok(()) => Answer::Done,
+            Err(DiskFault::DeviceFault(dev)) => self.fail(actor, dev, devices.moment()),
+            Err(DiskFault::NoMemory) => unreachable!(),
+        }
+    }
+
+    /// Flushes a device. It takes no memory. Where it fails, the session stops writing.
+    pub fn flush_device<D: Devices>(&mut self, devices: &mut D, actor: u8, dev: u8) -> Answer
+        requires fits { Fits self.old actor (Flush dev) }
+        requires layout { is_layout_of (D.state devices.old).sizes self.old.volume.layout ≡ true }
+        ensures gives { FlushGives dev (D.state devices.new).moment self.old actor result self.new }
+        ensures devices { FlushesDevice D.tells dev result (D.state devices.old)
+            (D.state devices.new) }
+    {
+        if let Some(halt) = self.volume.halted {
+            return self.refused(actor, Refusal::Halted(halt));
+        }
+        match self.volume.flush(devices, dev) {
+            Ok(()) => Answer::Done,
+            Err(_) => self.fail(actor, dev, devices.moment()),
+        }
+    }
+}

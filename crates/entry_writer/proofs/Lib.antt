@@ -1,0 +1,3 @@
+pub mod SetFlags
+pub mod Entries
+pub mod Kept
