@@ -7,7 +7,7 @@ use Rattle.std.proofs.lemmas.Option.{same_Some}
 use Rattle.btree_map.specs.Trees.{Trees, keys_in}
 use Rattle.commit_plan.specs.Dirty.{AreMarked, changed_nodes, paths_of, with_pins}
 use Rattle.entry_queue.specs.Changes.{LeadTo, changes_of}
-use Rattle.entry_queue.specs.Queues.{Queue, closes, follower_of, joined, waiting}
+use Rattle.entry_queue.specs.Queues.{Queue, closes, follower_of, joined, oldest, waiting}
 use Rattle.entry_queue.specs.declared.changes.KeyChanges.{KeyChanges}
 use Rattle.vol_types.specs.KeyMaps.{KeyMap, with_updates}
 use Rattle.vol_types.specs.declared.keys.Update.{Update}
@@ -17,7 +17,7 @@ use Rattle.core_memory.specs.Actors.{committed, holds, idle_actor}
 use Rattle.core_memory.specs.Commits.{AreIntended, IsCommitted}
 use Rattle.core_memory.specs.Rulings.{entry_of}
 use Rattle.core_memory.specs.States.{IsActor, IsState, State, actor_count, mine, other_holder}
-use Rattle.core_memory.specs.Volumes.{IsVolume, Volume}
+use Rattle.core_memory.specs.Volumes.{IsVolume, Volume, changes_in}
 use Rattle.core_memory.specs.declared.actor.Actor.{Actor}
 use Rattle.core_memory.proofs.Kept.{free-no_looks, holder-given_back, no_looks-given}
 
@@ -32,21 +32,27 @@ mirrors-joined changes counted queue = by (closes changes.updates queue)
 -- Updates lead from the durable keys to the keys with them.
 abbrev pub LeadsOn : List Update → Bool → Volume → Type 0
 LeadsOn updates counted old =
-    (durable keys : KeyMap) → LeadTo (waiting old.queue) durable keys → LeadTo (waiting (joined (changes_of updates keys) counted old.queue)) durable (with_updates updates keys)
+    (durable keys : KeyMap) → LeadTo (changes_in old.writer.flight ++ waiting old.queue) durable keys → LeadTo (changes_in old.writer.flight ++ waiting (joined (changes_of updates keys) counted old.queue)) durable (with_updates updates keys)
+
+-- The entry that is written next follows the same one as before.
+abbrev pub KeepsTurn : List Update → Bool → Volume → Type 0
+KeepsTurn updates counted old = (oldest (joined (changes_of updates (keys_in old.trees)) counted old.queue)).after ≡ (oldest old.queue).after
 
 -- A commit keeps a volume.
 pub committed-volume : (updates : List Update) (counted : Bool) (old new : Volume) → IsVolume old → IsCommitted updates counted old new
     → AreMarked old.trees.nodes (with_pins (entry_of old updates) (changed_nodes old.trees.nodes updates) old.pins) (with_pins (entry_of old updates) (paths_of old.trees.nodes updates) old.marks)
-    → LeadsOn updates counted old → IsVolume new
-committed-volume updates counted old new is made marked leads =
+    → KeepsTurn updates counted old → LeadsOn updates counted old → IsVolume new
+committed-volume updates counted old new is made marked turn leads =
     subst IsVolume (sym made.rest) (record {
       placed = is.placed;
       mirrors = mirrors-joined (changes_of updates (keys_in old.trees)) counted old.queue ∙ is.mirrors;
       devices = is.devices;
+      ring = is.ring;
+      in_turn = record { flying = is.in_turn.flying; waiting_ones = turn ∙ is.in_turn.waiting_ones };
       marked = subst (λ (nodes : List Levels). AreMarked nodes (with_pins (entry_of old updates) (changed_nodes old.trees.nodes updates) old.pins) (with_pins (entry_of old updates) (paths_of old.trees.nodes updates) old.marks)) (sym made.nodes) marked;
       durable_keys = is.durable_keys;
       are_keys = is.are_keys;
-      lead = subst (λ (keys : KeyMap). LeadTo (waiting (joined (changes_of updates (keys_in old.trees)) counted old.queue)) is.durable_keys keys) (sym made.keys) (leads is.durable_keys (keys_in old.trees) is.lead);
+      lead = subst (λ (keys : KeyMap). LeadTo (changes_in old.writer.flight ++ waiting (joined (changes_of updates (keys_in old.trees)) counted old.queue)) is.durable_keys keys) (sym made.keys) (leads is.durable_keys (keys_in old.trees) is.lead);
     })
 
 module _ (old : Volume) (is : IsVolume old) (updates : List Update) (counted : Bool) (trees : Trees) (queue : Queue) (pins marks : List (ℕ × ℕ)) where
@@ -55,16 +61,16 @@ module _ (old : Volume) (is : IsVolume old) (updates : List Update) (counted : B
       → queue ≡ joined (changes_of updates (keys_in old.trees)) counted old.queue
       → pins ≡ with_pins (entry_of old updates) (changed_nodes old.trees.nodes updates) old.pins → marks ≡ with_pins (entry_of old updates) (paths_of old.trees.nodes updates) old.marks
       → AreMarked old.trees.nodes (with_pins (entry_of old updates) (changed_nodes old.trees.nodes updates) old.pins) (with_pins (entry_of old updates) (paths_of old.trees.nodes updates) old.marks)
-      → LeadsOn updates counted old
+      → KeepsTurn updates counted old → LeadsOn updates counted old
       → IsVolume (record old { trees = trees; queue = queue; pins = pins; marks = marks; changes = old.changes + 1 })
-  made-kept keys nodes joins pinned marks_are marked leads =
+  made-kept keys nodes joins pinned marks_are marked turn leads =
       committed-volume updates counted old (record old { trees = trees; queue = queue; pins = pins; marks = marks; changes = old.changes + 1 }) is
       (record {
         keys = keys;
         nodes = nodes;
         rest = λ i. record old { trees = trees; queue = joins i; pins = pinned i; marks = marks_are i; changes = old.changes + 1 };
       })
-      marked leads
+      marked turn leads
 
 -- What an actor has under way that has no transaction goes with any keys.
 free-actor : (volume : Volume) (turn : Option ℕ) (number : ℕ) (actor : Actor) → holds actor ≡ false → IfSome actor.intended (AreIntended volume.layout.metadata_replicas) → IsActor volume turn number actor

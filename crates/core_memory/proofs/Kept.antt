@@ -5,7 +5,8 @@ use Rattle.std.proofs.lemmas.Bool.{cases_eq, eqb-true, true≢false}
 use Rattle.std.proofs.lemmas.List.{get_or-set_same, get_or-set_other, get_or_default, length-set}
 use Rattle.std.proofs.lemmas.List.Elements.{All-nil, All-push}
 use Rattle.std.proofs.lemmas.Option.{same_Some, none-some as none_some}
-use Rattle.btree_map.specs.Trees.{keys_in}
+use Rattle.btree_map.specs.Trees.{Trees, keys_in}
+use Rattle.vol_types.specs.declared.layout.Layout.{Layout}
 use Rattle.vol_types.specs.KeyMaps.{GivesLooks, IsLook, answer_of}
 use Rattle.vol_types.specs.declared.keys.Update.{Update}
 use Rattle.vol_types.specs.declared.queries.Query.{Query}
@@ -15,9 +16,9 @@ use Rattle.core_memory.specs.Commits.{AreIntended}
 use Rattle.core_memory.specs.Uncommitted.{noted_why}
 use Rattle.core_memory.specs.declared.commit.Why.{Why}
 use Rattle.core_memory.specs.declared.commit.Why.TheVariants.{NoMemory, Refused}
-use Rattle.core_memory.specs.declared.event.Stage.{Stage}
+use Rattle.entry_writer.specs.declared.stage.Stage.{Stage}
 use Rattle.core_memory.specs.States.{IsActor, IsState, State, actor_count, mine, other_holder}
-use Rattle.core_memory.specs.Volumes.{Volume}
+use Rattle.core_memory.specs.Volumes.{IsVolume, Volume}
 use Rattle.core_memory.specs.declared.actor.Actor.{Actor}
 
 -- The turn is one actor's at most: whoever isn't the actor that changes still has the turn if it had it.
@@ -165,3 +166,16 @@ module _ (volume : Volume) (actors : List Actor) (turn : Option ℕ) (is : IsSta
       (subst (λ (a : Actor). IsState (record { volume = volume; actors = slice_set actors actor a; turn = left })) (sym same)
       (subst (λ (t : Option ℕ). IsState (record { volume = volume; actors = slice_set actors actor (change mine_now); turn = t })) (sym given)
       (kept (record { volume = volume; actors = actors; turn = turn }) is actor there (change mine_now) (other_holder actor turn) (keeps (other_holder actor turn)) (giving-keeps_turns actor turn) (holder-given_back actor turn is.holder))))
+
+-- The entries that are written change, and no keys: what is kept of all actors stays.
+pub journal-kept : (old : State) → IsState old → (volume : Volume) → IsVolume volume → volume.trees ≡ old.volume.trees → volume.layout ≡ old.volume.layout → IsState (record { volume = volume; actors = old.actors; turn = old.turn })
+journal-kept old is volume sound trees layout = record {
+  volume = sound;
+  count = is.count;
+  holder = is.holder;
+  each = λ number. record {
+    has_turn = (is.each number).has_turn;
+    looks = subst (λ (t : Trees). GivesLooks (keys_in t) (mine old number).looks) (sym trees) (is.each number).looks;
+    intended = subst (λ (l : Layout). IfSome (mine old number).intended (AreIntended l.metadata_replicas)) (sym layout) (is.each number).intended;
+  };
+}

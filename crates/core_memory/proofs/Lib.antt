@@ -4,3 +4,5 @@ mod Pinning
 mod Spaces
 mod Opened
 mod Walking
+mod Written
+mod RootNodes

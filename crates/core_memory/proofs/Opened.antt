@@ -17,23 +17,25 @@ use Rattle.entry_queue.specs.Queues.{Queue, empty_queue, waiting}
 use Rattle.journal_ring.specs.declared.found.FoundEntry.{FoundEntry}
 use Rattle.vol_types.specs.KeyMaps.{IsKeyMap, IsLook, KeyMap}
 use Rattle.vol_types.specs.Layouts.{is_layout}
-use Rattle.vol_types.specs.declared.keys.Update.{Update}
 use Rattle.vol_types.specs.declared.layout.Layout.{Layout}
 use Rattle.vol_types.specs.declared.pointers.Place.{Place}
-use Rattle.core_memory.specs.Opening.{keys_of_buckets, opened_by}
+use Rattle.entry_writer.specs.Writers.{Writer, opened_by as writer_opened}
+use Rattle.core_memory.specs.Opening.{keys_of_buckets, opened_by, updates_in}
 use Rattle.core_memory.specs.Volumes.{IsVolume, Volume}
 use Rattle.core_memory.proofs.Spaces.{length-space_of}
 
-module _ (layout : Layout) (session : ℕ) (trees : Trees) (updates : List Update) (nodes : List Place) (oldest newest : FoundEntry) where
+module _ (layout : Layout) (session : ℕ) (trees : Trees) (needed : List FoundEntry) (nodes : List Place) (newest : FoundEntry) where
   -- Nothing waits, so the keys in memory are durable.
   pub opened-kept : is_layout layout ≡ true → IsKeyMap (keys_in trees)
-      → AreMarked trees.nodes (with_pins newest.entry.oldest (changed_nodes trees.nodes updates) []) (with_pins newest.entry.oldest (paths_of trees.nodes updates) [])
+      → AreMarked trees.nodes (with_pins newest.entry.oldest (changed_nodes trees.nodes (updates_in needed)) []) (with_pins newest.entry.oldest (paths_of trees.nodes (updates_in needed)) [])
       → ((mirrors after behind commits : ℕ) (keys : KeyMap) → LeadTo (waiting (empty_queue mirrors after behind commits)) keys keys)
-      → IsVolume (opened_by layout session trees updates nodes oldest newest)
+      → IsVolume (opened_by layout session trees needed nodes newest)
   opened-kept placed keys marked leads = record {
     placed = placed;
     mirrors = refl;
     devices = length-space_of layout (keys_of_buckets (keys_in trees)) nodes;
+    ring = record { id = refl; mirrors = refl; journal = refl };
+    in_turn = record { flying = tt; waiting_ones = refl };
     marked = marked;
     durable_keys = keys_in trees;
     are_keys = keys;
@@ -41,10 +43,10 @@ module _ (layout : Layout) (session : ℕ) (trees : Trees) (updates : List Updat
   }
 
   -- What the parts make.
-  pub opened-same : (kept : Trees) → kept ≡ trees → (behind : ℕ) (queue : Queue) (pins marks : List (ℕ × ℕ)) (space : Space)
+  pub opened-same : (kept : Trees) → kept ≡ trees → (behind : ℕ) (queue : Queue) (pins marks : List (ℕ × ℕ)) (space : Space) (writer : Writer)
       → behind ≡ newest.end - 1 → queue ≡ empty_queue layout.metadata_replicas newest.entry.sequence behind newest.entry.commits
-      → pins ≡ with_pins newest.entry.oldest (changed_nodes trees.nodes updates) [] → marks ≡ with_pins newest.entry.oldest (paths_of trees.nodes updates) []
-      → space ≡ space_of layout (keys_of_buckets (keys_in trees)) nodes
+      → pins ≡ with_pins newest.entry.oldest (changed_nodes trees.nodes (updates_in needed)) [] → marks ≡ with_pins newest.entry.oldest (paths_of trees.nodes (updates_in needed)) []
+      → space ≡ space_of layout (keys_of_buckets (keys_in trees)) nodes → writer ≡ writer_opened layout needed newest
       → record {
         layout = layout;
         session = session;
@@ -53,11 +55,11 @@ module _ (layout : Layout) (session : ℕ) (trees : Trees) (updates : List Updat
         pins = pins;
         marks = marks;
         space = space;
-        durable = record { sequence = newest.entry.sequence; commits = newest.entry.commits; oldest = newest.entry.oldest; first = oldest.number };
+        writer = writer;
         halted = None;
         changes = 0;
-      } ≡ opened_by layout session trees updates nodes oldest newest
-  opened-same kept keeps behind queue pins marks space ends queue_is pins_are marks_are space_is = λ i. record {
+      } ≡ opened_by layout session trees needed nodes newest
+  opened-same kept keeps behind queue pins marks space writer ends queue_is pins_are marks_are space_is writer_is = λ i. record {
     layout = layout;
     session = session;
     trees = keeps i;
@@ -65,7 +67,7 @@ module _ (layout : Layout) (session : ℕ) (trees : Trees) (updates : List Updat
     pins = pins_are i;
     marks = marks_are i;
     space = space_is i;
-    durable = record { sequence = newest.entry.sequence; commits = newest.entry.commits; oldest = newest.entry.oldest; first = oldest.number };
+    writer = writer_is i;
     halted = None;
     changes = 0;
   }

@@ -1,5 +1,5 @@
 -- What the events that call devices do to them.
-use Rattle.std.specs.Prelude.{◌≡◌, ℕ, None, Some, Ok, Err, ⊤}
+use Rattle.std.specs.Prelude.{◌≡◌, ℕ, None, Some, Ok, Err}
 use Rattle.dev_model.specs.Devices.{DevicesState, IsFlush}
 use Rattle.entry_writer.specs.Writes.{WritesPart}
 use Rattle.journal_ring.specs.Rings.{RingState}
@@ -14,6 +14,6 @@ WritesEntry tells ring other old new = new ≡ old
 
 -- The device was flushed, or failed; with every other answer it wasn't called.
 abbrev pub FlushesDevice : Type 0 → ℕ → Answer → DevicesState → DevicesState → Type 0
-FlushesDevice tells dev Done old new = IsFlush {⊤} {⊤} tells dev (Ok tt) old new
-FlushesDevice tells dev (DeviceFault failed) old new = IsFlush {⊤} {⊤} tells dev (Err tt) old new
+FlushesDevice tells dev Done old new = IsFlush {T = Unit {0}} {E = Unit {0}} tells dev (Ok tt) old new
+FlushesDevice tells dev (DeviceFault failed) old new = IsFlush {T = Unit {0}} {E = Unit {0}} tells dev (Err tt) old new
 FlushesDevice tells dev other old new = new ≡ old

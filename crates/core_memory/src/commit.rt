@@ -13,7 +13,8 @@ use crate::ruling::{Ruling, entry_of, rule};
 use crate::volume::{Volume, see_widths};
 use commit_plan::{DirtyNodes, Paths, dirty_nodes_are_marked};
 use entry_queue::{
-    EntryQueue, KeyChanges, commits_are_undone, waiting_changes_lead_from_durable_keys,
+    EntryQueue, KeyChanges, commits_are_undone, commits_leave_queues,
+    waiting_changes_lead_from_durable_keys,
 };
 use std::alloc::{AllocError, Global};
 use vol_types::{Btree, Update, Updates};
@@ -85,6 +86,7 @@ impl Volume {
         let _ = self.keys.map().node_of(0);
         let _ = self.keys.map().height(Btree::Extents);
         commits_are_undone();
+        commits_leave_queues();
         waiting_changes_lead_from_durable_keys();
         dirty_nodes_are_marked();
         let seq = entry_of(&self.queue, updates.as_slice(), counted);

@@ -1,7 +1,5 @@
-ghost use Rattle.std.specs.Prelude.{◌≡◌, ◌<◌, All, IfOk, length};
+ghost use Rattle.std.specs.Prelude.{◌≡◌, ◌<◌, [], All, IfOk, length, slice_index_or};
 ghost use Rattle.core_memory.specs.Sealing.{root_of, roots_in};
-ghost use Rattle.tree_nodes.specs.Levels.{Levels};
-ghost use Rattle.std.specs.Prelude.{slice_index_or};
 ghost use Rattle.vol_types.specs.Ranges.{IsNode};
 
 use btree_map::KeyMap;

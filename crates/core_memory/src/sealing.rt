@@ -1,6 +1,7 @@
 ghost use Rattle.std.specs.Prelude.{◌≡◌, ◌<◌, ◌≤◌, ◌↔◌, [], true, false, All, IfErr, IsTrue, OnErr, OnOk, length};
 ghost use Rattle.core_memory.specs.Sealing.{HasEntryNumbers, IsFlown, IsStage, roots_in, with_writer};
 ghost use Rattle.core_memory.specs.Uncommitted.{IsWhySealed, why_of};
+ghost use Rattle.core_memory.specs.Volumes.{IsVolume};
 ghost use Rattle.entry_queue.specs.Queues.{HasNumbers};
 ghost use Rattle.dev_model.specs.Devices.{IsFlush};
 ghost use Rattle.entry_writer.specs.Writers.{settled, unsettled_by, with_flushed, with_next_part};
@@ -19,7 +20,7 @@ use crate::volume::Volume;
 use dev_model::Devices;
 use entry_queue::{EntryQueue, entries_leave_in_turn, waiting_changes_lead_from_durable_keys};
 use entry_writer::{Unsealed, Why as WhyUnsealed};
-use geometry::DiskFault;
+use geometry::{DiskFault, layouts_have_places};
 use journal_ring::areas_have_places;
 use std::alloc::Global;
 use vol_types::{Failed, Roots, layouts_are_tested};
@@ -31,6 +32,7 @@ impl Volume {
     pub(crate) fn seal(&mut self, alloc: Global) -> Result<(), Why>
         requires { IsStage Seal self.old }
         ensures flown { OnOk result (IsFlown self.old self.new) }
+        ensures sound { OnOk result (IsVolume self.new) }
         ensures err { OnErr result (self.new ≡ self.old) }
         ensures why { IfErr result (IsWhySealed self.old) }
     {
@@ -51,11 +53,14 @@ impl Volume {
         requires count { length roots ≡ 9 }
         requires in_range { All IsNode roots }
         ensures flown { OnOk result (IsFlown self.old self.new) }
+        ensures sound { OnOk result (IsVolume self.new) }
         ensures err { OnErr result (self.new ≡ self.old) }
         ensures why { IfErr result (IsWhySealed self.old) }
     {
         entries_leave_in_turn();
         waiting_changes_lead_from_durable_keys();
+        // The queue is one.
+        let _ = self.queue.commits();
         let entry = self.queue.take_oldest(alloc);
         let oldest = oldest_needed(entry.after + 1, self.dirty.oldest());
         match self.writer.seal(alloc, entry, oldest, self.session, roots) {
@@ -71,6 +76,7 @@ impl Volume {
     pub(crate) fn write_part<D: Devices>(&mut self, devices: &mut D) -> Result<(), DiskFault>
         requires stage { IsStage WriteEntry self.old }
         requires layout { is_layout_of (D.state devices.old).sizes self.old.layout ≡ true }
+        ensures sound { IsVolume self.new }
         ensures ok { OnOk result (self.new ≡ with_writer (with_next_part self.old.writer) self.old) }
         ensures err { OnErr result (self.new ≡ with_writer (unsettled_by self.old.writer) self.old) }
         ensures writes { WritesPart D.tells self.old.writer.ring (failed_device result)
@@ -85,20 +91,23 @@ impl Volume {
     pub(crate) fn flush<D: Devices>(&mut self, devices: &mut D, dev: u8) -> Result<(), Failed>
         requires there { dev < length self.old.layout.blocks }
         requires layout { is_layout_of (D.state devices.old).sizes self.old.layout ≡ true }
+        ensures sound { IsVolume self.new }
         ensures ok { OnOk result (self.new ≡ with_writer (with_flushed dev self.old.writer) self.old) }
         ensures err { OnErr result (self.new ≡ self.old) }
         ensures call { IsFlush D.tells dev result (D.state devices.old) (D.state devices.new) }
         ensures sizes { (D.state devices.new).sizes ≡ (D.state devices.old).sizes }
     {
-        // There are at most eight devices.
+        // There are at most eight devices, and these have room for them.
         layouts_are_tested();
+        layouts_have_places();
         self.writer.flush(devices, dev)
     }
 
     /// Takes the entry in flight as the last durable one. It takes no memory.
     pub(crate) fn settle(&mut self)
         requires { IsStage Settle self.old }
-        ensures { self.new ≡ with_writer (settled self.old.writer) self.old }
+        ensures sound { IsVolume self.new }
+        ensures settled { self.new ≡ with_writer (settled self.old.writer) self.old }
     {
         waiting_changes_lead_from_durable_keys();
         self.writer.settle();

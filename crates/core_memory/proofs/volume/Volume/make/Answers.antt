@@ -1,4 +1,4 @@
-use Rattle.std.proofs.Common.{◌≡◌, ◌∙◌, ◌+◌, Option, List, ℕ, [], ap, sym, subst}
+use Rattle.std.proofs.Common.{◌≡◌, ◌∙◌, ◌+◌, Option, List, ℕ, ap, sym, subst}
 use Rattle.birth_index.specs.Births.{BirthsDiffer}
 use Rattle.btree_map.specs.Trees.{IsTrees, Trees, keys_in}
 use Rattle.commit_plan.specs.Dirty.{changed_nodes, paths_of, with_pins}
@@ -7,7 +7,8 @@ use Rattle.vol_types.specs.Widths.{PosFits}
 use Rattle.vol_types.specs.declared.keys.Update.{Update}
 use Rattle.std.specs.Prelude.{All}
 use Rattle.vol_types.specs.declared.values.Value.{Value}
-use Rattle.core_memory.specs.Volumes.{Volume}
+use Rattle.btree_map.specs.Applied.{values_before}
+use Rattle.core_memory.specs.Volumes.{Volume, changes_in}
 use Rattle.core_memory.proofs.Committed.{made-kept}
 use Rattle.core_memory.proofs.volume.Volume.make.Goals as goal
 
@@ -27,7 +28,7 @@ invariant_of-self-in-Ok c =
       pins = inside.dirty.pins.numbers;
       marks = inside.dirty.marks.numbers;
       space = inside.pool;
-      durable = inside.durable;
+      writer = inside.writer;
       halted = inside.halted;
       changes = inside.changes;
     }) c.self.invariant updates c.args.counted c.apply.new.self c.join.new.self.queue c.dirty.new.self.pins.numbers c.dirty.new.self.marks.numbers
@@ -42,7 +43,8 @@ invariant_of-self-in-Ok c =
     ∙ ap (λ (births : List ℕ). with_pins c.entry_of-seq.result births inside.dirty.marks.numbers) over
     ∙ ap (λ (seq : ℕ). with_pins seq (paths_of inside.keys.nodes updates) inside.dirty.marks.numbers) seq)
     (c.dirty_nodes_are_marked.ensures.more inside.keys.nodes inside.dirty.pins.numbers inside.dirty.marks.numbers updates _ (subst (λ (t : Trees). BirthsDiffer t.nodes) c.map.ensures c.node_of.ensures.differ) (λ btree. ((subst IsTrees c.map-2.ensures c.height.ensures.sound).each btree).nodes) (subst (All (λ (update : Update). PosFits update.pos)) c.as_slice.ensures c.see_widths.ensures) c.self.invariant.marked)
-    (λ durable keys lead. c.waiting_changes_lead_from_durable_keys.ensures.joined [] inside.queue.queue updates c.args.counted durable keys lead)
+    (c.commits_leave_queues.ensures.oldest (record { updates = updates; before = values_before updates keys }) c.args.counted inside.queue.queue).0
+    (λ durable keys lead. c.waiting_changes_lead_from_durable_keys.ensures.joined (changes_in inside.writer.flight) inside.queue.queue updates c.args.counted durable keys lead)
 
 pub returns-in-Ok-clause-sound : goal.returns-in-Ok-clause-sound
 returns-in-Ok-clause-sound c = invariant_of-self-in-Ok c
