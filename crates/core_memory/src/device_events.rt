@@ -39,6 +39,7 @@ impl Memory {
         ensures gives { FlushGives dev (D.state devices.new).moment self.old actor result self.new }
         ensures devices { FlushesDevice D.tells dev result (D.state devices.old)
             (D.state devices.new) }
+        ensures sizes { (D.state devices.new).sizes ≡ (D.state devices.old).sizes }
     {
         if let Some(halt) = self.volume.halted {
             return self.refused(actor, Refusal::Halted(halt));
