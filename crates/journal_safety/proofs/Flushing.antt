@@ -1,0 +1,79 @@
+-- A flush asks for nothing, and it leaves its device at rest.
+use Rattle.std.proofs.Common.{◌≡◌, ◌≢◌, ⊎_elim, ℕ, zero, suc, ◌<◌, Bool, true, false, List, [], ◌∷◌, ◌++◌, drop, replicate, set, slice_get, Some, Result, Ok, Err, refl, sym, ap, subst, ◌∙◌, arith}
+use Rattle.std.proofs.lemmas.Bool.{cases_eq, false≢true}
+use Rattle.std.proofs.lemmas.Option.{none-some, same_Some}
+use Rattle.std.specs.Prelude.{All}
+use Rattle.dev_model.specs.CrashLaws.{goes_on_flush, left_itself, started}
+use Rattle.dev_model.specs.Crashes.{IsCrashImageBut, SameBut}
+use Rattle.dev_model.specs.Devices.{ChangesDisks, DevicesState, Is, now}
+use Rattle.dev_model.specs.Disk.{Disk, IsAtRest, IsDisk, as_read, block_at, changed, flushed}
+use Rattle.dev_model.specs.HeldLaws.{hold_by_flush, hold_here}
+use Rattle.dev_model.specs.PlaceLaws.{reads_flushed}
+use Rattle.geometry.specs.Mirrors.{NoBlock}
+use Rattle.journal_safety.specs.Flushes.{AreFlushed, Flushes, flags_by, with_flags}
+use Rattle.journal_safety.specs.Parts.{AsksAt}
+
+-- no place
+abbrev pub NoPlace : ℕ → ℕ → Type 0
+NoPlace dev block = ⊥
+
+abbrev result_of : Bool → Result Bool Bool
+result_of true = Ok true
+result_of false = Err false
+
+-- A flush is a call whose result is that.
+as_call : (dev : ℕ) (done : Bool) (old new : DevicesState) → Flushes dev done old new → ChangesDisks (result_of done) (Is (now old)) (Is (changed dev flushed (now old))) old new
+as_call dev true old new flush = record { later = flush.later; past = flush.past; inside = flush.inside; after = flush.settles refl; takes_time = flush.takes_time refl }
+as_call dev false old new flush = record { later = flush.later; past = flush.past; inside = flush.inside; after = flush.fails refl; takes_time = tt }
+
+reads_stay : (dev : ℕ) (done : Bool) (old new : DevicesState) → Flushes dev done old new → SameBut NoPlace (as_read (now old)) (as_read (now new))
+reads_stay dev true old new flush = λ d b none. sym (ap (λ (ds : List Disk). block_at (as_read ds) d b) (flush.settles refl) ∙ reads_flushed (now old) dev d b)
+reads_stay dev false old new flush = λ d b none. sym (ap (λ (ds : List Disk). block_at (as_read ds) d b) (flush.fails refl))
+
+-- It asks for nothing.
+pub flush_asks : (dev : ℕ) (done : Bool) (old new : DevicesState) → All IsDisk (now old) → Flushes dev done old new → AsksAt NoPlace NoBlock old new
+flush_asks dev done old new are flush = record {
+  crashes = goes_on_flush NoPlace (now old) old old (started (λ m ds image. IsCrashImageBut NoPlace (now old) image) old (λ image may. left_itself NoPlace (now old) image may)) are (result_of done) dev new (as_call dev done old new flush);
+  elsewhere = reads_stay dev done old new flush;
+  asks = λ opens. hold_by_flush opens NoBlock old old (omega arith) (hold_here opens NoBlock old) (result_of done) dev new (as_call dev done old new flush);
+}
+
+-- ---- devices at rest
+
+there_changed : (disks : List Disk) (dev other : ℕ) (disk : Disk) → slice_get (changed dev flushed disks) other ≡ Some disk → other ≢ dev → slice_get disks other ≡ Some disk
+there_changed [] dev other disk there differs = there
+there_changed (one ∷ disks) zero zero disk there differs = absurd (differs refl)
+there_changed (one ∷ disks) zero (suc other) disk there differs = there
+there_changed (one ∷ disks) (suc dev) zero disk there differs = there
+there_changed (one ∷ disks) (suc dev) (suc other) disk there differs = there_changed disks dev other disk there (λ same. differs (ap suc same))
+
+rests_flushed : (disks : List Disk) (dev : ℕ) (disk : Disk) → slice_get (changed dev flushed disks) dev ≡ Some disk → IsAtRest disk
+rests_flushed [] dev disk there = absurd (none-some disk there)
+rests_flushed (one ∷ disks) zero disk there = subst IsAtRest (same_Some (flushed one) disk there) (record { writes = refl; extension = refl })
+rests_flushed (one ∷ disks) (suc dev) disk there = rests_flushed disks dev disk there
+
+flag_elsewhere : (flags : List Bool) (dev other : ℕ) → other ≢ dev → slice_get (set flags dev false) other ≡ slice_get flags other
+flag_elsewhere [] dev other differs = refl
+flag_elsewhere (flag ∷ flags) zero zero differs = absurd (differs refl)
+flag_elsewhere (flag ∷ flags) zero (suc other) differs = refl
+flag_elsewhere (flag ∷ flags) (suc dev) zero differs = refl
+flag_elsewhere (flag ∷ flags) (suc dev) (suc other) differs = flag_elsewhere flags dev other (λ same. differs (ap suc same))
+
+-- After a flush the flags say which devices are at rest.
+pub flushed_rest : (mirrors : ℕ) (flags : List Bool) (dev : ℕ) (done : Bool) (old new : DevicesState) → AreFlushed mirrors flags (now old) → Flushes dev done old new → AreFlushed mirrors (flags_by dev done flags) (now new)
+flushed_rest mirrors flags dev true old new rest flush other disk mirror flag there =
+    let there_now : slice_get (changed dev flushed (now old)) other ≡ Some disk = ap (λ (ds : List Disk). slice_get ds other) (sym (flush.settles refl)) ∙ there in
+    ⊎_elim
+    (λ (same : other ≡ dev). rests_flushed (now old) dev disk (subst (λ n. slice_get (changed dev flushed (now old)) n ≡ Some disk) same there_now))
+    (λ (differs : ¬ (other ≡ dev)). rest other disk mirror (sym (flag_elsewhere flags dev other differs) ∙ flag) (there_changed (now old) dev other disk there_now differs))
+    (cases_eq other dev)
+flushed_rest mirrors flags dev false old new rest flush other disk mirror flag there = rest other disk mirror flag (ap (λ (ds : List Disk). slice_get ds other) (sym (flush.fails refl)) ∙ there)
+
+set_flag : (count : ℕ) (rest : List Bool) (dev : ℕ) → dev < count → slice_get (replicate count true ++ rest) dev ≡ Some true
+set_flag zero rest dev lower = absurd (omega (arith, lower))
+set_flag (suc count) rest zero lower = refl
+set_flag (suc count) rest (suc dev) lower = set_flag count rest dev (omega (arith, lower))
+
+-- Where all flags of metadata devices are set nothing is said.
+pub flags_set : (mirrors : ℕ) (flags : List Bool) (disks : List Disk) → AreFlushed mirrors (with_flags mirrors flags) disks
+flags_set mirrors flags disks dev disk mirror flag there = absurd (false≢true (same_Some false true (sym flag ∙ set_flag mirrors (drop mirrors flags) dev mirror)))

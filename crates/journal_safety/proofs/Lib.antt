@@ -1,0 +1,9 @@
+pub mod Images
+pub mod OtherBlock
+pub mod BaseStays
+pub mod Meanings
+pub mod Calls
+pub mod Safe
+pub mod Flushing
+pub mod Steps
+pub mod Beside

@@ -1,0 +1,6 @@
+pub mod Writings
+pub mod Standing
+pub mod Safety
+pub mod Parts
+pub mod Flushes
+pub mod Elsewhere
