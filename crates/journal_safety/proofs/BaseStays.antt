@@ -35,7 +35,7 @@ module _ (touched : ℕ → ℕ → Type 0) (one before image : Image) (as_long 
       by hit (Some x) at =
           law (with_block d b x one) (sizes_with_block d b x one) (λ e c away. with_block_elsewhere d b x one e c (λ (same : (e ≡ d) × (c ≡ b)).
           away (subst (λ n. touched n c) (sym same.0) (subst (λ n. touched d n) (sym same.1) hit))))
-          ∙ with_block_at one image d b x as_long at
+          ∙ with_block_at one image d b x x as_long at
           ∙ sym at
 
   pub base_more : (f : Found) → ((other : Image) → sizes one ≡ sizes other → SameBut touched one other → AgreeOnBase f one other) → AgreeOnBase f one before → AgreeOnBase f one image

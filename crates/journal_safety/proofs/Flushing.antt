@@ -1,14 +1,14 @@
--- A flush asks for nothing, and it leaves its device at rest.
-use Rattle.std.proofs.Common.{◌≡◌, ◌≢◌, ⊎_elim, ℕ, zero, suc, ◌<◌, Bool, true, false, List, [], ◌∷◌, ◌++◌, drop, replicate, set, slice_get, Some, Result, Ok, Err, refl, sym, ap, subst, ◌∙◌, arith}
-use Rattle.std.proofs.lemmas.Bool.{cases_eq, false≢true}
-use Rattle.std.proofs.lemmas.Option.{none-some, same_Some}
+-- A flush asks for nothing, and it settles its device.
+use Rattle.std.proofs.Common.{◌≡◌, ◌≢◌, ⊎_elim, ℕ, zero, suc, ◌<◌, ◌≤◌, Bool, true, false, List, [], ◌∷◌, ◌++◌, length, drop, replicate, set, slice_get, Some, Result, Ok, Err, refl, sym, ap, subst, ◌∙◌, arith}
+use Rattle.std.proofs.lemmas.Bool.{cases_eq, cases_lt, false≢true}
+use Rattle.std.proofs.lemmas.Option.{same_Some}
 use Rattle.std.specs.Prelude.{All}
 use Rattle.dev_model.specs.CrashLaws.{goes_on_flush, left_itself, started}
 use Rattle.dev_model.specs.Crashes.{IsCrashImageBut, SameBut}
 use Rattle.dev_model.specs.Devices.{ChangesDisks, DevicesState, Is, now}
-use Rattle.dev_model.specs.Disk.{Disk, IsAtRest, IsDisk, as_read, block_at, changed, flushed}
+use Rattle.dev_model.specs.Disk.{Disk, IsDisk, as_read, block_at, changed, flushed}
 use Rattle.dev_model.specs.HeldLaws.{hold_by_flush, hold_here}
-use Rattle.dev_model.specs.PlaceLaws.{reads_flushed}
+use Rattle.dev_model.specs.PlaceLaws.{IsSettled, reads_flushed, settled_by_flush, settled_over_flush}
 use Rattle.geometry.specs.Mirrors.{NoBlock}
 use Rattle.journal_safety.specs.Flushes.{AreFlushed, Flushes, flags_by, with_flags}
 use Rattle.journal_safety.specs.Parts.{AsksAt}
@@ -38,19 +38,26 @@ flush_asks dev done old new are flush = record {
   asks = λ opens. hold_by_flush opens NoBlock old old (omega arith) (hold_here opens NoBlock old) (result_of done) dev new (as_call dev done old new flush);
 }
 
--- ---- devices at rest
+-- ---- devices that are settled
 
-there_changed : (disks : List Disk) (dev other : ℕ) (disk : Disk) → slice_get (changed dev flushed disks) other ≡ Some disk → other ≢ dev → slice_get disks other ≡ Some disk
-there_changed [] dev other disk there differs = there
-there_changed (one ∷ disks) zero zero disk there differs = absurd (differs refl)
-there_changed (one ∷ disks) zero (suc other) disk there differs = there
-there_changed (one ∷ disks) (suc dev) zero disk there differs = there
-there_changed (one ∷ disks) (suc dev) (suc other) disk there differs = there_changed disks dev other disk there (λ same. differs (ap suc same))
+past_devices : (disks : List Disk) (dev : ℕ) → length disks ≤ dev → IsSettled disks dev
+past_devices [] dev past [] may block = refl
+past_devices [] dev past (left ∷ image) may block = absurd may
+past_devices (disk ∷ disks) dev past [] may block = absurd may
+past_devices (disk ∷ disks) zero past (left ∷ image) may block = absurd (omega (arith, past))
+past_devices (disk ∷ disks) (suc dev) past (left ∷ image) may block = past_devices disks dev (omega (arith, past)) image may.1 block
 
-rests_flushed : (disks : List Disk) (dev : ℕ) (disk : Disk) → slice_get (changed dev flushed disks) dev ≡ Some disk → IsAtRest disk
-rests_flushed [] dev disk there = absurd (none-some disk there)
-rests_flushed (one ∷ disks) zero disk there = subst IsAtRest (same_Some (flushed one) disk there) (record { writes = refl; extension = refl })
-rests_flushed (one ∷ disks) (suc dev) disk there = rests_flushed disks dev disk there
+length-changed : (disks : List Disk) (dev : ℕ) → length (changed dev flushed disks) ≡ length disks
+length-changed [] dev = refl
+length-changed (disk ∷ disks) zero = refl
+length-changed (disk ∷ disks) (suc dev) = ap suc (length-changed disks dev)
+
+-- A flush settles its device.
+settled_here : (disks : List Disk) (dev : ℕ) → IsSettled (changed dev flushed disks) dev
+settled_here disks dev = ⊎_elim
+    (λ (there : dev < length disks). settled_by_flush disks dev there)
+    (λ (past : length disks ≤ dev). past_devices (changed dev flushed disks) dev (omega (arith, past, length-changed disks dev)))
+    (cases_lt dev (length disks))
 
 flag_elsewhere : (flags : List Bool) (dev other : ℕ) → other ≢ dev → slice_get (set flags dev false) other ≡ slice_get flags other
 flag_elsewhere [] dev other differs = refl
@@ -59,15 +66,14 @@ flag_elsewhere (flag ∷ flags) zero (suc other) differs = refl
 flag_elsewhere (flag ∷ flags) (suc dev) zero differs = refl
 flag_elsewhere (flag ∷ flags) (suc dev) (suc other) differs = flag_elsewhere flags dev other (λ same. differs (ap suc same))
 
--- After a flush the flags say which devices are at rest.
-pub flushed_rest : (mirrors : ℕ) (flags : List Bool) (dev : ℕ) (done : Bool) (old new : DevicesState) → AreFlushed mirrors flags (now old) → Flushes dev done old new → AreFlushed mirrors (flags_by dev done flags) (now new)
-flushed_rest mirrors flags dev true old new rest flush other disk mirror flag there =
-    let there_now : slice_get (changed dev flushed (now old)) other ≡ Some disk = ap (λ (ds : List Disk). slice_get ds other) (sym (flush.settles refl)) ∙ there in
-    ⊎_elim
-    (λ (same : other ≡ dev). rests_flushed (now old) dev disk (subst (λ n. slice_get (changed dev flushed (now old)) n ≡ Some disk) same there_now))
-    (λ (differs : ¬ (other ≡ dev)). rest other disk mirror (sym (flag_elsewhere flags dev other differs) ∙ flag) (there_changed (now old) dev other disk there_now differs))
-    (cases_eq other dev)
-flushed_rest mirrors flags dev false old new rest flush other disk mirror flag there = rest other disk mirror flag (ap (λ (ds : List Disk). slice_get ds other) (sym (flush.fails refl)) ∙ there)
+-- After a flush the flags say which devices are settled.
+pub flushed_settled : (mirrors : ℕ) (flags : List Bool) (dev : ℕ) (done : Bool) (old new : DevicesState) → AreFlushed mirrors flags (now old) → All IsDisk (now old) → Flushes dev done old new → AreFlushed mirrors (flags_by dev done flags) (now new)
+flushed_settled mirrors flags dev true old new settled are flush other mirror flag =
+    subst (λ (disks : List Disk). IsSettled disks other) (sym (flush.settles refl)) (⊎_elim
+    (λ (same : other ≡ dev). subst (IsSettled (changed dev flushed (now old))) (sym same) (settled_here (now old) dev))
+    (λ (differs : ¬ (other ≡ dev)). settled_over_flush (now old) dev other are (settled other mirror (sym (flag_elsewhere flags dev other differs) ∙ flag)))
+    (cases_eq other dev))
+flushed_settled mirrors flags dev false old new settled are flush other mirror flag = subst (λ (disks : List Disk). IsSettled disks other) (sym (flush.fails refl)) (settled other mirror flag)
 
 set_flag : (count : ℕ) (rest : List Bool) (dev : ℕ) → dev < count → slice_get (replicate count true ++ rest) dev ≡ Some true
 set_flag zero rest dev lower = absurd (omega (arith, lower))
@@ -76,4 +82,4 @@ set_flag (suc count) rest (suc dev) lower = set_flag count rest dev (omega (arit
 
 -- Where all flags of metadata devices are set nothing is said.
 pub flags_set : (mirrors : ℕ) (flags : List Bool) (disks : List Disk) → AreFlushed mirrors (with_flags mirrors flags) disks
-flags_set mirrors flags disks dev disk mirror flag there = absurd (false≢true (same_Some false true (sym flag ∙ set_flag mirrors (drop mirrors flags) dev mirror)))
+flags_set mirrors flags disks dev mirror flag = absurd (false≢true (same_Some false true (sym flag ∙ set_flag mirrors (drop mirrors flags) dev mirror)))

@@ -66,6 +66,13 @@ module _ (image : Image) (f : Found) (finds : found image ≡ Ok f) where
       let size : get_or (sizes image) dev 0 ≡ length (blocks_of image dev) = get_or-map (λ (blocks : List (List ℕ)). length blocks) image dev [] 0 within in
       omega (arith, has.room dev there, has.longer dev there, size, has.least)
 
+  -- Each metadata device has each block of its journal area.
+  pub journal_within : (dev place : ℕ) → dev < f.layout.metadata_replicas → place < f.layout.journal → 16 + place < length (blocks_of image dev)
+  journal_within dev place mirror within =
+      let mirrors = places_of.mirrors in
+      let long = long_devices dev (omega (arith, mirror, mirrors, count_is)) in
+      omega (arith, long, within)
+
   -- Two images have the same sizes that are the same behind the journal areas, where one has the sizes of this one.
   pub sizes_stay : (one other : Image) → sizes image ≡ sizes one → length other ≡ length one → ((dev block : ℕ) → 16 + f.layout.journal ≤ block → block_at one dev block ≡ block_at other dev block) → sizes one ≡ sizes other
   sizes_stay one other as_long as_many same = sym (same_sizes other one (16 + f.layout.journal) as_many long (λ dev block far. sym (same dev block far)))

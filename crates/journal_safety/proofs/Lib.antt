@@ -1,6 +1,7 @@
 pub mod Images
 pub mod OtherBlock
 pub mod BaseStays
+pub mod Settled
 pub mod Meanings
 pub mod Calls
 pub mod Safe

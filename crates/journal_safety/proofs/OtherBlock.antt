@@ -28,15 +28,15 @@ sizes_with_block dev block bytes [] = refl
 sizes_with_block zero block bytes (blocks ∷ image) = ap (λ n. n ∷ sizes image) (sym (length-set blocks block bytes))
 sizes_with_block (suc dev) block bytes (blocks ∷ image) = ap (λ (ns : List ℕ). length blocks ∷ ns) (sizes_with_block dev block bytes image)
 
--- It stands there, where another image of the same sizes has a block there.
-pub with_block_at : (one other : Image) (dev block : ℕ) (bytes : List ℕ) → sizes one ≡ sizes other → block_at other dev block ≡ Some bytes → block_at (with_block dev block bytes one) dev block ≡ Some bytes
-with_block_at one [] dev block bytes same there = absurd (none-some bytes there)
-with_block_at [] (b ∷ other) dev block bytes same there = absurd cc
-with_block_at (a ∷ one) (b ∷ other) zero block bytes same there =
-    let within = slice_get_within b block bytes there in
+-- It stands there, where another image of the same sizes has some block there.
+pub with_block_at : (one other : Image) (dev block : ℕ) (bytes held : List ℕ) → sizes one ≡ sizes other → block_at other dev block ≡ Some held → block_at (with_block dev block bytes one) dev block ≡ Some bytes
+with_block_at one [] dev block bytes held same there = absurd (none-some held there)
+with_block_at [] (b ∷ other) dev block bytes held same there = absurd cc
+with_block_at (a ∷ one) (b ∷ other) zero block bytes held same there =
+    let within = slice_get_within b block held there in
     let long : length a ≡ length b = ap head_of same in
     set_here a block bytes (omega (arith, within, long))
-with_block_at (a ∷ one) (b ∷ other) (suc dev) block bytes same there = with_block_at one other dev block bytes (ap tail_of same) there
+with_block_at (a ∷ one) (b ∷ other) (suc dev) block bytes held same there = with_block_at one other dev block bytes held (ap tail_of same) there
 
 pub with_block_elsewhere : (dev block : ℕ) (bytes : List ℕ) (image : Image) (d b : ℕ) → ¬ ((d ≡ dev) × (b ≡ block)) → block_at image d b ≡ block_at (with_block dev block bytes image) d b
 with_block_elsewhere dev block bytes [] d b away = refl

@@ -2,17 +2,16 @@
 use Rattle.std.proofs.Common.{◌≡◌, ◌⊎◌, inl, inr, ⊎_elim, ℕ, zero, suc, ◌+◌, ◌%◌, ◌<◌, ◌≤◌, Bool, List, [], ◌∷◌, ◌++◌, length, get_or, slice_get, Option, Some, None, Ok, refl, sym, ap, subst, ◌∙◌, arith, append_assoc}
 use Rattle.std.proofs.lemmas.Bool.{cases_lt}
 use Rattle.std.proofs.lemmas.List.{length_push}
-use Rattle.std.proofs.lemmas.Option.{none-some, same_Some, slice_get_past}
+use Rattle.std.proofs.lemmas.Option.{none-some, same_Some}
 use Rattle.std.specs.List.{flat_map}
 use Rattle.std.specs.Prelude.{All}
 use Rattle.dev_model.specs.CrashLaws.{as_read_may_be_left}
 use Rattle.dev_model.specs.Crashes.{SameBut}
 use Rattle.dev_model.specs.Devices.{DevicesState, now}
-use Rattle.dev_model.specs.Disk.{Asked, Disk, Image, IsAtRest, IsCrashImage, IsCrashOf, IsDisk, as_read, block_at}
+use Rattle.dev_model.specs.Disk.{Disk, Image, IsCrashImage, IsDisk, as_read, block_at}
 use Rattle.dev_model.specs.FrameLaws.{stay_now}
 use Rattle.dev_model.specs.Frames.{DisksStay}
-use Rattle.dev_model.specs.HeldBlocks.{HasHeld, HaveHeld}
-use Rattle.geometry.specs.Mirrors.{AreAtRest, NoBlock}
+use Rattle.geometry.specs.Mirrors.{NoBlock}
 use Rattle.image_view.specs.Bases.{AgreeAt, AgreeOnBase, AgreeOnNode}
 use Rattle.image_view.specs.CrashEntries.{OnlyHeldEntriesOpen}
 use Rattle.image_view.specs.Found.{Found, IsInOrder, found}
@@ -26,54 +25,17 @@ use Rattle.key_meaning.specs.Checks.{AreNodesPlaced}
 use Rattle.replay.specs.Mending.{IsInOrderOn, IsUntorn}
 use Rattle.vol_types.specs.declared.layout.Layout.{Layout}
 use Rattle.vol_types.specs.declared.pointers.NodePtr.{NodePtr}
-use Rattle.journal_safety.specs.Flushes.{Flushes}
+use Rattle.journal_safety.specs.Flushes.{AreSettled, Flushes}
 use Rattle.journal_safety.specs.Parts.{AsksAt, IsRingOf, IsPartWritten, standing_by}
-use Rattle.journal_safety.specs.Safety.{AreBases, IsJournalSafe, IsSafe}
+use Rattle.journal_safety.specs.Safety.{AreBases, IsJournalSafe, IsSafe, MeansOneOf}
 use Rattle.journal_safety.specs.Standing.{AgreesBut, AreSteady, HoldKnown, StandsOn}
-use Rattle.journal_safety.specs.Writings.{HoldParts, IsAsked, IsWriting, Writing, after}
+use Rattle.journal_safety.specs.Writings.{HoldParts, IsAsked, IsWriting, Writing, after, meant_by}
 use Rattle.journal_safety.proofs.Calls.{IsHarmless, sizes_kept, untorn_before}
 use Rattle.journal_safety.proofs.Flushing.{NoPlace, flush_asks}
-use Rattle.journal_safety.proofs.Images.{places_of, sizes}
+use Rattle.journal_safety.proofs.Images.{journal_within, places_of, sizes}
+use Rattle.journal_safety.proofs.Settled.{settled_held, settled_quiet}
 use Rattle.journal_safety.proofs.Meanings.{ImageLaws, meaning}
 use Rattle.journal_safety.proofs.Safe.{journal_safe_on, one_of}
-
--- ---- disks at rest
-
-not_pending : (disk : Disk) → IsAtRest disk → (asked : Asked) → (k : ℕ) → k < length disk.asked → ⊥
-not_pending disk rest asked k low = let none = subst (λ (ws : List Asked). k < length ws) rest.writes low in omega (arith, none)
-
-left_at_rest : (disk : Disk) (left : List (List ℕ)) → IsAtRest disk → IsCrashOf disk left → (block : ℕ) → slice_get left block ≡ slice_get disk.blocks block
-left_at_rest disk left rest may block = ⊎_elim
-    (λ (within : block < length left). may.settled block within (λ pending. not_pending disk rest (record { block = block; bytes = pending.0 }) pending.1.0 pending.1.1))
-    (λ (past : length left ≤ block). let shortest = may.no_shorter in let extension = rest.extension in slice_get_past left block past ∙ sym (slice_get_past disk.blocks block (omega (arith, past, shortest, extension))))
-    (cases_lt block (length left))
-
--- A device at rest is left by a crash as it is read.
-rest_left : (disks : List Disk) (image : Image) → IsCrashImage disks image → (dev : ℕ) → ((disk : Disk) → slice_get disks dev ≡ Some disk → IsAtRest disk) → (block : ℕ) → block_at image dev block ≡ block_at (as_read disks) dev block
-rest_left [] [] may dev rest block = refl
-rest_left [] (left ∷ image) may dev rest block = absurd may
-rest_left (disk ∷ disks) [] may dev rest block = absurd may
-rest_left (disk ∷ disks) (left ∷ image) may zero rest block = left_at_rest disk left (rest disk refl) may.0 block
-rest_left (disk ∷ disks) (left ∷ image) may (suc dev) rest block = rest_left disks image may.1 dev rest block
-
-held_at_rest : (disk : Disk) (block : ℕ) (bytes : List ℕ) → IsDisk disk → IsAtRest disk → HasHeld disk block bytes → slice_get disk.blocks block ≡ Some bytes
-held_at_rest disk block bytes is rest (inl settled) = is.at_rest block (λ pending. not_pending disk rest (record { block = block; bytes = pending.0 }) pending.1.0 pending.1.1) ∙ settled
-held_at_rest disk block bytes is rest (inr asked) = absurd (not_pending disk rest (record { block = block; bytes = bytes }) asked.0 asked.1)
-
-disk_read : (disks : List Disk) (dev : ℕ) (disk : Disk) (block : ℕ) → slice_get disks dev ≡ Some disk → block_at (as_read disks) dev block ≡ slice_get disk.blocks block
-disk_read [] dev disk block there = absurd (none-some disk there)
-disk_read (one ∷ disks) zero disk block there = ap (λ (d : Disk). slice_get d.blocks block) (same_Some one disk there)
-disk_read (one ∷ disks) (suc dev) disk block there = disk_read disks dev disk block there
-
-is_disk : (disks : List Disk) (dev : ℕ) (disk : Disk) → All IsDisk disks → slice_get disks dev ≡ Some disk → IsDisk disk
-is_disk [] dev disk are there = absurd (none-some disk there)
-is_disk (one ∷ disks) zero disk are there = subst IsDisk (same_Some one disk there) (are 0 one (omega arith))
-is_disk (one ∷ disks) (suc dev) disk are there = is_disk disks dev disk (λ k d lower. are (suc k) d (omega (arith, lower))) there
-
--- What a device at rest has held is what is read.
-rest_held : (mirrors : ℕ) (disks : List Disk) (dev block : ℕ) (bytes : List ℕ) → All IsDisk disks → AreAtRest mirrors disks → dev < mirrors → HaveHeld disks dev block bytes → block_at (as_read disks) dev block ≡ Some bytes
-rest_held mirrors disks dev block bytes are rest within held =
-    disk_read disks dev held.0 block held.1 ∙ held_at_rest held.0 block bytes (is_disk disks dev held.0 are held.1) (rest dev held.0 within held.1) held.2
 
 -- ---- images that agree everywhere that counts
 
@@ -106,7 +68,7 @@ begun laws f state on numbered are = record { stands = stands; bases_are = bases
         }
 
     known : HoldKnown f.layout (as_read (now state)) None (now state)
-    known dev place bytes mirror within is_open held = inl (rest_held f.layout.metadata_replicas (now state) dev (16 + place) bytes are on.rest mirror held)
+    known dev place bytes mirror within is_open held = inl (settled_held (now state) dev (16 + place) bytes are (settled_quiet (now state) on.on.quiet dev) (journal_within (as_read (now state)) f on.on.finds dev place mirror within) held)
 
     stands : StandsOn f (as_read (now state)) None 0 0 state.moment state
     stands = record {
@@ -251,7 +213,7 @@ module _ (layout : Layout) (w : Writing) (n : ℕ) (ring : RingState) (r : IsRin
   from_ring count image stand dev p mirror low =
       ap (block_at image dev) (sym (placed_so p)) ∙ stand dev p (let m = r.mirrors in omega (arith, mirror, m)) low ∙ ap (λ (bs : List (List ℕ)). Some (get_or bs p [])) r.blocks
 
-module _ (laws : ImageLaws) (f : Found) (image : Image) (w : Writing) (n : ℕ) (bases : List Found) (durable : List ℕ) (first : ℕ) (old new : DevicesState) (safe : IsJournalSafe f image (Some w) n n bases durable first old) (low : n < length w.blocks)
+module _ (laws : ImageLaws) (f : Found) (image : Image) (w : Writing) (asked n : ℕ) (bases : List Found) (durable : List ℕ) (first : ℕ) (old new : DevicesState) (safe : IsJournalSafe f image (Some w) asked n bases durable first old) (again : asked ≤ n + 1) (low : n < length w.blocks)
     (ring : RingState) (r : IsRingOf f.layout w n ring) (failed : Option ℕ) (writes : IsPartWritten ring failed old new) where
   abbrev is : IsWriting f image w
   is = safe.stands.is
@@ -270,11 +232,11 @@ module _ (laws : ImageLaws) (f : Found) (image : Image) (w : Writing) (n : ℕ) 
     place = hit.1 ∙ place_is f.layout w n ring r;
   }
 
-  harmless : IsHarmless f image (Some w) n (n + 1) (IsPartPlace ring) (IsPartAsked ring)
+  harmless : IsHarmless f image (Some w) asked (n + 1) (IsPartPlace ring) (IsPartAsked ring)
   harmless = record {
     aside = λ other as_long same. laws.base image other f w.passed w.next (n + 1) safe.stands.finds safe.stands.in_order safe.stands.placed is.next (let count = is.sealed.count in omega (arith, count, low)) as_long
         (λ dev block away. same dev block (λ hit. away (hits dev block hit)));
-    more = λ dev block before. let lower = before.within in record { mirror = before.mirror; part = before.part; within = omega (arith, lower); place = before.place };
+    more = λ dev block before. let lower = before.within in record { mirror = before.mirror; part = before.part; within = omega (arith, lower, again); place = before.place };
     within = λ dev place mirror within hit. hits dev (16 + place) hit;
     own = λ dev place bytes mirror within is_open asks. record {
       part = n;
@@ -303,8 +265,8 @@ module _ (laws : ImageLaws) (f : Found) (image : Image) (w : Writing) (n : ℕ) 
   stand_by (Some dev) held = others_stay
 
   pub written_on : All IsDisk (now new) → AreSteady new → IsJournalSafe f image (Some w) (n + 1) (standing_by failed n) bases durable first new
-  written_on are steady = journal_safe_on laws f image (Some w) n n bases durable first old safe new (IsPartPlace ring) (IsPartAsked ring) writes.at (n + 1) harmless
-      (sizes_kept f image (Some w) n n first old safe.stands new (IsPartPlace ring) (IsPartAsked ring) writes.at (n + 1) harmless steady (λ dev block hit. let at = hit.1 in let same = place_is f.layout w n ring r in omega (arith, at, same, wide)))
+  written_on are steady = journal_safe_on laws f image (Some w) asked n bases durable first old safe new (IsPartPlace ring) (IsPartAsked ring) writes.at (n + 1) harmless
+      (sizes_kept f image (Some w) asked n first old safe.stands new (IsPartPlace ring) (IsPartAsked ring) writes.at (n + 1) harmless steady (λ dev block hit. let at = hit.1 in let same = place_is f.layout w n ring r in omega (arith, at, same, wide)))
       (standing_by failed n) are (stand_by failed writes.held)
 
 -- ---- the entry is durable
@@ -316,22 +278,25 @@ last_or_before [] y (suc k) m there = absurd (none-some m there)
 last_or_before (x ∷ xs) y zero m there = inl there
 last_or_before (x ∷ xs) y (suc k) m there = last_or_before xs y k m there
 
-module _ (laws : ImageLaws) (f : Found) (image : Image) (w : Writing) (n : ℕ) (bases : List Found) (durable : List ℕ) (first : ℕ) (state : DevicesState) (safe : IsJournalSafe f image (Some w) n n bases durable first state) (all : n ≡ length w.blocks)
-    (rest : AreAtRest f.layout.metadata_replicas (now state)) where
+module _ (laws : ImageLaws) (f : Found) (image : Image) (w : Writing) (asked n : ℕ) (bases : List Found) (durable : List ℕ) (first : ℕ) (state : DevicesState) (safe : IsJournalSafe f image (Some w) asked n bases durable first state) (all : n ≡ length w.blocks)
+    (settled : AreSettled f.layout.metadata_replicas (now state)) where
   abbrev it : IsWriting f image w
   it = safe.stands.is
 
   abbrev reads : Image
   reads = as_read (now state)
 
-  agrees : AgreesBut f (IsPlaceOf f.layout w.next n) image reads
+  agrees : AgreesBut f (IsPlaceOf f.layout w.next asked) image reads
   agrees = safe.stands.crashes reads (as_read_may_be_left (now state) safe.stands.disks)
 
   is_written : IsWritten f.layout w.next w.blocks image reads
   is_written = record {
     sealed = it.sealed;
     stands = subst (λ c. HoldBlocks f.layout.metadata_replicas f.layout.journal w.next.number w.blocks c reads) all safe.stands.stand;
-    elsewhere = λ dev place mirror within away. agrees.journal dev place mirror within (subst (λ c. ¬ IsPlaceOf f.layout w.next c dev (16 + place)) (sym all) away);
+    elsewhere = λ dev place mirror within away. agrees.journal dev place mirror within (λ asked_for.
+        let lower = asked_for.within in
+        let few = safe.stands.few in
+        away (record { mirror = asked_for.mirror; part = asked_for.part; within = omega (arith, lower, few); place = asked_for.place }));
   }
 
   finds_it : found reads ≡ Ok (after w f)
@@ -347,7 +312,7 @@ module _ (laws : ImageLaws) (f : Found) (image : Image) (w : Writing) (n : ℕ) 
   placed_it = subst (λ ns. AreNodesPlaced (flat_map (λ (pointer : NodePtr). pointer.places) (nodes_of ns)) f.layout) (sym it.nodes) safe.stands.placed
 
   left_as_read : (other : Image) → IsCrashImage (now state) other → (dev block : ℕ) → dev < f.layout.metadata_replicas → AgreeAt reads other dev block
-  left_as_read other may dev block mirror = sym (rest_left (now state) other may dev (λ disk there. rest dev disk mirror there) block)
+  left_as_read other may dev block mirror = sym (settled dev mirror other may block)
 
   agrees_after : (other : Image) → IsCrashImage (now state) other → AgreesBut (after w f) (IsAsked f.layout None 0) reads other
   agrees_after other may =
@@ -367,7 +332,7 @@ module _ (laws : ImageLaws) (f : Found) (image : Image) (w : Writing) (n : ℕ) 
       }
 
   known : HoldKnown f.layout reads None (now state)
-  known dev place bytes mirror within is_open held = inl (rest_held f.layout.metadata_replicas (now state) dev (16 + place) bytes safe.stands.disks rest mirror held)
+  known dev place bytes mirror within is_open held = inl (settled_held (now state) dev (16 + place) bytes safe.stands.disks (settled dev mirror) (journal_within reads (after w f) finds_it dev place mirror within) held)
 
   bases_after : AreBases (after w f) None bases (durable ++ state.moment ∷ [])
   bases_after = record {
@@ -415,3 +380,11 @@ module _ (laws : ImageLaws) (f : Found) (image : Image) (w : Writing) (n : ℕ) 
           (cases_lt moment state.moment);
     };
   }
+
+-- ---- what a crash leaves now
+
+pub means_now : ImageLaws → (f : Found) (image : Image) (writing : Option Writing) (asked written : ℕ) (bases : List Found) (durable : List ℕ) (first : ℕ) (state : DevicesState) → IsJournalSafe f image writing asked written bases durable first state
+    → (other : Image) → IsCrashImage (now state) other → IsUntorn f.layout first state.moment state other → MeansOneOf (meant_by f writing) [] state.moment other
+means_now laws f image writing asked written bases durable first state safe other may untorn =
+    one_of f writing (meant_by f writing) [] (record { before = []; are = refl; count = refl }) state.moment other
+    (meaning laws f image writing safe.stands.finds safe.stands.in_order safe.stands.numbered safe.stands.is asked other (now state) (safe.stands.crashes other may) (safe.stands.held untorn.reads) untorn.left)

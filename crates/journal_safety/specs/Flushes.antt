@@ -1,9 +1,10 @@
--- A flush of a device, and which metadata devices are at rest by the flags of those that were written to and not flushed since.
+-- A flush of a device, and which metadata devices are settled by the flags of those that were written to and not flushed since.
 use Rattle.std.specs.Prelude.{◌≡◌, ℕ, ◌+◌, ◌<◌, ◌≤◌, Bool, true, false, List, ◌++◌, drop, replicate, Some, Result, Ok, Err, slice_get, slice_set}
-use Rattle.std.proofs.lemmas.Bool.{false≢true}
 use Rattle.std.proofs.Common.{sym}
+use Rattle.std.proofs.lemmas.Bool.{false≢true}
 use Rattle.dev_model.specs.Devices.{DevicesState, IsFlush, now}
-use Rattle.dev_model.specs.Disk.{Disk, IsAtRest, changed, flushed}
+use Rattle.dev_model.specs.Disk.{Disk, changed, flushed}
+use Rattle.dev_model.specs.PlaceLaws.{IsSettled}
 
 -- A device was flushed, or it failed.
 pub record Flushes (dev : ℕ) (done : Bool) (old new : DevicesState) : Type 0 where
@@ -23,14 +24,32 @@ succeeded (Err fault) = false
 pub flushes : {T E : Type 0} (tells : Type 0) → tells → (dev : ℕ) (result : Result T E) (old new : DevicesState) → IsFlush tells dev result old new → Flushes dev (succeeded result) old new
 flushes tells told dev (Ok value) old new call =
     let changes = call.disks told in
-    record { later = changes.later; past = changes.past; inside = changes.inside; settles = λ done. changes.after; fails = λ none. absurd (false≢true (sym none)); takes_time = λ done. changes.takes_time }
+    record {
+      later = changes.later;
+      past = changes.past;
+      inside = changes.inside;
+      settles = λ done. changes.after;
+      fails = λ none. absurd (false≢true (sym none));
+      takes_time = λ done. changes.takes_time;
+    }
 flushes tells told dev (Err fault) old new call =
     let changes = call.disks told in
-    record { later = changes.later; past = changes.past; inside = changes.inside; settles = λ none. absurd (false≢true none); fails = λ failed. changes.after; takes_time = λ none. absurd (false≢true none) }
+    record {
+      later = changes.later;
+      past = changes.past;
+      inside = changes.inside;
+      settles = λ none. absurd (false≢true none);
+      fails = λ failed. changes.after;
+      takes_time = λ none. absurd (false≢true none);
+    }
 
--- Each of the first so many devices whose flag is false is at rest.
+-- A crash leaves each of the first so many devices as it is read.
+abbrev pub AreSettled : ℕ → List Disk → Type 0
+AreSettled mirrors disks = (dev : ℕ) → dev < mirrors → IsSettled disks dev
+
+-- So it does each of them whose flag is false.
 abbrev pub AreFlushed : ℕ → List Bool → List Disk → Type 0
-AreFlushed mirrors flags disks = (dev : ℕ) (disk : Disk) → dev < mirrors → slice_get flags dev ≡ Some false → slice_get disks dev ≡ Some disk → IsAtRest disk
+AreFlushed mirrors flags disks = (dev : ℕ) → dev < mirrors → slice_get flags dev ≡ Some false → IsSettled disks dev
 
 -- flags, of which the first so many are set
 abbrev pub with_flags : ℕ → List Bool → List Bool

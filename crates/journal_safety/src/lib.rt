@@ -4,4 +4,4 @@
 
 mod laws;
 
-pub use laws::{entries_are_written_safely, flushed_devices_are_at_rest};
+pub use laws::{entries_are_written_safely, flushed_devices_are_settled};

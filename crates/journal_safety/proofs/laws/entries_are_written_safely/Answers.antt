@@ -1,6 +1,6 @@
 use Rattle.journal_safety.proofs.Beside.{beside_on}
 use Rattle.journal_safety.proofs.Meanings.{ImageLaws}
-use Rattle.journal_safety.proofs.Steps.{begun, flushed_on, read_on, sealed, settled_on, written_on}
+use Rattle.journal_safety.proofs.Steps.{begun, flushed_on, means_now, read_on, sealed, settled_on, written_on}
 use Rattle.journal_safety.proofs.laws.entries_are_written_safely.Goals as goal
 
 pub returns : goal.returns
@@ -19,9 +19,10 @@ returns c =
     record {
       begins = begun laws;
       seals = sealed;
-      writes = λ f image w written bases durable first old new ring failed safe low ring_is writes. written_on laws f image w written bases durable first old new safe low ring ring_is failed writes;
+      writes = λ f image w asked written bases durable first old new ring failed safe again low ring_is writes. written_on laws f image w asked written bases durable first old new safe again low ring ring_is failed writes;
       flushes = flushed_on laws;
       reads = read_on laws;
       elsewhere = beside_on laws;
       settles = settled_on laws;
+      means = means_now laws;
     }
