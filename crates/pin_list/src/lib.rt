@@ -20,7 +20,7 @@ mod tree;
 ///
 /// It is a balanced search tree by node, in which each subtree knows the least number in it, beside spare places for further
 /// nodes. So `get`, `pin` and `release` cost a logarithm of the number of pinned nodes, and `oldest` and `len` one look. A
-/// place, taken or spare, is 48 bytes of memory by themselves and 8 in a list.
+/// place, taken or spare, is an allocation of 48 bytes, beside 8 in a list.
 #[derive(Drop)]
 pub struct PinList {
     alloc: Global,
