@@ -1,6 +1,6 @@
 -- What the last look says of a key map that gives all looks, and what a block that shows gives.
-use Rattle.std.proofs.Common.{◌≡◌, ℕ, ◌/◌, ◌%◌, Bool, cond, false, true, Option, Some, None, List, [], ◌∷◌, ◌++◌, refl, sym, ap, ◌∙◌, subst}
-use Rattle.std.specs.Prelude.{◌≢◌, ◌==◌, All, is_some, option_and_then, option_map}
+use Rattle.std.proofs.Common.{◌≡◌, ℕ, ◌/◌, ◌%◌, Bool, cond, false, true, Option, Some, None, List, [], ◌∷◌, ◌++◌, inl, inr, refl, sym, ap, ◌∙◌, subst}
+use Rattle.std.specs.Prelude.{◌≢◌, ◌==◌, All, IfOk, OnErr, Result, Ok, Err, is_some, option_and_then, option_map}
 use Rattle.std.proofs.lemmas.Bool.{eq-eqb, eqb-true}
 use Rattle.std.proofs.lemmas.List.{append-nil}
 use Rattle.std.proofs.lemmas.List.Elements.{All-head}
@@ -18,7 +18,7 @@ use Rattle.key_view.specs.Seen.{IsSeen, GoesOn}
 use Rattle.extent_ops.specs.Content.{block_at}
 use Rattle.extent_ops.specs.Looking.{AreExtentsUpTo}
 use Rattle.file_plan.specs.BlockIo.{Holds, IsHeld, ReadsBlock, known_of, places_of, with_read}
-use Rattle.file_plan.specs.Seen.{IsSeenUpTo}
+use Rattle.file_plan.specs.Seen.{IsSeenUpTo, MayLook}
 use Rattle.file_plan.specs.declared.block_io.BlockIo.{BlockIo}
 use Rattle.file_plan.specs.declared.block_io.KnownBlock.{KnownBlock}
 use Rattle.file_plan.proofs.Io.{All-back, All-front}
@@ -98,3 +98,12 @@ reads_no_end keys id number size old new none same = reads_none old new (end_of 
 -- What is written afterwards reads nothing.
 pub reads_then : (shown : Option Block) (old middle new : BlockIo) → ReadsBlock shown old middle → new.read ≡ middle.read → ReadsBlock shown old new
 reads_then shown old middle new reads same = record { bytes = reads.bytes; is = same ∙ reads.is }
+
+-- A look that asks this was made, or none.
+pub may_look : {E : Type 0} (result : Result (List Key) E) (query asked : Query) (old new : List Look) → query ≡ asked → IfOk result (λ answer. new ≡ old ++ record { query = query; answer = answer } ∷ []) → OnErr result (new ≡ old) → MayLook asked old new
+may_look (Ok answer) query asked old new same is none = inr (answer, is ∙ ap (λ q. old ++ record { query = q; answer = answer } ∷ []) same)
+may_look (Err e) query asked old new same is none = inl none
+
+-- Nothing was looked at afterwards.
+pub looked_then : (query : Query) (old middle new : List Look) → new ≡ middle → MayLook query old middle → MayLook query old new
+looked_then query old middle new same look = subst (MayLook query old) (sym same) look

@@ -1,8 +1,9 @@
 ghost use Rattle.std.specs.Prelude.{◌≡◌, length, is_some, IfErr, IfOk, IfSome};
 ghost use Rattle.extent_ops.specs.Content.{AreLookedAt};
+ghost use Rattle.extent_ops.specs.Looking.{reach};
 ghost use Rattle.file_plan.specs.BlockIo.{Holds, OnlyReads, ReadsBlock};
 ghost use Rattle.file_plan.specs.Content.{AreExtentsInRange};
-ghost use Rattle.file_plan.specs.Seen.{IsSeenUpTo};
+ghost use Rattle.file_plan.specs.Seen.{IsSeenUpTo, MayLook};
 ghost use Rattle.key_meaning.specs.Blocks.{block_in};
 ghost use Rattle.key_meaning.specs.Forest.{Read, bytes_in};
 ghost use Rattle.key_view.specs.Holds.{IsCause};
@@ -39,6 +40,8 @@ pub fn shown_block<V: Contents>(
         → AreExtentsInRange keys
         → ReadsBlock (block_in keys id number block) (V.io view.old) (V.io view.new)) }
     ensures size { IfOk result (λ shown. IfSome shown (λ bytes. length bytes ≡ block_size)) }
+    ensures look { MayLook (reach number block block (V.most view.old)) (V.made view.old)
+        (V.made view.new) }
     ensures looks { GoesOn (V.made view.old) (V.made view.new) }
     ensures ids { V.told view.new ≡ V.told view.old }
     ensures longest { V.most view.new ≡ V.most view.old }
@@ -63,6 +66,8 @@ pub(crate) fn covering_keys<V: Contents>(
     ensures found { IfOk result (λ found. (keys : KeyMap) (tree : Snaps)
         → IsSeenUpTo keys (V.made view.new) tree (V.most view.new) → AreExtentsInRange keys
         → AreLookedAt keys number first last found) }
+    ensures look { MayLook (reach number first last (V.most view.old)) (V.made view.old)
+        (V.made view.new) }
     ensures looks { GoesOn (V.made view.old) (V.made view.new) }
     ensures ids { V.told view.new ≡ V.told view.old }
     ensures longest { V.most view.new ≡ V.most view.old }

@@ -1,9 +1,9 @@
 ghost use Rattle.std.specs.Prelude.{◌≡◌, ◌≤◌, ◌+◌, All, IfErr, IfNone, IfOk, IfSome, List, ℕ, []};
 ghost use Rattle.extent_ops.specs.Content.{AreFresh, AreOfContent, IsContent};
-ghost use Rattle.extent_ops.specs.Looking.{AreExtentsUpTo};
+ghost use Rattle.extent_ops.specs.Looking.{AreExtentsUpTo, reach};
 ghost use Rattle.extent_ops.specs.Placing.{MayBePlaced};
 ghost use Rattle.file_plan.specs.Content.{AreExtentsInRange, AreNear, HasFile, IsChanged, PutsFresh, TakesChange, extents_of};
-ghost use Rattle.file_plan.specs.Seen.{IsSeenUpTo};
+ghost use Rattle.file_plan.specs.Seen.{IsSeenUpTo, MayLook, MayLookFor, last_block};
 ghost use Rattle.file_plan.specs.declared.change.Change.TheVariants.{Cut, Put};
 ghost use Rattle.key_meaning.specs.Checks.{AreBlocksPlaced};
 ghost use Rattle.key_meaning.specs.Forest.{Read};
@@ -65,6 +65,8 @@ pub fn content<V: Contents>(
         → PutsFresh change.now number id → AreBlocksPlaced keys nodes layout
         → MayBePlaced keys nodes layout (extents_of change.now)
         → AreBlocksPlaced (with_updates updates keys) nodes layout) }
+    ensures look { MayLookFor change.now number size (V.most view.old) (V.made view.old)
+        (V.made view.new) }
     ensures looks { GoesOn (V.made view.old) (V.made view.new) }
     ensures ids { V.told view.new ≡ V.told view.old }
     ensures longest { V.most view.new ≡ V.most view.old }
@@ -106,6 +108,8 @@ fn put<V: Contents>(
         → PutsFresh (Put first extents.now) number id → AreBlocksPlaced keys nodes layout
         → MayBePlaced keys nodes layout (extents_of (Put first extents.now))
         → AreBlocksPlaced (with_updates updates keys) nodes layout) }
+    ensures look { MayLook (reach number first (last_block extents.now) (V.most view.old))
+        (V.made view.old) (V.made view.new) }
     ensures looks { GoesOn (V.made view.old) (V.made view.new) }
     ensures ids { V.told view.new ≡ V.told view.old }
     ensures longest { V.most view.new ≡ V.most view.old }
@@ -125,6 +129,7 @@ fn put<V: Contents>(
 // The last block of extents.
 fn last_block(keys: &[Key]) -> Option<u64>
     ensures none { IfNone result (keys.now ≡ []) }
+    ensures is { IfSome result (λ last. last ≡ last_block keys.now) }
     ensures within { IfSome result (λ last. (file id first : ℕ) → AreFresh file id first keys.now
         → All (λ key. key.pos.offset ≤ last + 1) keys.now) }
 {
@@ -163,6 +168,8 @@ fn cut<V: Contents>(
         → PutsFresh (Cut new) number id → AreBlocksPlaced keys nodes layout
         → MayBePlaced keys nodes layout (extents_of (Cut new))
         → AreBlocksPlaced (with_updates updates keys) nodes layout) }
+    ensures look { MayLookFor (Cut new) number size (V.most view.old) (V.made view.old)
+        (V.made view.new) }
     ensures looks { GoesOn (V.made view.old) (V.made view.new) }
     ensures ids { V.told view.new ≡ V.told view.old }
     ensures longest { V.most view.new ≡ V.most view.old }

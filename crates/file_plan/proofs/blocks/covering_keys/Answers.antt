@@ -1,7 +1,7 @@
-use Rattle.std.proofs.Common.{◌∙◌, subst, sym}
-use Rattle.extent_ops.specs.Looking.{AreExtentsUpTo}
+use Rattle.std.proofs.Common.{◌∙◌, ap, subst, sym}
+use Rattle.extent_ops.specs.Looking.{AreExtentsUpTo, reach}
 use Rattle.file_plan.proofs.Io.{carried}
-use Rattle.file_plan.proofs.Looked.{last_look}
+use Rattle.file_plan.proofs.Looked.{last_look, may_look}
 use Rattle.file_plan.proofs.blocks.covering_keys.Goals as goal
 
 pub returns-clause-found : goal.returns-clause-found
@@ -10,3 +10,6 @@ returns-clause-found g c = carried c.find.result _ _
     (subst (λ n. AreExtentsUpTo n keys) (c.find.ensures.longest ∙ sym c.longest-longest.ensures) seen.up_to)
     (last_look keys _ _ _ _ found made c.reach.ensures seen.is_seen.gives))
     c.find.ensures.ok
+
+pub returns-clause-look : goal.returns-clause-look
+returns-clause-look g c = may_look c.find.result c.reach.result _ _ _ (c.reach.ensures ∙ ap (reach c.args.number c.args.first c.args.last) c.longest-longest.ensures) c.find.ensures.ok c.find.ensures.err

@@ -47,3 +47,8 @@ returns-in-Cut-clause-placed g c = carried c.cut.result _ _
     (λ updates placed keys nodes layout seen range fresh before may. placed keys nodes layout seen range tt before
     (subst (λ (change : Change). MayBePlaced keys nodes layout (extents_of change)) c.in-Cut.is may))
     c.cut.ensures.placed
+
+pub returns-in-Cut-clause-changed : goal.returns-in-Cut-clause-changed
+returns-in-Cut-clause-changed g c = carried c.cut.result _ _
+    (λ updates changed keys read seen had. subst (λ (change : Change). IsChanged change keys (with_updates updates keys) read c.args.id c.args.number c.args.size) (sym c.in-Cut.is) (changed keys read seen had))
+    c.cut.ensures.changed
