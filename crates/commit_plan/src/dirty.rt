@@ -150,8 +150,8 @@ impl DirtyNodes {
         self.marks.reserve(paths.over.len())
     }
 
-    /// Says that the entry of this number changes these nodes: they are dirty, and those above them are marked. Each moves at
-    /// most 16 bytes for each dirty or marked node.
+    /// Says that the entry of this number changes these nodes: they are dirty, and those above them are marked. Each costs a
+    /// logarithm of the dirty nodes, and one of the marked ones for each node above it.
     pub fn dirty(&mut self, paths: &Paths, seq: u64)
         requires pin_room { length paths.now.changed.items ≤ self.old.pins.spare }
         requires mark_room { length paths.now.over.items ≤ self.old.marks.spare }

@@ -1,8 +1,8 @@
 -- What is kept of a volume stays so where a commit is made, and so what is kept of its actors.
 use Rattle.std.proofs.Common.{◌≡◌, ℕ, ◌+◌, ◌<◌, Bool, true, false, cond, not, Option, Some, None, List, [], ◌∷◌, ◌++◌, length, refl, sym, ap, ◌∙◌, subst, ⊎_elim}
-use Rattle.std.specs.Prelude.{◌≢◌, ◌==◌, ◌||◌, IfSome, is_some, slice_index_or, slice_set}
+use Rattle.std.specs.Prelude.{◌≢◌, ◌==◌, ◌||◌, IfSome, is_some, slice_index_or, slice_set, unwrap_or}
 use Rattle.std.proofs.lemmas.Bool.{cases_eq, true≢false}
-use Rattle.std.proofs.lemmas.List.{get_or-set_same, get_or-set_other, get_or_default, length-set}
+use Rattle.std.proofs.lemmas.List.{get_or-set_same, get_or-set_other, get_or_default, length-set, set-get_or}
 use Rattle.std.proofs.lemmas.Option.{same_Some}
 use Rattle.btree_map.specs.Trees.{Trees, keys_in}
 use Rattle.commit_plan.specs.Dirty.{AreMarked, changed_nodes, paths_of, with_pins}
@@ -15,9 +15,14 @@ use Rattle.vol_types.specs.declared.layout.Layout.{Layout}
 use Rattle.tree_nodes.specs.Levels.{Levels}
 use Rattle.core_memory.specs.Actors.{committed, holds, idle_actor}
 use Rattle.core_memory.specs.Commits.{AreIntended, IsCommitted}
-use Rattle.core_memory.specs.Rulings.{entry_of}
-use Rattle.core_memory.specs.States.{IsActor, IsState, State, actor_count, mine, other_holder}
-use Rattle.core_memory.specs.Volumes.{IsVolume, Volume, changes_in}
+use Rattle.core_memory.specs.Rulings.{IsRefused, entry_of}
+use Rattle.core_memory.specs.States.{IsActor, IsState, State, actor_count, mine, other_holder, with_mine}
+use Rattle.core_memory.specs.Events.{CommitGives, intended_by}
+use Rattle.core_memory.specs.Uncommitted.{IsWhy, answer_of_why, noted_why}
+use Rattle.core_memory.specs.declared.answer.Answer.{Answer}
+use Rattle.core_memory.specs.declared.commit.Why.{Why}
+use Rattle.core_memory.specs.declared.commit.Why.TheVariants.{NoMemory, Refused}
+use Rattle.core_memory.specs.Volumes.{AreInTurn, HoldsBack, IsVolume, Volume, changes_in}
 use Rattle.core_memory.specs.declared.actor.Actor.{Actor}
 use Rattle.core_memory.proofs.Kept.{free-no_looks, holder-given_back, no_looks-given}
 
@@ -38,11 +43,17 @@ LeadsOn updates counted old =
 abbrev pub KeepsTurn : List Update → Bool → Volume → Type 0
 KeepsTurn updates counted old = (oldest (joined (changes_of updates (keys_in old.trees)) counted old.queue)).after ≡ (oldest old.queue).after
 
+-- What the pins hold back stays so.
+abbrev pub HoldsOn : List Update → Bool → Volume → Type 0
+HoldsOn updates counted old =
+    HoldsBack old.writer old.queue old.pins → AreInTurn old.writer old.queue
+    → HoldsBack old.writer (joined (changes_of updates (keys_in old.trees)) counted old.queue) (with_pins (entry_of old updates) (changed_nodes old.trees.nodes updates) old.pins)
+
 -- A commit keeps a volume.
 pub committed-volume : (updates : List Update) (counted : Bool) (old new : Volume) → IsVolume old → IsCommitted updates counted old new
     → AreMarked old.trees.nodes (with_pins (entry_of old updates) (changed_nodes old.trees.nodes updates) old.pins) (with_pins (entry_of old updates) (paths_of old.trees.nodes updates) old.marks)
-    → KeepsTurn updates counted old → LeadsOn updates counted old → IsVolume new
-committed-volume updates counted old new is made marked turn leads =
+    → HoldsOn updates counted old → KeepsTurn updates counted old → LeadsOn updates counted old → IsVolume new
+committed-volume updates counted old new is made marked holds_on turn leads =
     subst IsVolume (sym made.rest) (record {
       placed = is.placed;
       mirrors = mirrors-joined (changes_of updates (keys_in old.trees)) counted old.queue ∙ is.mirrors;
@@ -50,6 +61,7 @@ committed-volume updates counted old new is made marked turn leads =
       ring = is.ring;
       in_turn = record { flying = is.in_turn.flying; waiting_ones = turn ∙ is.in_turn.waiting_ones };
       marked = subst (λ (nodes : List Levels). AreMarked nodes (with_pins (entry_of old updates) (changed_nodes old.trees.nodes updates) old.pins) (with_pins (entry_of old updates) (paths_of old.trees.nodes updates) old.marks)) (sym made.nodes) marked;
+      held_back = holds_on is.held_back is.in_turn;
       durable_keys = is.durable_keys;
       are_keys = is.are_keys;
       lead = subst (λ (keys : KeyMap). LeadTo (changes_in old.writer.flight ++ waiting (joined (changes_of updates (keys_in old.trees)) counted old.queue)) is.durable_keys keys) (sym made.keys) (leads is.durable_keys (keys_in old.trees) is.lead);
@@ -61,16 +73,16 @@ module _ (old : Volume) (is : IsVolume old) (updates : List Update) (counted : B
       → queue ≡ joined (changes_of updates (keys_in old.trees)) counted old.queue
       → pins ≡ with_pins (entry_of old updates) (changed_nodes old.trees.nodes updates) old.pins → marks ≡ with_pins (entry_of old updates) (paths_of old.trees.nodes updates) old.marks
       → AreMarked old.trees.nodes (with_pins (entry_of old updates) (changed_nodes old.trees.nodes updates) old.pins) (with_pins (entry_of old updates) (paths_of old.trees.nodes updates) old.marks)
-      → KeepsTurn updates counted old → LeadsOn updates counted old
+      → HoldsOn updates counted old → KeepsTurn updates counted old → LeadsOn updates counted old
       → IsVolume (record old { trees = trees; queue = queue; pins = pins; marks = marks; changes = old.changes + 1 })
-  made-kept keys nodes joins pinned marks_are marked turn leads =
+  made-kept keys nodes joins pinned marks_are marked holds_on turn leads =
       committed-volume updates counted old (record old { trees = trees; queue = queue; pins = pins; marks = marks; changes = old.changes + 1 }) is
       (record {
         keys = keys;
         nodes = nodes;
         rest = λ i. record old { trees = trees; queue = joins i; pins = pinned i; marks = marks_are i; changes = old.changes + 1 };
       })
-      marked turn leads
+      marked holds_on turn leads
 
 -- What an actor has under way that has no transaction goes with any keys.
 free-actor : (volume : Volume) (turn : Option ℕ) (number : ℕ) (actor : Actor) → holds actor ≡ false → IfSome actor.intended (AreIntended volume.layout.metadata_replicas) → IsActor volume turn number actor
@@ -146,3 +158,31 @@ module _ (volume : Volume) (actors : List Actor) (turn : Option ℕ) (is : IsSta
       (committed-state (record { volume = volume; actors = actors; turn = turn }) is actor there held new layout sound after
       (ap holds same ∙ (committed-free counted before).0) (ap (λ (a : Actor). a.intended) same ∙ (committed-free counted before).1) left
       (subst (λ (t : Option ℕ). IfSome t (λ holder. holder < actor_count)) (sym given) (holder-given_back actor turn is.holder)))
+
+  mine_was : mine (record { volume = volume; actors = actors; turn = turn }) actor ≡ mine_now
+  mine_was =
+      get_or_default actors actor idle_actor mine_now (subst (λ (n : ℕ). actor < n) (sym is.count) there) ∙ ap (λ (n : ℕ). slice_index_or actors n mine_now) (sym at) ∙ sym value
+
+  -- Updates that weren't committed are given back, and why is noted.
+  pub refused-gives : (counted : Bool) (why : Why) → IsWhy volume updates counted why → (new : Volume) → new ≡ volume → (back : List Update) → back ≡ updates
+      → (after : Actor) → after ≡ noted_why why (record mine_now { intended = Some back }) → (answer : Answer) → answer ≡ answer_of_why why
+      → CommitGives (record { volume = volume; actors = actors; turn = turn }) actor counted answer (record { volume = new; actors = slice_set actors index after; turn = turn })
+  refused-gives counted why cause new same back kept after noted answer answered =
+      subst (λ (a : Answer). CommitGives (record { volume = volume; actors = actors; turn = turn }) actor counted a (record { volume = new; actors = slice_set actors index after; turn = turn })) (sym answered)
+      (subst (λ (s : State). CommitGives (record { volume = volume; actors = actors; turn = turn }) actor counted (answer_of_why why) s) (sym new_is) (by why cause))
+    where
+      mine_back : record mine_now { intended = Some back } ≡ mine (record { volume = volume; actors = actors; turn = turn }) actor
+      mine_back =
+          ap (λ (us : List Update). record mine_now { intended = Some us }) kept ∙ ap (λ (o : Option (List Update)). record mine_now { intended = o }) (sym intends) ∙ sym mine_was
+
+      new_is : record { volume = new; actors = slice_set actors index after; turn = turn }
+          ≡ with_mine actor (noted_why why (mine (record { volume = volume; actors = actors; turn = turn }) actor)) (record { volume = volume; actors = actors; turn = turn })
+      new_is = λ i. record { volume = same i; actors = slice_set actors (at i) ((noted ∙ ap (noted_why why) mine_back) i); turn = turn }
+
+      intends_old : intended_by (record { volume = volume; actors = actors; turn = turn }) actor ≡ updates
+      intends_old = ap (λ (a : Actor). unwrap_or a.intended []) mine_was ∙ ap (λ (o : Option (List Update)). unwrap_or o []) intends
+
+      by : (w : Why) → IsWhy volume updates counted w
+          → CommitGives (record { volume = volume; actors = actors; turn = turn }) actor counted (answer_of_why w) (with_mine actor (noted_why w (mine (record { volume = volume; actors = actors; turn = turn }) actor)) (record { volume = volume; actors = actors; turn = turn }))
+      by (Refused refusal) why_is = (subst (λ (us : List Update). IsRefused volume us counted refusal) (sym intends_old) why_is, refl)
+      by NoMemory why_is = λ i. record { volume = volume; actors = set-get_or actors actor idle_actor i; turn = turn }

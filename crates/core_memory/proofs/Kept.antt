@@ -11,7 +11,7 @@ use Rattle.vol_types.specs.KeyMaps.{GivesLooks, IsLook, answer_of}
 use Rattle.vol_types.specs.declared.keys.Update.{Update}
 use Rattle.vol_types.specs.declared.queries.Query.{Query}
 use Rattle.vol_types.specs.declared.queries.Look.{Look}
-use Rattle.core_memory.specs.Actors.{begun, ended, holds, idle_actor, told_of, with_intent, with_look}
+use Rattle.core_memory.specs.Actors.{begun, dropped, ended, holds, idle_actor, told_of, with_intent, with_look}
 use Rattle.core_memory.specs.Commits.{AreIntended}
 use Rattle.core_memory.specs.Uncommitted.{noted_why}
 use Rattle.core_memory.specs.declared.commit.Why.{Why}
@@ -127,6 +127,14 @@ module _ (volume : Volume) (turn : Option ℕ) (number : ℕ) (actor : Actor) (i
 -- Who has no transaction needs no turn.
 pub ended-kept : (volume : Volume) (turn : Option ℕ) (number : ℕ) (actor : Actor) → IsActor volume turn number (ended actor)
 ended-kept volume turn number actor = record {
+  has_turn = λ held. absurd (true≢false (sym held));
+  looks = record { each = All-nil (IsLook (keys_in volume.trees)) };
+  intended = tt;
+}
+
+-- So it is where the transaction alone is over.
+pub dropped-kept : (volume : Volume) (turn : Option ℕ) (number : ℕ) (actor : Actor) → IsActor volume turn number (dropped actor)
+dropped-kept volume turn number actor = record {
   has_turn = λ held. absurd (true≢false (sym held));
   looks = record { each = All-nil (IsLook (keys_in volume.trees)) };
   intended = tt;

@@ -1,4 +1,5 @@
 mod Kept
+mod HeldBack
 mod Committed
 mod Pinning
 mod Spaces

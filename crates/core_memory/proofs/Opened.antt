@@ -22,6 +22,7 @@ use Rattle.vol_types.specs.declared.pointers.Place.{Place}
 use Rattle.entry_writer.specs.Writers.{Writer, opened_by as writer_opened}
 use Rattle.core_memory.specs.Opening.{keys_of_buckets, opened_by, updates_in}
 use Rattle.core_memory.specs.Volumes.{IsVolume, Volume}
+use Rattle.core_memory.proofs.HeldBack.{opened-held}
 use Rattle.core_memory.proofs.Spaces.{length-space_of}
 
 module _ (layout : Layout) (session : ℕ) (trees : Trees) (needed : List FoundEntry) (nodes : List Place) (newest : FoundEntry) where
@@ -37,6 +38,7 @@ module _ (layout : Layout) (session : ℕ) (trees : Trees) (needed : List FoundE
     ring = record { id = refl; mirrors = refl; journal = refl };
     in_turn = record { flying = tt; waiting_ones = refl };
     marked = marked;
+    held_back = opened-held (writer_opened layout needed newest) (empty_queue layout.metadata_replicas newest.entry.sequence (newest.end - 1) newest.entry.commits) (changed_nodes trees.nodes (updates_in needed)) refl refl refl;
     durable_keys = keys_in trees;
     are_keys = keys;
     lead = leads layout.metadata_replicas newest.entry.sequence (newest.end - 1) newest.entry.commits (keys_in trees);

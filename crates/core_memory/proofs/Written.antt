@@ -11,7 +11,9 @@ use Rattle.entry_writer.specs.declared.stage.Stage.TheVariants.{Seal, Settle, Wr
 use Rattle.entry_writer.specs.declared.writer.Flight.{Flight}
 use Rattle.vol_types.specs.KeyMaps.{KeyMap, with_updates}
 use Rattle.vol_types.specs.KeyMapLaws.{IsKeyMap-with_updates}
+use Rattle.core_memory.specs.Sealing.{oldest_needed}
 use Rattle.core_memory.specs.Volumes.{IsVolume, Volume, changes_in, last_sealed}
+use Rattle.core_memory.proofs.HeldBack.{flown-held, settled-held}
 
 -- A step of an entry in flight is no sealing of one.
 flushing_is_not_sealing : (dev : Option ℕ) (stage : Stage) → ¬ (stage ≡ Seal) → ¬ (flush_before dev stage ≡ Seal)
@@ -42,9 +44,9 @@ abbrev pub TakenLeads : Queue → Type 0
 TakenLeads queue = (durable keys : KeyMap) → LeadTo (waiting queue) durable keys → LeadTo ((oldest queue).changes ∷ waiting (without_oldest queue)) durable keys
 
 module _ (old : Volume) (is : IsVolume old) (none : old.writer.flight ≡ None) (mirrors : (without_oldest old.queue).mirrors ≡ old.queue.mirrors) (sequence : (oldest (without_oldest old.queue)).after ≡ (oldest old.queue).after + 1)
-    (leads : TakenLeads old.queue) (blocks : List (List ℕ)) (needed : ℕ) where
+    (leads : TakenLeads old.queue) (blocks : List (List ℕ)) where
   -- The oldest entry of the queue is put in flight.
-  pub flown-kept : IsVolume (record old { queue = without_oldest old.queue; writer = with_entry blocks (oldest old.queue) needed old.writer })
+  pub flown-kept : IsVolume (record old { queue = without_oldest old.queue; writer = with_entry blocks (oldest old.queue) (oldest_needed old) old.writer })
   flown-kept =
       let follows : (oldest old.queue).after ≡ old.writer.durable.sequence = is.in_turn.waiting_ones ∙ ap (λ (f : Option Flight). last_sealed f old.writer.durable.sequence) none in
       record {
@@ -54,6 +56,7 @@ module _ (old : Volume) (is : IsVolume old) (none : old.writer.flight ≡ None) 
         ring = record { id = is.ring.id; mirrors = is.ring.mirrors; journal = is.ring.journal };
         in_turn = record { flying = follows; waiting_ones = sequence };
         marked = is.marked;
+        held_back = flown-held old.writer old.queue old.pins is.held_back follows blocks;
         durable_keys = is.durable_keys;
         are_keys = is.are_keys;
         lead = leads is.durable_keys (keys_in old.trees) (subst (λ (f : Option Flight). LeadTo (changes_in f ++ waiting old.queue) is.durable_keys (keys_in old.trees)) none is.lead);
@@ -75,6 +78,7 @@ module _ (old : Volume) (is : IsVolume old) (leads : SettledLeads) where
         ring = record { id = is.ring.id; mirrors = is.ring.mirrors; journal = is.ring.journal };
         in_turn = record { flying = tt; waiting_ones = is.in_turn.waiting_ones ∙ ap (λ (f : Option Flight). last_sealed f old.writer.durable.sequence) flies };
         marked = is.marked;
+        held_back = settled-held old.writer old.queue old.pins is.held_back flight flies;
         durable_keys = with_updates flight.entry.changes.updates is.durable_keys;
         are_keys = IsKeyMap-with_updates flight.entry.changes.updates is.durable_keys is.are_keys;
         lead = leads flight.entry.changes (waiting old.queue) is.durable_keys (keys_in old.trees) lead;

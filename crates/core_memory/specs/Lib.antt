@@ -7,6 +7,7 @@ pub mod Uncommitted
 pub mod Opening
 pub mod States
 pub mod Sealing
+pub mod HoldLaws
 pub mod Devices
 pub mod Events
 pub mod Nodes

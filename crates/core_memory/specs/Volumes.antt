@@ -1,5 +1,5 @@
 -- What is kept of a volume in memory, but for what actors have under way.
-use Rattle.std.specs.Prelude.{◌≡◌, ℕ, ◌+◌, ◌-◌, ◌*◌, ◌^◌, min, Bool, true, ◌||◌, ◌&&◌, not, ◌==◌, nat_lt, nat_le, if◌then◌else◌, Option, Some, None, IfSome, List, [], ◌∷◌, ◌++◌, length, sum_by}
+use Rattle.std.specs.Prelude.{◌≡◌, ℕ, ◌+◌, ◌-◌, ◌*◌, ◌^◌, ◌≤◌, All, min, Bool, true, ◌||◌, ◌&&◌, not, ◌==◌, nat_lt, nat_le, if◌then◌else◌, Option, Some, None, IfSome, List, [], ◌∷◌, ◌++◌, length, sum_by}
 use Rattle.bucket_pool.specs.Space.{Space}
 use Rattle.btree_map.specs.Trees.{Trees, keys_in}
 use Rattle.commit_plan.specs.Dirty.{AreMarked}
@@ -16,6 +16,7 @@ use Rattle.entry_writer.specs.declared.durable.Durable.{Durable}
 use Rattle.entry_writer.specs.declared.stage.Stage.{Stage}
 use Rattle.entry_writer.specs.declared.writer.Flight.{Flight}
 use Rattle.entry_queue.specs.declared.changes.KeyChanges.{KeyChanges}
+use Rattle.entry_queue.specs.declared.changes.Pending.{Pending}
 use Rattle.journal_ring.specs.Rings.{RingState}
 
 -- How the volume lies on its devices; its session; its keys and nodes; the entries that wait to be written; the dirty nodes and the marked ones, each with the entry that it pins; the buckets of each device; the entry
@@ -112,6 +113,34 @@ pub record AreInTurn (writer : Writer) (queue : Queue) : Type 0 where
   pub flying : IfSome writer.flight (λ flight. flight.entry.after ≡ writer.durable.sequence)
   pub waiting_ones : (oldest queue).after ≡ last_sealed writer.flight writer.durable.sequence
 
+-- No node pins an older entry than the one of this sequence.
+abbrev pub ArePinnedFrom : ℕ → List (ℕ × ℕ) → Type 0
+ArePinnedFrom oldest pins = IfSome (least_pin pins) (λ pin. oldest ≤ pin)
+
+-- the sequence of the oldest entry that a durable one needs: at most its own, whatever stands in it
+abbrev pub needed_by : Durable → ℕ
+needed_by durable = min durable.oldest durable.sequence
+
+-- An entry that isn't durable is held back: if it has updates, a node pins it or an older one.
+abbrev pub IsHeldBack : List (ℕ × ℕ) → Pending → Type 0
+IsHeldBack pins entry = is_below (entry.after + 1) (least_pin pins) ≡ true → entry.changes.updates ≡ []
+
+-- The entry in flight needs none that is older than what the last durable one needs, and at most itself; no node pins an older one
+-- than it needs; and it is held back.
+pub record IsFlightHeld (durable : Durable) (pins : List (ℕ × ℕ)) (flight : Flight) : Type 0 where
+  pub from : needed_by durable ≤ flight.oldest
+  pub to : flight.oldest ≤ flight.entry.after + 1
+  pub pinned : ArePinnedFrom flight.oldest pins
+  pub entry : IsHeldBack pins flight.entry
+
+-- What the pins hold back: what a node pins is needed by the last durable entry, and by the one in flight; and each entry that
+-- isn't durable is held back.
+pub record HoldsBack (writer : Writer) (queue : Queue) (pins : List (ℕ × ℕ)) : Type 0 where
+  pub durable : ArePinnedFrom (needed_by writer.durable) pins
+  pub flight : IfSome writer.flight (IsFlightHeld writer.durable pins)
+  pub closed : All (IsHeldBack pins) queue.closed
+  pub open_entry : IsHeldBack pins queue.open_entry
+
 -- What is kept of a volume. The marked nodes are exactly those that are dirty or have a dirty node
 -- under them; the changes that aren't durable lead from some key map, which the durable entries mean, to the one in memory.
 pub record IsVolume (volume : Volume) : Type 0 where
@@ -121,6 +150,7 @@ pub record IsVolume (volume : Volume) : Type 0 where
   pub ring : IsRingOf volume.layout volume.writer.ring
   pub in_turn : AreInTurn volume.writer volume.queue
   pub marked : AreMarked volume.trees.nodes volume.pins volume.marks
+  pub held_back : HoldsBack volume.writer volume.queue volume.pins
   pub durable_keys : KeyMap
   pub are_keys : IsKeyMap durable_keys
   pub lead : LeadTo (changes_in volume.writer.flight ++ waiting volume.queue) durable_keys (keys_in volume.trees)

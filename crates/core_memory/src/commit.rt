@@ -37,7 +37,7 @@ impl Volume {
     /// Makes updates, all or none: they come into the keys, and into the journal's open entry, which is closed first where it
     /// would pass 64 blocks with them. All memory is taken first; an `Err` changes nothing, and hands the updates back. It costs
     /// some logarithms for each update, and for each id whose record they change, unless somebody shares the trees of ids: then these
-    /// are made anew when they are asked for. Each node that becomes dirty moves at most 16 bytes for each that is dirty already.
+    /// are made anew when they are asked for. Each node that becomes dirty costs a logarithm of the dirty nodes.
     pub(crate) fn commit(
         &mut self,
         alloc: Global,
@@ -81,8 +81,9 @@ impl Volume {
         ensures why { IfErr result (λ un. un.why ≡ NoMemory) }
     {
         // The keys and nodes are those of btrees, so that what stood before is in range, and what a commit makes of the
-        // queue and of the dirty nodes is known.
+        // queue, which is one, and of the dirty nodes is known.
         see_widths(updates.as_slice());
+        let _ = self.queue.commits();
         let _ = self.keys.map().node_of(0);
         let _ = self.keys.map().height(Btree::Extents);
         commits_are_undone();

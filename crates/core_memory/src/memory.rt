@@ -1,6 +1,6 @@
 ghost use Rattle.std.specs.Prelude.{◌≡◌, ◌<◌, ◌↔◌, IsTrue, None};
 ghost use Rattle.core_memory.specs.Events.{CommitGives, EventGives, Fits, FitsActor, IsNoted, IsOfMemory, IsTold, MayBegin, SealGives, SettleGives, failed_by};
-ghost use Rattle.core_memory.specs.States.{actor_count, mine, other_holder, with_halt};
+ghost use Rattle.core_memory.specs.States.{IsState, actor_count, mine, other_holder, with_halt};
 ghost use Rattle.core_memory.specs.Uncommitted.{answer_of_why, noted_why};
 ghost use Rattle.core_memory.specs.declared.event.Event.TheVariants.{Begin, Commit, Drop, Finish, Intend, Look, LookIds, Seal, Settle};
 ghost use Rattle.core_memory.specs.declared.answer.Answer.TheVariants as Answer;
@@ -35,6 +35,13 @@ impl Model for Memory {
 }
 
 impl Memory {
+    /// What is kept of a volume and its actors holds, after any events.
+    pub fn see_kept(&self)
+        ensures { IsState self.now }
+    {
+        let _ = &self.alloc;
+    }
+
     /// What an actor has under way.
     pub fn actor(&self, actor: u8) -> &Actor
         requires { actor < actor_count }
@@ -85,8 +92,8 @@ impl Memory {
     }
 
     /// Makes an event of an actor. Looks take a logarithm, and what they find, twice; a commit some logarithms for each update, and
-    /// each node that it makes dirty moves at most 16 bytes for each that is dirty already. A `LookIds` shares the trees of ids,
-    /// which it makes anew, going over all ids, where a commit couldn't change them in place.
+    /// a logarithm of the dirty nodes for each node that it makes dirty. A `LookIds` shares the trees of ids, which it makes anew,
+    /// going over all ids, where a commit couldn't change them in place.
     ///
     /// `Begin`, `Intend`, `Finish`, `Drop`, `Next` and `Settle` take no memory; a `Seal` takes that of the entry's bytes.
     pub fn step(&mut self, actor: u8, event: Event) -> Answer

@@ -2,6 +2,7 @@ use Rattle.std.proofs.Common.{◌≡◌, ◌∙◌, ◌+◌, Option, List, ℕ, 
 use Rattle.birth_index.specs.Births.{BirthsDiffer}
 use Rattle.btree_map.specs.Trees.{IsTrees, Trees, keys_in}
 use Rattle.commit_plan.specs.Dirty.{changed_nodes, paths_of, with_pins}
+use Rattle.entry_queue.specs.Changes.{changes_of}
 use Rattle.entry_queue.specs.Queues.{Queue, joined, readied}
 use Rattle.vol_types.specs.Widths.{PosFits}
 use Rattle.vol_types.specs.declared.keys.Update.{Update}
@@ -10,6 +11,7 @@ use Rattle.vol_types.specs.declared.values.Value.{Value}
 use Rattle.btree_map.specs.Applied.{values_before}
 use Rattle.core_memory.specs.Volumes.{Volume, changes_in}
 use Rattle.core_memory.proofs.Committed.{made-kept}
+use Rattle.core_memory.proofs.HeldBack.{joined-held}
 use Rattle.core_memory.proofs.volume.Volume.make.Goals as goal
 
 pub invariant_of-self-in-Ok : goal.invariant_of-self-in-Ok
@@ -43,6 +45,11 @@ invariant_of-self-in-Ok c =
     ∙ ap (λ (births : List ℕ). with_pins c.entry_of-seq.result births inside.dirty.marks.numbers) over
     ∙ ap (λ (seq : ℕ). with_pins seq (paths_of inside.keys.nodes updates) inside.dirty.marks.numbers) seq)
     (c.dirty_nodes_are_marked.ensures.more inside.keys.nodes inside.dirty.pins.numbers inside.dirty.marks.numbers updates _ (subst (λ (t : Trees). BirthsDiffer t.nodes) c.map.ensures c.node_of.ensures.differ) (λ btree. ((subst IsTrees c.map-2.ensures c.height.ensures.sound).each btree).nodes) (subst (All (λ (update : Update). PosFits update.pos)) c.as_slice.ensures c.see_widths.ensures) c.self.invariant.marked)
+    (λ held turn. joined-held inside.writer inside.queue.queue inside.dirty.pins.numbers inside.keys.nodes (changes_of updates keys) c.args.counted held turn c.commits.ensures.sound.followed (record {
+      trees = λ btree. ((subst IsTrees c.map-2.ensures c.height.ensures.sound).each btree).nodes;
+      fit = subst (All (λ (update : Update). PosFits update.pos)) c.as_slice.ensures c.see_widths.ensures;
+      leaves = c.requires.intended.leaves;
+    }))
     (c.commits_leave_queues.ensures.oldest (record { updates = updates; before = values_before updates keys }) c.args.counted inside.queue.queue).0
     (λ durable keys lead. c.waiting_changes_lead_from_durable_keys.ensures.joined (changes_in inside.writer.flight) inside.queue.queue updates c.args.counted durable keys lead)
 

@@ -1,7 +1,9 @@
-use Rattle.std.proofs.Common.{◌≡◌, ◌∙◌, None, ap, sym, subst}
-use Rattle.entry_queue.specs.Queues.{Queue, without_oldest}
+use Rattle.std.proofs.Common.{◌≡◌, ◌∙◌, ℕ, ◌+◌, None, ap, sym, subst}
+use Rattle.entry_queue.specs.Queues.{Queue, oldest, without_oldest}
 use Rattle.entry_queue.specs.declared.changes.Pending.{Pending}
 use Rattle.entry_writer.specs.Writers.{Writer, with_entry}
+use Rattle.pin_list.specs.Pins.{smaller}
+use Rattle.core_memory.specs.Sealing.{oldest_needed}
 use Rattle.core_memory.specs.Volumes.{IsVolume, Volume, needs_entry}
 use Rattle.core_memory.proofs.Written.{flown-kept, sealing_is_free}
 use Rattle.core_memory.proofs.volume.Volume.seal_with.Goals as goal
@@ -14,11 +16,13 @@ invariant_of-self c =
     let old : Volume = record { layout = inside.layout; session = inside.session; trees = inside.keys; queue = queue; pins = inside.dirty.pins.numbers; marks = inside.dirty.marks.numbers; space = inside.pool; writer = inside.writer; halted = inside.halted; changes = inside.changes } in
     let none : inside.writer.flight ≡ None = ap (λ (v : Volume). v.writer.flight) c.self.view_is ∙ sealing_is_free c.args.self.now.writer.flight (needs_entry c.args.self.now) c.args.self.now.writer c.requires.stage.stage_is in
     let writer : Writer = c.seal.new.self in
-    let needed = c.oldest_needed-oldest.result in
+    let needed : c.oldest_needed-oldest.result ≡ oldest_needed old =
+    c.oldest_needed-oldest.ensures.exact ∙ ap (λ (entry : Pending). smaller (entry.after + 1) c.oldest.result) c.take_oldest-entry.ensures.taken ∙ ap (smaller ((oldest queue).after + 1)) c.oldest.ensures in
     subst (λ (q : Queue). IsVolume (record old { queue = q; writer = c.seal.new.self })) (sym c.take_oldest-entry.ensures.left)
     (subst (λ (w : Writer). IsVolume (record old { queue = without_oldest queue; writer = w }))
-    (sym (c.in-Ok.ensures.ok.is ∙ ap (λ (entry : Pending). with_entry writer.ring.blocks entry needed inside.writer) c.take_oldest-entry.ensures.taken))
-    (flown-kept old c.self.invariant none (laws.mirrors queue) (laws.sequence queue c.commits.ensures.sound) (λ durable keys lead. c.waiting_changes_lead_from_durable_keys.ensures.taken queue durable keys lead) writer.ring.blocks needed))
+    (sym (c.in-Ok.ensures.ok.is ∙ ap (λ (entry : Pending). with_entry writer.ring.blocks entry c.oldest_needed-oldest.result inside.writer) c.take_oldest-entry.ensures.taken
+    ∙ ap (λ (n : ℕ). with_entry writer.ring.blocks (oldest queue) n inside.writer) needed))
+    (flown-kept old c.self.invariant none (laws.mirrors queue) (laws.sequence queue c.commits.ensures.sound) (λ durable keys lead. c.waiting_changes_lead_from_durable_keys.ensures.taken queue durable keys lead) writer.ring.blocks))
 
 pub invariant_of-self-in-Err : goal.invariant_of-self-in-Err
 invariant_of-self-in-Err c =
