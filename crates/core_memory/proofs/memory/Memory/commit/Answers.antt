@@ -17,4 +17,4 @@ returns-in-Err c =
     let inside = c.self.inside in
     subst (λ (s : State). CommitGives s c.args.actor c.args.counted c.refuse.result (record { volume = c.commit.new.self; actors = slice_set inside.actors.items c.from.result c.refuse.new.mine; turn = inside.turn })) c.self.view_is
     (refused-gives inside.volume inside.actors.items inside.turn c.self.invariant c.args.actor c.requires.there c.from.result c.from.ensures c.index_mut-mine.result.now c.index_mut-mine.ensures.value
-    c.in-Some.updates (sym c.take.ensures.value ∙ c.in-Some.is) c.args.counted c.in-Err.why c.in-Err.ensures.why c.commit.new.self c.in-Err.ensures.err c.in-Err.updates c.in-Err.ensures.kept c.refuse.new.mine c.refuse.ensures.noted c.refuse.result c.refuse.ensures.answer)
+    c.in-Some.updates (sym c.take.ensures.value ∙ c.in-Some.is) c.args.counted c.in-Err.field-0.why c.in-Err.ensures.why c.commit.new.self c.in-Err.ensures.err c.in-Err.field-0.updates c.in-Err.ensures.kept c.refuse.new.mine c.refuse.ensures.noted c.refuse.result c.refuse.ensures.answer)
