@@ -8,7 +8,7 @@ use Rattle.std.proofs.lemmas.List.Elements.{All-append, All-cons, All-nil}
 use Rattle.std.proofs.lemmas.Option.{same_Some, none-some as none_some}
 use Rattle.entry_queue.specs.Queues.{Queue, oldest}
 use Rattle.entry_queue.specs.declared.changes.Pending.{Pending}
-use Rattle.entry_writer.specs.Writers.{Writer}
+use Rattle.entry_writer.specs.Writers.{settled, settled_by}
 use Rattle.entry_writer.specs.declared.durable.Durable.{Durable}
 use Rattle.entry_writer.specs.declared.writer.Flight.{Flight}
 use Rattle.pin_list.specs.Pins.{least_pin, smaller}
@@ -41,6 +41,24 @@ pinned-each first node seq pins from found = by (least_pin pins) from (least-fou
     by : (o : Option ℕ) → IfSome o (λ pin. first ≤ pin) → Some (smaller seq o) ≡ o → first ≤ seq
     by None from is = absurd (none_some _ (sym is))
     by (Some least) from is = let le : min seq least ≡ least = same_Some _ _ is in omega (arith, le, from)
+
+-- An entry that needs none behind itself needs those from its oldest one on.
+pub needed-exact : (durable : Durable) → durable.oldest ≤ durable.sequence → needed_by durable ≡ durable.oldest
+needed-exact durable le = omega (arith, le)
+
+-- Where the last durable entry needs none behind itself, no node pins an older one than it needs.
+pub pinned-durable : (volume : Volume) → IsVolume volume → volume.writer.durable.oldest ≤ volume.writer.durable.sequence
+    → (node seq : ℕ) → value_at nat_cmp node volume.pins ≡ Some seq → volume.writer.durable.oldest ≤ seq
+pinned-durable volume is le node seq found = let from = pinned-each (needed_by volume.writer.durable) node seq volume.pins is.held_back.durable found in omega (arith, le, from)
+
+-- An entry that becomes the last durable one needs none behind itself.
+pub settled-exact : (volume : Volume) → IsVolume volume → volume.writer.durable.oldest ≤ volume.writer.durable.sequence
+    → (settled volume.writer).durable.oldest ≤ (settled volume.writer).durable.sequence
+settled-exact volume is le = by volume.writer.flight is.held_back.flight
+  where
+    by : (o : Option Flight) → IfSome o (IsFlightHeld volume.writer.durable volume.pins) → (settled_by o volume.writer).durable.oldest ≤ (settled_by o volume.writer).durable.sequence
+    by None held = le
+    by (Some flight) held = held.to
 
 -- Nothing behind an entry is needed by the next one, and nothing before the oldest that the last durable one needs.
 pub needed-between : (volume : Volume) → IsVolume volume → (needed_by volume.writer.durable ≤ oldest_needed volume) × (oldest_needed volume ≤ (oldest volume.queue).after + 1)
