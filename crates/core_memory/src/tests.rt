@@ -1,6 +1,7 @@
 //! Random events of four actors beside a plain table, and each cause that refuses a commit, at its limit and beyond.
 
-ghost use Rattle.std.specs.Prelude.{◌≡◌, IfOk};
+ghost use Rattle.std.specs.Prelude.{◌≡◌, IfOk, IsTrue};
+ghost use Rattle.core_memory.specs.Events.{IsOfMemory};
 ghost use Rattle.btree_map.specs.Trees.{AreRoots};
 ghost use Rattle.tree_nodes.specs.Levels.{IsNodeOf};
 
@@ -224,14 +225,31 @@ fn code_of(answer: &Answer) -> u64 {
     }
 }
 
-// Whether an event calls devices.
-fn is_of_devices(event: &Event) -> bool {
-    matches!(event, Event::WriteEntry | Event::Flush(_))
+// Whether an event calls no device.
+fn is_of_memory(event: &Event) -> bool
+    ensures { IsTrue result → IsOfMemory event.now }
+{
+    match event {
+        Event::WriteEntry | Event::Flush(_) => false,
+        Event::Begin { .. } => true,
+        Event::Look(_) => true,
+        Event::LookIds => true,
+        Event::Intend(_) => true,
+        Event::Commit { .. } => true,
+        Event::Finish => true,
+        Event::Drop => true,
+        Event::Next(_) => true,
+        Event::Seal => true,
+        Event::Settle => true,
+    }
 }
 
 // What an event is answered, if it fits.
 fn step(memory: &mut Memory, actor: u8, event: Event) -> Option<Answer> {
-    if !memory.may(actor, &event) || is_of_devices(&event) {
+    if !memory.may(actor, &event) {
+        return None;
+    }
+    if !is_of_memory(&event) {
         return None;
     }
     Some(memory.step(actor, event))
