@@ -21,3 +21,6 @@ pub mod NextStands
 pub mod NextInOrder
 pub mod NextCrashes
 pub mod SessionNumbers
+pub mod Replayed
+pub mod LeafRoots
+pub mod NewInOrder

@@ -5,6 +5,7 @@ use Rattle.std.proofs.lemmas.Bool.{cases_lt, lt-ltb}
 use Rattle.std.proofs.lemmas.List.{drop-append-le, drop_all, length_push}
 use Rattle.std.proofs.lemmas.List.Elements.{All-cons, All-from_get_or, All-head, All-nil, All-tail, All-weaker}
 use Rattle.std.proofs.lemmas.Nat.{div-add-mod', mul-le, row_fits}
+use Rattle.std.specs.List.{flat_map}
 use Rattle.std.specs.Prelude.{All, nat_lt}
 use Rattle.dev_model.specs.Crashes.{SameBut}
 use Rattle.dev_model.specs.Disk.{Image}
@@ -20,7 +21,7 @@ use Rattle.vol_types.specs.declared.pointers.Place.{Place}
 use Rattle.image_view.proofs.NeededEntries.{AreNeeded, are_needed, needed_whole, places_of, some_places}
 use Rattle.image_view.proofs.NextBlocks.{BlockLaws}
 use Rattle.image_view.proofs.OtherSession.{all_of_each}
-use Rattle.image_view.specs.Bases.{AgreeAt, AgreeInBucket, AgreeOnBase, AgreeOnNode}
+use Rattle.image_view.specs.Bases.{AgreeAt, AgreeInBucket, AgreeOnBase, AgreeOnNode, AgreeOnNodes}
 use Rattle.image_view.specs.Found.{FollowOn, Found, IsInOrder, found, node_places}
 use Rattle.image_view.specs.Mends.{IsPlaceOf}
 use Rattle.image_view.specs.NextEntries.{IsNext}
@@ -128,7 +129,7 @@ module _ (laws : BlockLaws) (one : Image) (f : Found) (is : found one ≡ Ok f) 
 
   -- ---- what is written
 
-  module _ (placed : AreNodesPlaced (node_places f) f.layout) (other : Image) (lengths : map (λ blocks. length blocks) one ≡ map (λ blocks. length blocks) other) (count : ℕ) (few : count ≤ parts_of next.entry) (elsewhere : SameBut (IsPlaceOf f.layout next count) one other) where
+  module _ (other : Image) (lengths : map (λ blocks. length blocks) one ≡ map (λ blocks. length blocks) other) (count : ℕ) (few : count ≤ parts_of next.entry) (elsewhere : SameBut (IsPlaceOf f.layout next count) one other) where
     low_same : (dev block : ℕ) → block < 16 → AgreeAt one other dev block
     low_same dev block low = elsewhere dev block (λ (hit : IsPlaceOf f.layout next count dev block). let there = hit.place in omega (arith, low, there))
 
@@ -140,9 +141,14 @@ module _ (laws : BlockLaws) (one : Image) (f : Found) (is : found one ≡ Ok f) 
         let whole = (places_of laws.newest.read one f is).journal_whole in
         omega (arith, kept, behind, there, whole, some))
 
+    nodes_same : (nodes : List NodePtr) → All (IsNodePlaced f.layout) (flat_map (λ (node : NodePtr). node.places) nodes) → All (AgreeOnNode one other) nodes
+    nodes_same nodes each = All-weaker (λ (node : NodePtr). All (IsNodePlaced f.layout) node.places) (AgreeOnNode one other)
+        (λ node all. All-weaker (IsNodePlaced f.layout) (AgreeInBucket one other) bucket_same node.places all) nodes
+        (all_of_each (IsNodePlaced f.layout) (λ (node : NodePtr). node.places) nodes each)
+
     -- The image agrees with the one before on the base of what was found there.
-    pub base_stays : AgreeOnBase f one other
-    base_stays = record {
+    pub base_stays : AreNodesPlaced (node_places f) f.layout → AgreeOnBase f one other
+    base_stays placed = record {
       lengths = lengths;
       first_copies = λ dev. low_same dev 0 (omega arith);
       second_copies = λ dev. low_same dev 8 (omega arith);
@@ -154,7 +160,14 @@ module _ (laws : BlockLaws) (one : Image) (f : Found) (is : found one ≡ Ok f) 
           let within = hit.within in
           let ends = is_next.end in
           other_place f.layout.journal number (next.number + hit.part) (omega (arith, before, ends_before k lower)) (omega (arith, within, few, ends, from, room_for k lower)) (omega (arith, there))));
-      nodes = All-weaker (λ (node : NodePtr). All (IsNodePlaced f.layout) node.places) (AgreeOnNode one other)
-          (λ node each. All-weaker (IsNodePlaced f.layout) (AgreeInBucket one other) bucket_same node.places each) (nodes_of f.trees.nodes)
-          (all_of_each (IsNodePlaced f.layout) (λ (node : NodePtr). node.places) (nodes_of f.trees.nodes) placed.each);
+      nodes = nodes_same (nodes_of f.trees.nodes) placed.each;
+    }
+
+    -- It agrees on the nodes of other btrees that lie where nodes may.
+    pub nodes_stay : (g : Found) → AreNodesPlaced (node_places g) f.layout → AgreeOnNodes g one other
+    nodes_stay g each = record {
+      lengths = lengths;
+      first_copies = λ dev. low_same dev 0 (omega arith);
+      second_copies = λ dev. low_same dev 8 (omega arith);
+      nodes = nodes_same (nodes_of g.trees.nodes) each.each;
     }

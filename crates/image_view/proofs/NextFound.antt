@@ -59,15 +59,23 @@ sets_same layout one other (pointer ∷ pointers) agree = (
   sets_same layout one other pointers (All-tail (AgreeOnNode one other) pointer pointers agree),
 )
 
--- Where the next entry is the newest, it is found with the btrees that it and the entries that it needs mean, if their nodes are those
--- that were found.
-pub next_found : (one other : Image) (f : Found) (passed : ℕ) (next : FoundEntry) (trees : TreesRead) → found one ≡ Ok f → AgreeOnBase f one other
-    → trees_of (sets_in f.layout one) (updates_of (drop passed f.needed ++ next ∷ [])) next.entry.roots ≡ Ok trees → trees.nodes ≡ f.trees.nodes → IsNewest (with_entry passed next trees f) other
-    → found other ≡ Ok (with_entry passed next trees f)
-next_found one other f passed next trees is agree read nodes new =
+-- Where the next entry is the newest, it is found with the btrees that it and the entries that it needs mean, if the images agree on
+-- their nodes too.
+pub new_found : (one other : Image) (f : Found) (passed : ℕ) (next : FoundEntry) (trees : TreesRead) → found one ≡ Ok f → AgreeOnBase f one other → All (AgreeOnNode one other) (nodes_of trees.nodes)
+    → trees_of (sets_in f.layout one) (updates_of (drop passed f.needed ++ next ∷ [])) next.entry.roots ≡ Ok trees → IsNewest (with_entry passed next trees f) other → found other ≡ Ok (with_entry passed next trees f)
+new_found one other f passed next trees is agree nodes read new =
     let layouts : layout_in one ≡ layout_in other = same_layout one other agree.lengths (λ dev. same_counting one other dev (agree.first_copies dev) (agree.second_copies dev)) in
-    let sets : HaveSameSets (sets_in f.layout one) (sets_in f.layout other) (nodes_of trees.nodes) =
-    sets_same f.layout one other (nodes_of trees.nodes) (subst (λ ns. All (AgreeOnNode one other) (nodes_of ns)) (sym nodes) agree.nodes) in
+    let sets : HaveSameSets (sets_in f.layout one) (sets_in f.layout other) (nodes_of trees.nodes) = sets_same f.layout one other (nodes_of trees.nodes) nodes in
     found_of other (with_entry passed next trees f) (sym layouts ∙ found-layout one f is)
     (greatest_session-same f.layout.id one other f.layout.metadata_replicas agree.even_sessions agree.odd_sessions ∙ found-session one f is) new
     (trees_of-same (sets_in f.layout one) (sets_in f.layout other) (updates_of (drop passed f.needed ++ next ∷ [])) next.entry.roots trees read sets)
+
+-- Images that agree on the base of what was found agree on the nodes of btrees that have the same.
+pub agree_still : (one other : Image) (f : Found) (trees : TreesRead) → AgreeOnBase f one other → trees.nodes ≡ f.trees.nodes → All (AgreeOnNode one other) (nodes_of trees.nodes)
+agree_still one other f trees agree nodes = subst (λ ns. All (AgreeOnNode one other) (nodes_of ns)) (sym nodes) agree.nodes
+
+-- So it is found with them.
+pub next_found : (one other : Image) (f : Found) (passed : ℕ) (next : FoundEntry) (trees : TreesRead) → found one ≡ Ok f → AgreeOnBase f one other
+    → trees_of (sets_in f.layout one) (updates_of (drop passed f.needed ++ next ∷ [])) next.entry.roots ≡ Ok trees → trees.nodes ≡ f.trees.nodes → IsNewest (with_entry passed next trees f) other
+    → found other ≡ Ok (with_entry passed next trees f)
+next_found one other f passed next trees is agree read nodes new = new_found one other f passed next trees is agree (agree_still one other f trees agree nodes) read new

@@ -16,12 +16,14 @@ use Rattle.vol_types.specs.declared.pointers.NodePtr.{NodePtr}
 use Rattle.image_view.proofs.NeededEntries.{AreNeeded, are_needed, places_of, some_places}
 use Rattle.image_view.proofs.NextBlocks.{BlockLaws}
 use Rattle.image_view.proofs.NextBase.{ends_before, follow_kept, room_for}
+use Rattle.image_view.proofs.NextFound.{agree_still}
 use Rattle.image_view.proofs.NextStands.{made_or_next, next_made_whole, owners_stay}
 use Rattle.image_view.proofs.NextNewest.{EachPasses, next_newest, other_sequence, still_there}
 use Rattle.image_view.proofs.OtherSession.{alike-same}
-use Rattle.image_view.specs.Bases.{AgreeOnBase, IsNewest}
+use Rattle.image_view.specs.Bases.{AgreeOnBase, AgreeOnNode, IsNewest}
 use Rattle.image_view.specs.Found.{FitTogether, FollowOn, Found, IsAlike, IsBelowRoots, IsInOrder, IsMirrored, PassesNone, found}
 use Rattle.image_view.specs.NextEntries.{AreNumberedBelow, AreOldOrNext, IsNext, IsToldApart, IsWritten, with_entry}
+use Rattle.image_view.specs.NewNodes.{AreNodesInOrder}
 use Rattle.image_view.specs.Trees.{TreesRead, nodes_of}
 
 -- What is said of an entry whose blocks stand everywhere: it is whole.
@@ -60,6 +62,16 @@ newest_written laws stand one other f passed next blocks trees is is_next agree 
     next_newest laws.newest f passed next is_next (are_needed laws.newest.read one f is) (some_places laws.newest.read one f is) other each (0, whole_on stand one other f passed next blocks is_next written 0 (omega (arith, mirrored)))
     (λ k from lower. still_there laws.newest one other f is agree k lower) trees
 
+-- Btrees with the nodes that were found, whose sets end where they did, have them in order.
+pub in_order_still : (one : Image) (f : Found) (passed : ℕ) (next : FoundEntry) (trees : TreesRead) → IsInOrder f one → trees.nodes ≡ f.trees.nodes → trees.ends ≡ f.trees.ends → AreNodesInOrder (with_entry passed next trees f) one
+in_order_still one f passed next trees order nodes ends = record {
+  places = subst (λ ns. All (IsMirrored f.layout) (nodes_of ns)) (sym nodes) order.places;
+  copies = subst (λ ns. All (IsAlike (with_entry passed next trees f) one) (nodes_of ns)) (sym nodes)
+      (All-weaker (IsAlike f one) (IsAlike (with_entry passed next trees f) one)
+      (λ node same end is_end birth. same end (subst (λ (es : List NodeEnd). Contains es end) ends is_end) birth) (nodes_of f.trees.nodes) order.copies);
+  births = subst (λ ns. All (λ (node : NodePtr). node.birth < (f.session + 1) * 2 ^ 32) (nodes_of ns)) (sym nodes) order.births;
+}
+
 module _ (laws : BlockLaws) (one : Image) (f : Found) (is : found one ≡ Ok f) (order : IsInOrder f one) (passed : ℕ) (next : FoundEntry) (is_next : IsNext f passed next) (blocks : List (List ℕ)) (sealed : AreEntryBlocks f.layout.id next.number next.entry blocks)
     (other : Image) (agree : AgreeOnBase f one other) (old_or : AreOldOrNext f.layout next blocks one other) where
   needed : AreNeeded f
@@ -91,9 +103,9 @@ module _ (laws : BlockLaws) (one : Image) (f : Found) (is : found one ≡ Ok f) 
       })
       passes
 
-  -- What is found with it is in order.
-  pub in_order_with : IsToldApart f (area_of one) blocks → (trees : TreesRead) → trees.nodes ≡ f.trees.nodes → trees.ends ≡ f.trees.ends → IsInOrder (with_entry passed next trees f) other
-  in_order_with told trees nodes ends = record {
+  -- What is found with it is in order, where the nodes are.
+  pub in_order_new : IsToldApart f (area_of one) blocks → (trees : TreesRead) → All (AgreeOnNode one other) (nodes_of trees.nodes) → AreNodesInOrder (with_entry passed next trees f) one → IsInOrder (with_entry passed next trees f) other
+  in_order_new told trees nodes are = record {
     entries = subst (λ (xs : List FoundEntry). FollowOn (drop passed xs ++ next ∷ [])) (sym needed.are) (follow_kept passed needed.before f.last next (subst FollowOn needed.are order.entries) is_next.number);
     fits = fit_push f.layout (drop passed f.needed) next (fit_drop f.layout passed f.needed order.fits)
         (All-drop (λ (x : FoundEntry). next.end ≤ x.number + f.layout.journal) passed f.needed (All-from_get_or (λ (x : FoundEntry). next.end ≤ x.number + f.layout.journal) f.needed f.last (room_for laws one f is order passed next is_next)))
@@ -102,15 +114,14 @@ module _ (laws : BlockLaws) (one : Image) (f : Found) (is : found one ≡ Ok f) 
     others = λ x parts made. passes_with trees x (made_or_next laws f some passed next is_next blocks sealed one other old_or order told x parts made);
     owners = owners_stay laws f some passed next is_next blocks sealed one other old_or order.owners;
     levels = All-push (λ (x : FoundEntry). IsBelowRoots x.entry) (drop passed f.needed) next (All-drop (λ (x : FoundEntry). IsBelowRoots x.entry) passed f.needed order.levels) is_next.levels;
-    places = subst (λ ns. All (IsMirrored f.layout) (nodes_of ns)) (sym nodes) order.places;
-    copies = subst (λ ns. All (IsAlike (with_entry passed next trees f) other) (nodes_of ns)) (sym nodes) alike;
-    births = subst (λ ns. All (λ (node : NodePtr). node.birth < (f.session + 1) * 2 ^ 32) (nodes_of ns)) (sym nodes) order.births;
+    places = are.places;
+    copies = alike-same (with_entry passed next trees f) one other (nodes_of trees.nodes) nodes are.copies;
+    births = are.births;
   }
-    where
-      alike : All (IsAlike (with_entry passed next trees f) other) (nodes_of f.trees.nodes)
-      alike = All-weaker (IsAlike f other) (IsAlike (with_entry passed next trees f) other)
-          (λ node same end is_end birth. same end (subst (λ (es : List NodeEnd). Contains es end) ends is_end) birth) (nodes_of f.trees.nodes)
-          (alike-same f one other (nodes_of f.trees.nodes) agree.nodes order.copies)
+
+  -- So it is with the nodes that were found.
+  pub in_order_with : IsToldApart f (area_of one) blocks → (trees : TreesRead) → trees.nodes ≡ f.trees.nodes → trees.ends ≡ f.trees.ends → IsInOrder (with_entry passed next trees f) other
+  in_order_with told trees nodes ends = in_order_new told trees (agree_still one other f trees agree nodes) (in_order_still one f passed next trees order nodes ends)
 
   -- What was found is in order too, as long as the next entry is whole on no device.
   pub in_order_without : AreNumberedBelow f.layout f.session f.last.end (area_of one) → ((dev : ℕ) → IsWholeOn f.layout (area_of other) dev next → ⊥) → IsInOrder f other

@@ -157,7 +157,7 @@ root_at (a ∷ b ∷ c ∷ d ∷ e ∷ f ∷ g ∷ h ∷ i ∷ more) nine Delete
 root_at (a ∷ b ∷ c ∷ d ∷ e ∷ f ∷ g ∷ h ∷ i ∷ more) nine Counters = (i, refl)
 
 -- A key map with updates has in each btree the entries with them.
-entries_of-with_updates : (updates : List Update) (keys : KeyMap) (btree : Btree) → entries_of (with_updates updates keys) btree ≡ entries_with btree updates (entries_of keys btree)
+pub entries_of-with_updates : (updates : List Update) (keys : KeyMap) (btree : Btree) → entries_of (with_updates updates keys) btree ≡ entries_with btree updates (entries_of keys btree)
 entries_of-with_updates [] keys btree = refl
 entries_of-with_updates (update ∷ updates) keys btree = entries_of-with_updates updates (with_update update keys) btree ∙ ap (entries_with btree updates) (entries_of-with_update update keys btree)
 

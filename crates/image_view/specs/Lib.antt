@@ -8,3 +8,4 @@ pub mod Mends
 pub mod UpdatedTrees
 pub mod EntryUpdates
 pub mod NextEntries
+pub mod NewNodes

@@ -6,8 +6,10 @@ use Rattle.std.proofs.lemmas.Slice.Eq.{bytes_eq-Decides}
 use Rattle.std.specs.Str.{bytes_eq}
 use Rattle.dev_model.specs.Crashes.{SameBut}
 use Rattle.dev_model.specs.Disk.{Image, block_at}
-use Rattle.image_view.specs.Bases.{AgreeAt, AgreeOnBase}
+use Rattle.image_view.specs.Bases.{AgreeAt, AgreeOnBase, AgreeOnNodes}
 use Rattle.image_view.specs.Found.{Found}
+use Rattle.journal_safety.specs.NodeWritings.{AgreeOnWriting}
+use Rattle.journal_safety.specs.Writings.{Writing, after}
 use Rattle.journal_safety.proofs.Images.{sizes}
 use Rattle.journal_safety.proofs.OtherBlock.{no_block, sizes_with_block, with_block, with_block_at, with_block_elsewhere}
 
@@ -48,3 +50,17 @@ module _ (touched : ℕ → ℕ → Type 0) (one before image : Image) (as_long 
     entries = λ k d lower dev number mirror from end. agree_at dev (16 + number % f.layout.journal) (λ h l s. (law h l s).entries k d lower dev number mirror from end) (agree.entries k d lower dev number mirror from end);
     nodes = λ k d lower j e low n few. agree_at _ _ (λ h l s. (law h l s).nodes k d lower j e low n few) (agree.nodes k d lower j e low n few);
   }
+
+  -- So it agrees on the nodes of btrees.
+  pub nodes_more : (g : Found) → ((other : Image) → sizes one ≡ sizes other → SameBut touched one other → AgreeOnNodes g one other) → AgreeOnNodes g one before → AgreeOnNodes g one image
+  nodes_more g law agree = record {
+    lengths = as_long;
+    first_copies = λ dev. agree_at dev 0 (λ h l s. (law h l s).first_copies dev) (agree.first_copies dev);
+    second_copies = λ dev. agree_at dev 8 (λ h l s. (law h l s).second_copies dev) (agree.second_copies dev);
+    nodes = λ k d lower j e low n few. agree_at _ _ (λ h l s. (law h l s).nodes k d lower j e low n few) (agree.nodes k d lower j e low n few);
+  }
+
+  -- And on those of the entry that is written, if one is.
+  pub writing_more : (f : Found) (writing : Option Writing) → ((other : Image) → sizes one ≡ sizes other → SameBut touched one other → AgreeOnWriting f writing one other) → AgreeOnWriting f writing one before → AgreeOnWriting f writing one image
+  writing_more f None law agree = tt
+  writing_more f (Some w) law agree = nodes_more (after w f) law agree

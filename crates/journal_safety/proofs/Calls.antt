@@ -11,9 +11,10 @@ use Rattle.image_view.specs.Bases.{AgreeOnBase}
 use Rattle.image_view.specs.CrashEntries.{opens}
 use Rattle.image_view.specs.Found.{Found}
 use Rattle.journal_safety.specs.Parts.{AsksAt}
-use Rattle.journal_safety.specs.Standing.{AgreesBut, AreReadsUntorn, AreSteady, HoldKnown, StandsOn}
+use Rattle.journal_safety.specs.Standing.{AgreesBut, AreReadsUntorn, AreSteady, HoldKnown}
+use Rattle.journal_safety.specs.NodeWritings.{AgreeOnWriting, StandsWithNodes}
 use Rattle.journal_safety.specs.Writings.{HoldParts, IsAsked, IsWritingBlock, Writing}
-use Rattle.journal_safety.proofs.BaseStays.{base_more}
+use Rattle.journal_safety.proofs.BaseStays.{base_more, writing_more}
 use Rattle.journal_safety.proofs.Images.{as_many_left, sizes, sizes_stay}
 use Rattle.vol_types.specs.declared.layout.Layout.{Layout}
 
@@ -26,12 +27,13 @@ untorn_before layout first m last old new past earlier so_far untorn dev place m
 -- parts of the entry that is written, and there it asks for blocks of the entry alone.
 pub record IsHarmless (f : Found) (image : Image) (writing : Option Writing) (asked count : ℕ) (touched : ℕ → ℕ → Type 0) (asks_for : ℕ → ℕ → List ℕ → Type 0) : Type 0 where
   pub aside : (other : Image) → sizes image ≡ sizes other → SameBut touched image other → AgreeOnBase f image other
+  pub nodes_aside : (other : Image) → sizes image ≡ sizes other → SameBut touched image other → AgreeOnWriting f writing image other
   pub more : (dev block : ℕ) → IsAsked f.layout writing asked dev block → IsAsked f.layout writing count dev block
   pub within : (dev place : ℕ) → dev < f.layout.metadata_replicas → place < f.layout.journal → touched dev (16 + place) → IsAsked f.layout writing count dev (16 + place)
   pub own : (dev place : ℕ) (bytes : List ℕ) → dev < f.layout.metadata_replicas → place < f.layout.journal → IsTrue (opens bytes) → asks_for dev (16 + place) bytes → IsWritingBlock f.layout writing dev (16 + place) bytes
   pub few : IfSome writing (λ w. count ≤ length w.blocks)
 
-module _ (f : Found) (image : Image) (writing : Option Writing) (asked written first : ℕ) (old : DevicesState) (stands : StandsOn f image writing asked written first old) (new : DevicesState) (touched : ℕ → ℕ → Type 0) (asks_for : ℕ → ℕ → List ℕ → Type 0)
+module _ (f : Found) (image : Image) (writing : Option Writing) (asked written first : ℕ) (old : DevicesState) (stands : StandsWithNodes f image writing asked written first old) (new : DevicesState) (touched : ℕ → ℕ → Type 0) (asks_for : ℕ → ℕ → List ℕ → Type 0)
     (call : AsksAt touched asks_for old new) (count : ℕ) (harmless : IsHarmless f image writing asked count touched asks_for) where
   -- Whatever is left meanwhile has the sizes that the image has.
   abbrev pub HasSizes : Type 0
@@ -49,6 +51,11 @@ module _ (f : Found) (image : Image) (writing : Option Writing) (asked written f
               ∙ left.2 dev (16 + place) (λ hit. away (harmless.within dev place mirror within hit));
         }
 
+    pub nodes_left : (m : ℕ) → old.moment ≤ m → m ≤ new.moment → (other : Image) → IsCrashImage (new.disks m) other → AgreeOnWriting f writing image other
+    nodes_left m lo hi other may =
+        let left = call.crashes.each m lo hi other may in
+        writing_more touched image left.0 other (sized m lo hi other may) left.2 f writing harmless.nodes_aside (stands.nodes left.0 left.1)
+
     pub held_at : (m : ℕ) → old.moment ≤ m → m ≤ new.moment → AreReadsUntorn f.layout first m new → HoldKnown f.layout image writing (new.disks m)
     held_at m lo hi untorn dev place bytes mirror within is_open held =
         let begun = stands.begun in
@@ -59,13 +66,14 @@ module _ (f : Found) (image : Image) (writing : Option Writing) (asked written f
         (λ (asks : asks_for dev (16 + place) bytes). inr (harmless.own dev place bytes mirror within is_open asks))
         (call.asks opens m lo hi dev (16 + place) here bytes is_open held)
 
-    pub stands_on : (standing : ℕ) → All IsDisk (now new) → HoldParts f.layout writing standing (as_read (now new)) → StandsOn f image writing count standing first new
+    pub stands_on : (standing : ℕ) → All IsDisk (now new) → HoldParts f.layout writing standing (as_read (now new)) → StandsWithNodes f image writing count standing first new
     stands_on standing are stand =
         let later = call.crashes.later in
         let begun = stands.begun in
         record {
           finds = stands.finds;
           in_order = stands.in_order;
+          whole = stands.whole;
           placed = stands.placed;
           numbered = stands.numbered;
           is = stands.is;
@@ -73,6 +81,7 @@ module _ (f : Found) (image : Image) (writing : Option Writing) (asked written f
           begun = omega (arith, later, begun);
           disks = are;
           crashes = left_agrees new.moment later (omega arith);
+          nodes = nodes_left new.moment later (omega arith);
           held = held_at new.moment later (omega arith);
           stand = stand;
         }

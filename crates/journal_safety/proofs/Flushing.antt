@@ -1,7 +1,6 @@
 -- A flush asks for nothing, and it settles its device.
 use Rattle.std.proofs.Common.{◌≡◌, ◌≢◌, ⊎_elim, ℕ, zero, suc, ◌<◌, ◌≤◌, Bool, true, false, List, [], ◌∷◌, ◌++◌, length, drop, replicate, set, slice_get, Some, Result, Ok, Err, refl, sym, ap, subst, ◌∙◌, arith}
-use Rattle.std.proofs.lemmas.Bool.{cases_eq, cases_lt, false≢true}
-use Rattle.std.proofs.lemmas.Option.{same_Some}
+use Rattle.std.proofs.lemmas.Bool.{cases_eq, cases_lt}
 use Rattle.std.specs.Prelude.{All}
 use Rattle.dev_model.specs.CrashLaws.{goes_on_flush, left_itself, started}
 use Rattle.dev_model.specs.Crashes.{IsCrashImageBut, SameBut}
@@ -71,7 +70,7 @@ pub flushed_settled : (mirrors : ℕ) (flags : List Bool) (dev : ℕ) (done : Bo
 flushed_settled mirrors flags dev true old new settled are flush other mirror flag =
     subst (λ (disks : List Disk). IsSettled disks other) (sym (flush.settles refl)) (⊎_elim
     (λ (same : other ≡ dev). subst (IsSettled (changed dev flushed (now old))) (sym same) (settled_here (now old) dev))
-    (λ (differs : ¬ (other ≡ dev)). settled_over_flush (now old) dev other are (settled other mirror (sym (flag_elsewhere flags dev other differs) ∙ flag)))
+    (λ (differs : ¬ (other ≡ dev)). settled_over_flush (now old) dev other are (settled other mirror (λ set. flag (flag_elsewhere flags dev other differs ∙ set))))
     (cases_eq other dev))
 flushed_settled mirrors flags dev false old new settled are flush other mirror flag = subst (λ (disks : List Disk). IsSettled disks other) (sym (flush.fails refl)) (settled other mirror flag)
 
@@ -82,4 +81,4 @@ set_flag (suc count) rest (suc dev) lower = set_flag count rest dev (omega (arit
 
 -- Where all flags of metadata devices are set nothing is said.
 pub flags_set : (mirrors : ℕ) (flags : List Bool) (disks : List Disk) → AreFlushed mirrors (with_flags mirrors flags) disks
-flags_set mirrors flags disks dev mirror flag = absurd (false≢true (same_Some false true (sym flag ∙ set_flag mirrors (drop mirrors flags) dev mirror)))
+flags_set mirrors flags disks dev mirror clear = absurd (clear (set_flag mirrors (drop mirrors flags) dev mirror))

@@ -3,8 +3,11 @@ pub mod OtherBlock
 pub mod BaseStays
 pub mod Settled
 pub mod Meanings
+pub mod Whole
 pub mod Calls
 pub mod Safe
 pub mod Flushing
 pub mod Steps
 pub mod Beside
+pub mod SameNodes
+pub mod NodesLeft

@@ -47,9 +47,13 @@ flushes tells told dev (Err fault) old new call =
 abbrev pub AreSettled : ℕ → List Disk → Type 0
 AreSettled mirrors disks = (dev : ℕ) → dev < mirrors → IsSettled disks dev
 
--- So it does each of them whose flag is false.
+-- The flag of a device is set.
+abbrev pub IsSet : List Bool → ℕ → Type 0
+IsSet flags dev = slice_get flags dev ≡ Some true
+
+-- A crash leaves each of the first so many devices whose flag isn't set as it is read.
 abbrev pub AreFlushed : ℕ → List Bool → List Disk → Type 0
-AreFlushed mirrors flags disks = (dev : ℕ) → dev < mirrors → slice_get flags dev ≡ Some false → IsSettled disks dev
+AreFlushed mirrors flags disks = (dev : ℕ) → dev < mirrors → ¬ IsSet flags dev → IsSettled disks dev
 
 -- flags, of which the first so many are set
 abbrev pub with_flags : ℕ → List Bool → List Bool

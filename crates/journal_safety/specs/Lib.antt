@@ -4,3 +4,5 @@ pub mod Safety
 pub mod Parts
 pub mod Flushes
 pub mod Elsewhere
+pub mod CallLaws
+pub mod NodeWritings

@@ -1,5 +1,5 @@
 -- What stands on the devices while the next entry of the journal is written.
-use Rattle.std.specs.Prelude.{◌≡◌, ◌⊎◌, ℕ, ◌+◌, ◌<◌, ◌≤◌, List, length, All, IsTrue, Option, Some, IfSome, Ok}
+use Rattle.std.specs.Prelude.{◌≡◌, ◌⊎◌, ℕ, ◌+◌, ◌<◌, ◌≤◌, List, length, All, IsTrue, Option, Some, IfSome, Ok, slice_index_or}
 use Rattle.dev_model.specs.Devices.{DevicesState, now}
 use Rattle.dev_model.specs.Disk.{Disk, Image, IsCrashImage, IsDisk, as_read, block_at}
 use Rattle.dev_model.specs.HeldBlocks.{HasNoChanceMatch, HaveHeld}
@@ -9,6 +9,7 @@ use Rattle.image_view.specs.Found.{Found, IsInOrder, found, node_places}
 use Rattle.image_view.specs.NextEntries.{AreNumberedBelow}
 use Rattle.journal_ring.specs.Parts.{area_of}
 use Rattle.key_meaning.specs.Checks.{AreNodesPlaced}
+use Rattle.replay.specs.Mending.{StandsOnAll}
 use Rattle.vol_types.specs.declared.layout.Layout.{Layout}
 use Rattle.journal_safety.specs.Writings.{HoldParts, IsAsked, IsWriting, IsWritingBlock, Writing}
 
@@ -28,13 +29,15 @@ HoldKnown layout image writing disks =
     (dev place : ℕ) (bytes : List ℕ) → dev < layout.metadata_replicas → place < layout.journal → IsTrue (opens bytes) → HaveHeld disks dev (16 + place) bytes
     → (block_at image dev (16 + place) ≡ Some bytes) ⊎ IsWritingBlock layout writing dev (16 + place) bytes
 
--- What stands on the devices now. This was found in the image that they held when the last durable entry became so, and it is in order
--- there. Of an entry that is written behind it so many parts were asked for, of which so many stand. What a crash leaves agrees with the
--- image but at the places of the parts that were asked for. And where no torn block opens by chance in what was read from the first
--- moment on, the disks have held no block of an entry but of those that stand in the image and of the one that is written.
+-- What stands on the devices now. This was found in the image that they held when the last durable entry became so, it is in order
+-- there, and each needed entry stands there on every metadata device. Of an entry that is written behind it so many parts were asked
+-- for, of which so many stand. What a crash leaves agrees with the image but at the places of the parts that were asked for. And where no
+-- torn block opens by chance in what was read from the first moment on, the disks have held no block of an entry but of those that stand
+-- in the image and of the one that is written.
 pub record StandsOn (f : Found) (image : Image) (writing : Option Writing) (asked written first : ℕ) (state : DevicesState) : Type 0 where
   pub finds : found image ≡ Ok f
   pub in_order : IsInOrder f image
+  pub whole : (index : ℕ) → index < length f.needed → StandsOnAll f.layout image (slice_index_or f.needed index f.last)
   pub placed : AreNodesPlaced (node_places f) f.layout
   pub numbered : AreNumberedBelow f.layout f.session f.last.end (area_of image)
   pub is : IfSome writing (IsWriting f image)

@@ -3,5 +3,7 @@
 #![tactic(auto)]
 
 mod laws;
+mod node_laws;
 
 pub use laws::{entries_are_written_safely, flushed_devices_are_settled};
+pub use node_laws::entries_with_new_nodes_are_written_safely;

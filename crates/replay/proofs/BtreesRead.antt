@@ -1,9 +1,9 @@
 -- Btrees that were read are those of a key map: the nodes of each are a tree, whose leaves cut its keys.
-use Rattle.std.proofs.Common.{◌≡◌, ℕ, zero, suc, ◌+◌, ◌-◌, ◌<◌, ◌≤◌, ⊎_elim, List, [], ◌∷◌, ◌++◌, length, map, Some, Result, Ok, get_or, refl, sym, ap, subst, ◌∙◌, arith}
-use Rattle.std.specs.List.{AllByRecursion, flat_map}
+use Rattle.std.proofs.Common.{◌≡◌, ℕ, zero, suc, ◌+◌, ◌-◌, ◌<◌, ◌≤◌, ⊎_elim, List, [], ◌∷◌, ◌++◌, length, map, Option, Some, Result, Ok, get_or, refl, sym, ap, subst, ◌∙◌, arith}
+use Rattle.std.specs.List.{AllByRecursion, flat_map, zip}
 use Rattle.std.specs.List.Sorted.{IsStrictlySortedBy}
 use Rattle.std.specs.Map.{keys_of, values_of}
-use Rattle.std.specs.Prelude.{All, is_some, slice_get}
+use Rattle.std.specs.Prelude.{All, is_some, option_map, slice_get}
 use Rattle.std.proofs.lemmas.Bool.{cases_lt, true≢false}
 use Rattle.std.proofs.lemmas.List.{get_or_append_left, get_or_past, get_or_push, length-append}
 use Rattle.std.proofs.lemmas.List.Elements.{All-cons, All-nil}
@@ -216,6 +216,13 @@ root_at (a ∷ b ∷ c ∷ d ∷ e ∷ f ∷ g ∷ h ∷ i ∷ []) nine are Back
 root_at (a ∷ b ∷ c ∷ d ∷ e ∷ f ∷ g ∷ h ∷ i ∷ []) nine are Deleted = (h, refl, are 7 a (omega arith))
 root_at (a ∷ b ∷ c ∷ d ∷ e ∷ f ∷ g ∷ h ∷ i ∷ []) nine are Counters = (i, refl, are 8 a (omega arith))
 
+-- what stands behind a pair of two lists is of the second one
+second_at : {A B : Type 0} (xs : List A) (ys : List B) (place : ℕ) (pair : A × B) → slice_get (zip xs ys) place ≡ Some pair → slice_get ys place ≡ Some pair.1
+second_at [] ys place pair at = absurd cc
+second_at (x ∷ xs) [] place pair at = absurd cc
+second_at {A} {B} (x ∷ xs) (y ∷ ys) zero pair at = ap (λ (o : Option (A × B)). option_map (λ (p : A × B). p.1) o) at
+second_at (x ∷ xs) (y ∷ ys) (suc place) pair at = second_at xs ys place pair at
+
 nine_pairs : (roots : List NodePtr) → length roots ≡ 9 → length (with_roots roots) ≡ 9
 nine_pairs [] nine = absurd (omega (arith, nine))
 nine_pairs (a ∷ []) nine = absurd (omega (arith, nine))
@@ -227,6 +234,10 @@ nine_pairs (a ∷ b ∷ c ∷ d ∷ e ∷ f ∷ []) nine = absurd (omega (arith,
 nine_pairs (a ∷ b ∷ c ∷ d ∷ e ∷ f ∷ g ∷ []) nine = absurd (omega (arith, nine))
 nine_pairs (a ∷ b ∷ c ∷ d ∷ e ∷ f ∷ g ∷ h ∷ []) nine = absurd (omega (arith, nine))
 nine_pairs (a ∷ b ∷ c ∷ d ∷ e ∷ f ∷ g ∷ h ∷ i ∷ more) nine = refl
+
+-- Each btree has a root among nine.
+pub root_of : (roots : List NodePtr) → length roots ≡ 9 → All IsNode roots → (btree : Btree) → (root : NodePtr) × (slice_get roots (btree_code btree) ≡ Some root)
+root_of roots nine are btree = let root = root_at roots nine are btree in (root.0, second_at all_btrees roots (btree_code btree) (btree, root.0) root.1)
 
 levels_at : (btrees : List BtreeRead) (place : ℕ) → get_or (map (λ (btree : BtreeRead). btree.levels) btrees) place [] ≡ (get_or btrees place no_btree).levels
 levels_at [] place = refl
@@ -256,6 +267,14 @@ module _ (sets : SetsOf) (updates : List Update) (sound : AreSound sets) (may : 
       let root = root_at roots nine are btree in
       let read = each-at (btree_of sets updates) (with_roots roots) btrees no_btree (btree_code btree) (btree, root.0) is root.1 in
       tree_down btree root.0 (get_or btrees (btree_code btree) no_btree) (down_is sets updates sound may btree root.0.level ((greatest_pos, root.0) ∷ []) (get_or btrees (btree_code btree) no_btree) (root_level root.0 root.2) read)
+
+  -- Each btree that was read has the levels up to its root's.
+  pub each_height : (btrees : List BtreeRead) → each_of (btree_of sets updates) (with_roots roots) ≡ Ok btrees → (btree : Btree) → (root : NodePtr) × (slice_get roots (btree_code btree) ≡ Some root) × (length (levels_of (joined btrees).nodes btree) ≡ suc root.level)
+  each_height btrees is btree =
+      let root = root_at roots nine are btree in
+      let read = each-at (btree_of sets updates) (with_roots roots) btrees no_btree (btree_code btree) (btree, root.0) is root.1 in
+      let down = down_is sets updates sound may btree root.0.level ((greatest_pos, root.0) ∷ []) (get_or btrees (btree_code btree) no_btree) (root_level root.0 root.2) read in
+      (root.0, second_at all_btrees roots (btree_code btree) (btree, root.0) root.1, ap length (levels_at btrees (btree_code btree)) ∙ down.count)
 
   -- So all are those of a key map.
   pub joined_are : (btrees : List BtreeRead) → each_of (btree_of sets updates) (with_roots roots) ≡ Ok btrees → IsTrees (trees_read (joined btrees))

@@ -1,12 +1,12 @@
 -- What is found in an image is a key map: its newest entry has a root for each btree, its needed entries have updates that may be made,
 -- and the sets of each node come to what may be its entries.
-use Rattle.std.proofs.Common.{◌≡◌, ℕ, zero, suc, ◌-◌, ◌<◌, List, [], ◌∷◌, ◌++◌, length, map, Option, Some, None, Result, Ok, Err, get_or, refl, sym, ap, subst, arith}
+use Rattle.std.proofs.Common.{◌≡◌, ℕ, zero, suc, ◌-◌, ◌<◌, List, [], ◌∷◌, ◌++◌, length, map, Option, Some, None, Result, Ok, Err, get_or, refl, sym, ap, subst, ◌∙◌, arith}
 use Rattle.std.specs.List.{AllByRecursion, flat_map}
 use Rattle.std.specs.Option.{option_map_or}
-use Rattle.std.specs.Prelude.{All}
+use Rattle.std.specs.Prelude.{All, slice_get}
 use Rattle.std.proofs.lemmas.List.{length-append}
 use Rattle.std.proofs.lemmas.List.Elements.{All-append, All-head, All-nil, All-tail, recursion_from_All}
-use Rattle.birth_index.specs.Births.{BirthsDiffer}
+use Rattle.birth_index.specs.Births.{BirthsDiffer, levels_of}
 use Rattle.btree_map.specs.Trees.{IsTrees}
 use Rattle.dev_model.specs.Disk.{Image, block_at}
 use Rattle.geometry.specs.LayoutFacts.{has_places}
@@ -31,14 +31,16 @@ use Rattle.sealed_block.specs.Blocks.{Opens}
 use Rattle.sealed_block.specs.Opening.{opened, payload_in}
 use Rattle.sealed_block.specs.Records.{IsRecord}
 use Rattle.sealed_block.specs.declared.heads.Head.{Head}
+use Rattle.vol_types.specs.Btrees.{btree_code}
 use Rattle.vol_types.specs.Ranges.{IsNode}
 use Rattle.vol_types.specs.Widths.{AreBytes}
 use Rattle.vol_types.specs.declared.keys.Update.{Update}
 use Rattle.vol_types.specs.declared.layout.Layout.{Layout}
 use Rattle.vol_types.specs.declared.pointers.NodePtr.{NodePtr}
 use Rattle.vol_types.specs.declared.pointers.Place.{Place}
+use Rattle.vol_types.specs.declared.positions.Btree.{Btree}
 use Rattle.replay.specs.Volumes.{trees_read}
-use Rattle.replay.proofs.BtreesRead.{joined_are}
+use Rattle.replay.proofs.BtreesRead.{each_height, joined_are}
 use Rattle.replay.proofs.Contents.{content_sound, read_all}
 use Rattle.replay.proofs.LevelsRead.{AreSound, IsSoundUpdate, head_of}
 use Rattle.replay.proofs.OwnBirths.{births_differ}
@@ -59,6 +61,19 @@ trees_are sets updates roots read sound may nine are is =
       subst (λ (r : TreesRead). IsTrees (trees_read r)) own.1 (joined_are sets updates sound may roots nine are btrees.0 btrees.1),
       subst (λ (r : TreesRead). BirthsDiffer r.nodes) own.1 (births_differ (joined btrees.0).nodes own.0),
     )
+  where
+    with_own_trees : List BtreeRead → Result TreesRead Place
+    with_own_trees btrees = with_own_births (joined btrees)
+
+-- Each btree that was read has the levels up to its root's.
+pub heights_are : (sets : SetsOf) (updates : List Update) (roots : List NodePtr) (read : TreesRead) → AreSound sets → AllByRecursion IsSoundUpdate updates → length roots ≡ 9 → All IsNode roots → trees_of sets updates roots ≡ Ok read
+    → (btree : Btree) → (root : NodePtr) × (slice_get roots (btree_code btree) ≡ Some root) × (length (levels_of read.nodes btree) ≡ suc root.level)
+unfolding trees_of
+heights_are sets updates roots read sound may nine are is btree =
+    let btrees = bind_ok (each_of (btree_of sets updates) (with_roots roots)) with_own_trees read is in
+    let own = own_births (first_twin (nodes_of (joined btrees.0).nodes)) (joined btrees.0) read btrees.2 in
+    let height = each_height sets updates sound may roots nine are btrees.0 btrees.1 btree in
+    (height.0, height.1, ap (λ (r : TreesRead). length (levels_of r.nodes btree)) (sym own.1) ∙ height.2)
   where
     with_own_trees : List BtreeRead → Result TreesRead Place
     with_own_trees btrees = with_own_births (joined btrees)
@@ -135,18 +150,37 @@ module _ (whole : AreWhole) (made_of : AreMadeOf) (sealed : AreSealed) (exact_en
 
   -- ---- what is found
 
-  -- What is found in an image is a key map.
-  pub found_are : (image : Image) (f : Found) → found image ≡ Ok f → IsTrees (trees_read f.trees) × BirthsDiffer f.trees.nodes
-  found_are image f is =
+  -- What is found in an image was read of entries that are in the grammar.
+  record WasRead (image : Image) (f : Found) : Type 0 where
+    pub entries : All (IsWhole f.layout (area_of image)) f.needed
+    pub newest : IsEntry f.last.entry
+    pub may : AllByRecursion IsSoundUpdate (updates_of f.needed)
+
+  was_read : (image : Image) (f : Found) → found image ≡ Ok f → WasRead image f
+  was_read image f is =
       let new = found-newest image f is in
       let places = has_places (map (λ blocks. length blocks) image) f.layout (layout_fits image f.layout (found-layout image f is)) in
       let some : 0 < f.layout.journal = let least = places.least in omega (arith, least) in
       let all = whole f.layout (area_of image) f.last f.needed some new.last new.needed in
       let last = last_whole (entries_from (counting f.layout (area_of image)) f.last.entry.oldest (f.last.entry.sequence - f.last.entry.oldest)) f.last.entry.sequence f.last f.needed (IsWhole f.layout (area_of image)) new.needed all in
-      let entry = whole_is_entry f.layout (area_of image) f.last last in
       let may = updates_may f.layout (area_of image) f.needed (recursion_from_All (IsWhole f.layout (area_of image)) f.needed all) in
-      trees_are (sets_in f.layout image) (updates_of f.needed) f.last.entry.roots f.trees (sets_sound f.layout image) (recursion_from_All IsSoundUpdate (updates_of f.needed) may)
-      entry.in_range.all_roots entry.in_range.roots (found-trees image f is)
+      record { entries = all; newest = whole_is_entry f.layout (area_of image) f.last last; may = recursion_from_All IsSoundUpdate (updates_of f.needed) may }
+
+  -- What is found in an image is a key map.
+  pub found_are : (image : Image) (f : Found) → found image ≡ Ok f → IsTrees (trees_read f.trees) × BirthsDiffer f.trees.nodes
+  found_are image f is =
+      let read = was_read image f is in
+      trees_are (sets_in f.layout image) (updates_of f.needed) f.last.entry.roots f.trees (sets_sound f.layout image) read.may read.newest.in_range.all_roots read.newest.in_range.roots (found-trees image f is)
+
+  -- Each of its btrees has the levels up to the root's that the newest entry names.
+  pub found_heights : (image : Image) (f : Found) → found image ≡ Ok f → (btree : Btree) → (root : NodePtr) × (slice_get f.last.entry.roots (btree_code btree) ≡ Some root) × (length (levels_of f.trees.nodes btree) ≡ suc root.level)
+  found_heights image f is =
+      let read = was_read image f is in
+      heights_are (sets_in f.layout image) (updates_of f.needed) f.last.entry.roots f.trees (sets_sound f.layout image) read.may read.newest.in_range.all_roots read.newest.in_range.roots (found-trees image f is)
+
+  -- Its needed entries are in the grammar.
+  pub found_entries : (image : Image) (f : Found) → found image ≡ Ok f → All (λ (e : FoundEntry). IsEntry e.entry) f.needed
+  found_entries image f is = λ k d lt. whole_is_entry f.layout (area_of image) (get_or f.needed k d) ((was_read image f is).entries k d lt)
 
 -- Its newest entry is one of those that are needed.
 pub found_some : (image : Image) (f : Found) → found image ≡ Ok f → 0 < length f.needed

@@ -3,6 +3,7 @@ mod LevelsRead
 mod BtreesRead
 mod OwnBirths
 mod FoundKeys
+mod ChangedNodes
 mod Made
 mod Making
 mod Loading

@@ -3,3 +3,4 @@ pub mod Answers
 pub mod Beginning
 pub mod Mending
 pub mod Opening
+pub mod NodeUpdates

@@ -1,8 +1,9 @@
-ghost use Rattle.std.specs.Prelude.{◌≡◌, ◌<◌, Ok, length};
+ghost use Rattle.std.specs.Prelude.{◌≡◌, ◌↔◌, ◌<◌, All, Ok, length};
 ghost use Rattle.birth_index.specs.Births.{BirthsDiffer};
 ghost use Rattle.btree_map.specs.Trees.{IsTrees, keys_in};
 ghost use Rattle.dev_model.specs.Disk.{Image};
-ghost use Rattle.image_view.specs.Found.{Found, found};
+ghost use Rattle.image_view.specs.Found.{Found, IsInOrder, found};
+ghost use Rattle.replay.specs.NodeUpdates.{ChangesNode, EachUpdate, HaveRisen, IsBelowRoot};
 ghost use Rattle.replay.specs.Volumes.{trees_read};
 
 use journal_ring::{leading_entries_are_needed, whole_entries_are_made_of_blocks};
@@ -18,6 +19,24 @@ pub fn found_btrees_are_a_key_map()
     ensures births { (image : Image) (f : Found) → found image ≡ Ok f → BirthsDiffer f.trees.nodes }
     ensures keys { (image : Image) (f : Found) → found image ≡ Ok f
         → keys_in (trees_read f.trees) ≡ f.trees.keys }
+{
+    leading_entries_are_needed();
+    whole_entries_are_made_of_blocks();
+    entries_are_exact();
+    sets_are_exact();
+    opened_blocks_are_sealed();
+}
+
+/// Each update of the needed entries changes a node that was found, exactly where it isn't above the root that the newest entry
+/// names. So those of keys in leaves do, and, of what is in order, all those of an entry that names no higher root than the newest
+/// one. An older entry with a higher root may have updates of a level that there isn't any more, and these change none.
+pub fn updates_change_nodes()
+    ensures exact { (image : Image) (f : Found) → found image ≡ Ok f
+        → EachUpdate f (λ update. ChangesNode f.trees.nodes update ↔ IsBelowRoot f.last.entry.roots update) }
+    ensures leaves { (image : Image) (f : Found) → found image ≡ Ok f
+        → EachUpdate f (λ update. update.level ≡ 0 → ChangesNode f.trees.nodes update) }
+    ensures in_order { (image : Image) (f : Found) → found image ≡ Ok f → IsInOrder f image
+        → All (λ needed. HaveRisen needed.entry.roots f.last.entry.roots → All (ChangesNode f.trees.nodes) needed.entry.updates) f.needed }
 {
     leading_entries_are_needed();
     whole_entries_are_made_of_blocks();

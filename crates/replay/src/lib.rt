@@ -17,7 +17,7 @@ mod reading;
 mod volume;
 
 pub use beginning::{BeginFault, begin_session};
-pub use laws::found_btrees_are_a_key_map;
+pub use laws::{found_btrees_are_a_key_map, updates_change_nodes};
 pub use mending::mend_journal;
 pub use opening::{begin_and_mend, open_volume};
 pub use reading::load;

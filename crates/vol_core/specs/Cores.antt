@@ -8,6 +8,8 @@ use Rattle.core_memory.specs.declared.answer.Answer.{Answer}
 use Rattle.core_memory.specs.declared.event.Event.{Event}
 use Rattle.core_memory.specs.declared.event.Event.TheVariants as events
 use Rattle.geometry.specs.Layouts.{is_layout_of}
+use Rattle.image_view.specs.Found.{Found}
+use Rattle.vol_core.specs.Safety.{KeepsSafe}
 
 -- what is in memory, and the devices
 pub record CoreState (D : Type 0) : Type 0 where
@@ -17,6 +19,11 @@ pub record CoreState (D : Type 0) : Type 0 where
 -- The volume lies on devices of these sizes.
 abbrev pub LiesOn : List ℕ → State → Type 0
 LiesOn sizes memory = is_layout_of sizes memory.volume.layout ≡ true
+
+-- What is kept of an open volume: it lies on its devices, and is safe on them.
+pub record IsCore (tells : Type 0) (begun : Found) (start state : DevicesState) (memory : State) : Type 0 where
+  pub lies : LiesOn state.sizes memory
+  pub safe : KeepsSafe tells begun start state memory.volume
 
 -- An actor's event is answered and changes what is in memory as its row says. A part of an entry is written, and a device is
 -- flushed, as these events say; with every other event no device is called.

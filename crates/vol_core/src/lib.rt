@@ -1,18 +1,17 @@
 //! The core of an open volume: what it keeps in memory, and the devices on which it lies.
 //!
 //! All that happens to it is an event of an actor, one at a time. Those that are there look at keys and commit updates in memory,
-//! and call no device. Those that write the journal and the nodes, and that reserve, write and read blocks of files, are to come;
-//! so nothing that is committed is durable yet.
+//! and call no device. Others write the entries of the journal, in which what was committed is durable. Those that write nodes, and
+//! that reserve, write and read blocks of files, are to come.
+//!
+//! Whatever a crash leaves of the devices means what some entry led to, and none before the last that was durable by then.
 #![tactic(auto)]
 
 mod machine;
+mod opening;
 
 pub use core_memory::{
     Actor, Answer, Durable, Event, Failure, Halt, Memory, NoSpace, Refusal, Stage, Work,
 };
 pub use machine::{Core, Unopened};
-
-#[cfg(test)]
-mod images;
-#[cfg(test)]
-mod tests;
+pub use opening::Opening;

@@ -5,20 +5,30 @@ ghost use Rattle.core_memory.specs.States.{mine};
 ghost use Rattle.geometry.specs.Layouts.{is_layout_of};
 ghost use Rattle.image_view.specs.Found.{node_places};
 ghost use Rattle.replay.specs.Volumes.{found_in};
+ghost use Rattle.dev_model.specs.Devices.{now};
 ghost use Rattle.vol_core.specs.Cores.{StepGives};
+ghost use Rattle.vol_core.specs.Safety.{KeepsSafe, MayBegin, Survives};
 ghost use Rattle.vol_types.specs.Layouts.{is_layout};
 
+use crate::opening::Opening;
 use core_memory::{Answer, Event, Memory, node_places};
 use dev_model::Devices;
-use replay::Loaded;
+use entry_queue::waiting_changes_lead_from_durable_keys;
+use image_view::{needed_entries_are_counted, updates_of_leaves_join_the_keys};
+use journal_safety::{entries_are_written_safely, flushed_devices_are_settled};
+use replay::{Loaded, updates_change_nodes};
 use std::alloc::{AllocError, Global};
-use std::marker::Model;
+use std::marker::{Model, PhantomData};
 
 /// An open volume. It may be sent to another thread.
+///
+/// Its type keeps what the session promises: whatever a crash has left of the devices since the volume was opened means
+/// what some entry of the journal led to, and none before the last that was durable by then (`survives`).
 #[derive(Drop)]
-pub struct Core<D: Devices> {
+pub struct Core<D: Devices, O: Opening> {
     memory: Memory,
     devices: D,
+    opening: PhantomData<O>,
 }
 
 /// The devices of a volume that isn't open, since there was no memory.
@@ -27,28 +37,40 @@ pub struct Unopened<D> {
     pub devices: D,
 }
 
-impl<D: Devices> Model for Core<D> {
-    ghost use Rattle.vol_core.specs.Cores.{CoreState, LiesOn};
+impl<D: Devices, O: Opening> Model for Core<D, O> {
+    ghost use Rattle.vol_core.specs.Cores.{CoreState, IsCore};
 
     ghost Value = { CoreState D };
 
     ghost view = { λ c. record { memory = c.memory; devices = c.devices } };
 
-    ghost invariant = { λ c. LiesOn (D.state c.devices).sizes c.memory };
+    ghost invariant = { λ c. IsCore D.tells O.found O.start (D.state c.devices) c.memory };
 }
 
-impl<D: Devices> Core<D> {
+impl<D: Devices, O: Opening> Core<D, O> {
     /// A volume that was loaded from devices, before any event. No device is called. It costs a logarithm for each node, some for
     /// each update of the needed entries, and goes over all buckets and snapshot ids. An `Err` is out of memory.
-    pub fn of(alloc: Global, loaded: Loaded, devices: D) -> Result<Core<D>, Unopened<D>>
-        requires { is_layout_of (D.state devices).sizes loaded.layout ≡ true }
+    pub fn of(alloc: Global, loaded: Loaded, devices: D) -> Result<Core<D, O>, Unopened<D>>
+        requires layout { is_layout_of (D.state devices).sizes loaded.layout ≡ true }
+        requires opening { found_in loaded ≡ O.found }
+        requires start { D.state devices ≡ O.start }
         ensures opened { IfOk result (λ core. IsOpened loaded.layout loaded.session loaded.map
             loaded.needed (node_places (found_in loaded)) core.memory) }
         ensures devices { IfOk result (λ core. core.devices ≡ devices) }
         ensures err { IfErr result (λ unopened. unopened.devices ≡ devices) }
     {
+        entries_are_written_safely();
+        flushed_devices_are_settled();
+        updates_of_leaves_join_the_keys();
+        needed_entries_are_counted();
+        updates_change_nodes();
+        waiting_changes_lead_from_durable_keys();
         match memory_of(alloc, loaded) {
-            Ok(memory) => Ok(Core { memory, devices }),
+            Ok(memory) => Ok(Core {
+                memory,
+                devices,
+                opening: PhantomData,
+            }),
             Err(_) => Err(Unopened { devices }),
         }
     }
@@ -60,10 +82,16 @@ impl<D: Devices> Core<D> {
         &self.memory
     }
 
-    /// The devices on which it lies.
+    /// The devices on which it lies. Where they tell what they hold, and the volume was found in order with its journal mended,
+    /// whatever a crash has left of them since then means what some entry led to, and none before the last that was durable
+    /// by that moment.
     pub fn devices(&self) -> &D
-        ensures { result.now ≡ self.now.devices }
+        ensures devices { result.now ≡ self.now.devices }
+        ensures safe { KeepsSafe D.tells O.found O.start (D.state result.now) self.now.memory.volume }
+        ensures survives { D.tells → MayBegin O.found (now O.start)
+            → Survives O.found O.start (D.state result.now) self.now.memory.volume }
     {
+        entries_are_written_safely();
         &self.devices
     }
 
@@ -89,11 +117,28 @@ impl<D: Devices> Core<D> {
         ensures others { (other : ℕ) → other ≢ actor → mine self.new.memory other
             ≡ mine self.old.memory other }
     {
-        match event {
-            Event::WriteEntry => self.memory.write_entry(&mut self.devices, actor),
-            Event::Flush(dev) => self.memory.flush_device(&mut self.devices, actor, dev),
-            event => self.memory.step(actor, event),
-        }
+        entries_are_written_safely();
+        flushed_devices_are_settled();
+        updates_of_leaves_join_the_keys();
+        waiting_changes_lead_from_durable_keys();
+        self.memory.see_kept();
+        make(&mut self.memory, &mut self.devices, actor, event)
+    }
+}
+
+// Makes an event of an actor, and answers it.
+fn make<D: Devices>(memory: &mut Memory, devices: &mut D, actor: u8, event: Event) -> Answer
+    requires fits { Fits memory.old actor event }
+    requires layout { is_layout_of (D.state devices.old).sizes memory.old.volume.layout ≡ true }
+    ensures gives { StepGives D.tells D.state (record { memory = memory.old; devices = devices.old })
+        actor event result (record { memory = memory.new; devices = devices.new }) }
+    ensures layout { is_layout_of (D.state devices.new).sizes memory.new.volume.layout ≡ true }
+    ensures others { (other : ℕ) → other ≢ actor → mine memory.new other ≡ mine memory.old other }
+{
+    match event {
+        Event::WriteEntry => memory.write_entry(devices, actor),
+        Event::Flush(dev) => memory.flush_device(devices, actor, dev),
+        event => memory.step(actor, event),
     }
 }
 

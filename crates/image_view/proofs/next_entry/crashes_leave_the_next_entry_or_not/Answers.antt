@@ -29,7 +29,7 @@ returns c =
       so_long = c.entry_lengths.ensures;
     } in
     record {
-      base = λ one other f passed next count is order placed is_next few lengths elsewhere. base_stays laws one f is order passed next is_next placed other lengths count few elsewhere;
+      base = λ one other f passed next count is order placed is_next few lengths elsewhere. base_stays laws one f is order passed next is_next other lengths count few elsewhere placed;
       held = λ one other f disks passed next blocks is order is_next sealed hold told. held_or_next laws f passed next is_next blocks sealed one order (some_places read one f is) told disks hold other;
       newest = either_newest newest_laws;
       found = either_found newest_laws;

@@ -1,0 +1,14 @@
+pub mod Chains
+pub mod CoreLaws
+pub mod Joined
+pub mod LeastPins
+pub mod NeededEntries
+pub mod Opened
+pub mod Roots
+pub mod Sealed
+pub mod Settled
+pub mod Stages
+pub mod Stepped
+pub mod Surviving
+pub mod Written
+pub mod ChangedNodes

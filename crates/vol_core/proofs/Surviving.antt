@@ -1,0 +1,34 @@
+-- What a crash leaves of a safe core.
+use Rattle.std.proofs.Common.{◌<◌, ℕ, List, Option, length, slice_index_or, sym, subst}
+use Rattle.core_memory.specs.Volumes.{Volume}
+use Rattle.dev_model.specs.Devices.{DevicesState, now}
+use Rattle.dev_model.specs.Disk.{Image, IsCrashImage}
+use Rattle.journal_safety.specs.Safety.{IsJournalSafe}
+use Rattle.journal_safety.specs.Writings.{Writing}
+use Rattle.image_view.specs.Found.{Found}
+use Rattle.replay.specs.Mending.{IsUntorn, StandsOnAll}
+use Rattle.vol_types.specs.declared.layout.Layout.{Layout}
+use Rattle.vol_core.specs.Safety.{IsCoreSafe, Survives}
+use Rattle.vol_core.proofs.Chains.{last_durable}
+
+-- whatever a crash leaves now of a safe journal, each entry that the last durable one needs stands on every metadata device
+abbrev pub StandsWhole : Type 0
+StandsWhole =
+    (f : Found) (image : Image) (writing : Option Writing) (asked written : ℕ) (bases : List Found) (durable : List ℕ) (first : ℕ) (state : DevicesState) → IsJournalSafe f image writing asked written bases durable first state
+    → (other : Image) → IsCrashImage (now state) other → (index : ℕ) → index < length f.needed → StandsOnAll f.layout other (slice_index_or f.needed index f.last)
+
+pub survives : StandsWhole → (begun : Found) (start state : DevicesState) (volume : Volume) → IsCoreSafe begun start state volume → Survives begun start state volume
+survives stands begun start state volume kept = record {
+  bases = kept.bases;
+  durable = kept.durable;
+  begins = kept.begins;
+  chain = kept.chain;
+  each = λ moment from to image may untorn. kept.safe.safe.each moment from to image may (subst (λ (layout : Layout). IsUntorn layout start.moment moment state image) (sym kept.known.layout) untorn);
+  past = kept.past;
+  last = kept.f;
+  last_is = last_durable kept.f kept.writing kept.bases kept.durable kept.safe.bases_are;
+  commits = kept.known.commits;
+  whole = λ image may index within.
+      subst (λ (layout : Layout). StandsOnAll layout image (slice_index_or kept.f.needed index kept.f.last)) kept.known.layout
+      (stands kept.f kept.image kept.writing kept.asked kept.written kept.bases kept.durable start.moment state kept.safe image may index within);
+}

@@ -1,0 +1,11 @@
+use Rattle.std.proofs.Common.{◌≡◌, subst}
+use Rattle.core_memory.specs.Volumes.{Volume}
+use Rattle.vol_core.specs.Safety.{Survives}
+use Rattle.vol_core.proofs.Surviving.{survives}
+use Rattle.vol_core.proofs.machine.Core.devices.Goals as goal
+
+pub returns-clause-survives : goal.returns-clause-survives
+returns-clause-survives g c = λ tells begins.
+    let same : c.self.inside.memory.volume ≡ c.args.self.now.memory.volume = λ i. (c.self.view_is i).memory.volume in
+    subst (λ (volume : Volume). Survives g.O.Opening.found g.O.Opening.start (g.D.Devices.state c.self.inside.devices) volume) same
+    (survives c.entries_are_written_safely.ensures.whole g.O.Opening.found g.O.Opening.start (g.D.Devices.state c.self.inside.devices) c.self.inside.memory.volume (c.self.invariant.safe tells begins))

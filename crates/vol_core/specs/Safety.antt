@@ -1,0 +1,100 @@
+-- What a session keeps of its volume on the devices: whatever a crash has left since it began means what some entry led to, and what is in
+-- memory is what the last durable one means, with the changes that aren't durable yet.
+use Rattle.std.specs.Prelude.{◌≡◌, ◌<◌, ◌≤◌, ◌+◌, ℕ, Option, Some, List, [], ◌∷◌, ◌++◌, All, length, slice_get, slice_index_or, ⊤}
+use Rattle.btree_map.specs.Trees.{keys_in}
+use Rattle.core_memory.specs.Volumes.{Volume, changes_in}
+use Rattle.dev_model.specs.Devices.{DevicesState, now}
+use Rattle.dev_model.specs.Disk.{Disk, Image, IsCrashImage}
+use Rattle.entry_queue.specs.Changes.{LeadTo}
+use Rattle.entry_queue.specs.Queues.{waiting}
+use Rattle.image_view.specs.Found.{Found}
+use Rattle.image_view.specs.UpdatedTrees.{IsOfLeaf, with_key_updates}
+use Rattle.journal_safety.specs.Flushes.{AreFlushed}
+use Rattle.journal_safety.specs.Safety.{IsJournalSafe, MeansOneOf}
+use Rattle.journal_safety.specs.Writings.{Writing, after}
+use Rattle.plain_reader.specs.Volumes.{no_entry}
+use Rattle.vol_types.specs.KeyMaps.{key_map}
+use Rattle.pin_list.specs.Pins.{least_pin}
+use Rattle.replay.specs.Mending.{IsReady, IsUntorn, StandsOnAll}
+use Rattle.vol_core.specs.Entries.{AreBelowRoots, AreIdleBelow, AreInLeaves, AreStarts, FliesAs, IsKnown, entries_with}
+
+-- what is found where there is nothing
+abbrev pub nothing_found : Found
+nothing_found = record {
+  layout = record { id = []; blocks = []; journal = 0; metadata_replicas = 0; data_replicas = 0 };
+  session = 0;
+  last = no_entry;
+  needed = [];
+  trees = record { keys = key_map (λ _. []); nodes = []; ends = [] };
+}
+
+-- The second of two bases is the first one with the next entry, whose updates are of keys in leaves: it has the keys of the first one
+-- with these updates.
+pub record IsLed (one other : Found) : Type 0 where
+  pub w : Writing
+  pub is : other ≡ after w one
+  pub sequence : w.next.entry.sequence ≡ one.last.entry.sequence + 1
+  pub leaves : All IsOfLeaf w.next.entry.updates
+  pub trees : w.trees ≡ with_key_updates w.next.entry.updates one.trees
+
+-- An entry leads from each of these bases to the one behind it.
+abbrev pub AreLed : List Found → Type 0
+AreLed [] = ⊤
+AreLed (one ∷ []) = ⊤
+AreLed (one ∷ other ∷ bases) = IsLed one other × AreLed (other ∷ bases)
+
+-- None of the moments is after this one.
+abbrev pub AreUpTo : ℕ → List ℕ → Type 0
+AreUpTo moment moments = (k m : ℕ) → slice_get moments k ≡ Some m → m ≤ moment
+
+-- The session began with what was found then, when the devices showed this. The bases are what was found, and what each entry that was put
+-- in flight since led to. Of the last durable one is known what is in memory: its numbers, its nodes, where its needed entries begin, and
+-- its keys, from which the changes that aren't durable lead to those in memory. No device is held for flushed to which something was
+-- written since.
+pub record IsCoreSafe (begun : Found) (start state : DevicesState) (volume : Volume) : Type 0 where
+  pub f : Found
+  pub image : Image
+  pub writing : Option Writing
+  pub asked : ℕ
+  pub written : ℕ
+  pub bases : List Found
+  pub durable : List ℕ
+  pub safe : IsJournalSafe f image writing asked written bases durable start.moment state
+  pub begins : slice_get bases 0 ≡ Some begun
+  pub chain : AreLed bases
+  pub past : AreUpTo state.moment durable
+  pub flushed : AreFlushed volume.layout.metadata_replicas volume.writer.unsettled (now state)
+  pub flags : volume.layout.metadata_replicas ≤ length volume.writer.unsettled
+  pub known : IsKnown f volume
+  pub starts : AreStarts volume.writer.starts (entries_with writing f.needed)
+  pub first : volume.writer.ring.first ≤ (slice_index_or f.needed 0 f.last).number
+  pub lead : LeadTo (changes_in volume.writer.flight ++ waiting volume.queue) f.trees.keys (keys_in volume.trees)
+  pub leaves : AreInLeaves (waiting volume.queue)
+  pub idle : AreIdleBelow (least_pin volume.pins) f.last.entry.oldest f.needed
+  pub flying : FliesAs f volume.writer.flight writing asked written volume
+
+-- The session may begin with what was found on these disks: it is in order, the journal is mended, and none of it is of this session; and no
+-- update of its needed entries is above the root that the newest one names.
+pub record MayBegin (begun : Found) (disks : List Disk) : Type 0 where
+  pub ready : IsReady begun disks
+  pub updates : AreBelowRoots begun
+
+-- Where the devices tell what they hold, and the session may begin so, the volume is safe on them.
+abbrev pub KeepsSafe : Type 0 → Found → DevicesState → DevicesState → Volume → Type 0
+KeepsSafe tells begun start state volume = tells → MayBegin begun (now start) → IsCoreSafe begun start state volume
+
+-- What a crash leaves: at each moment since the session began it means one of the bases, the first of which is what was found then, and none
+-- before those that were durable by that moment, where no torn block of the journal areas opens by chance. An entry led from each base to the
+-- next one. The last durable one, which was durable by now, has as many commits as are told to be durable; and whatever a crash leaves
+-- now, each entry that it needs stands whole on every metadata device.
+pub record Survives (begun : Found) (start state : DevicesState) (volume : Volume) : Type 0 where
+  pub bases : List Found
+  pub durable : List ℕ
+  pub begins : slice_get bases 0 ≡ Some begun
+  pub chain : AreLed bases
+  pub each : (moment : ℕ) → start.moment ≤ moment → moment ≤ state.moment → (image : Image) → IsCrashImage (state.disks moment) image → IsUntorn volume.layout start.moment moment state image → MeansOneOf bases durable moment image
+  pub past : AreUpTo state.moment durable
+  pub last : Found
+  pub last_is : slice_get bases (length durable) ≡ Some last
+  pub commits : last.last.entry.commits ≡ volume.writer.durable.commits
+  pub whole : (image : Image) → IsCrashImage (now state) image → (index : ℕ) → index < length last.needed → StandsOnAll volume.layout image (slice_index_or last.needed index last.last)
