@@ -1,4 +1,5 @@
 mod Adding
 mod Exchanging
 mod Growing
+mod Putting
 mod Rooming

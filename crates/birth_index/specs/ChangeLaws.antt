@@ -28,11 +28,11 @@ abbrev birth_in : Option NodePtr → Option ℕ
 birth_in o = option_map (λ (node : NodePtr). node.birth) o
 
 -- the node of a name among levels
-abbrev look : Levels → NodeName → Option NodePtr
+abbrev pub look : Levels → NodeName → Option NodePtr
 look levels name = value_at pos_cmp name.greatest (level_of levels name.level)
 
 -- whether a name is that of a position of a level
-abbrev is_there : ℕ → Pos → NodeName → Bool
+abbrev pub is_there : ℕ → Pos → NodeName → Bool
 is_there level at name = (level == name.level) && is_at (pos_cmp at) name.greatest
 
 -- the birth of what was put
@@ -72,7 +72,7 @@ module _ (levels : Levels) (level : ℕ) (there : level < length levels) where
       by true is = ap (λ (k : ℕ). value_at pos_cmp name.greatest (level_of levels k)) (eqb-true level name.level is)
       by false is = refl
 
-  look-with_node : (at : Pos) (fresh : NodePtr) (name : NodeName) → look (with_node level at fresh levels) name ≡ cond (is_there level at name) (Some fresh) (look levels name)
+  pub look-with_node : (at : Pos) (fresh : NodePtr) (name : NodeName) → look (with_node level at fresh levels) name ≡ cond (is_there level at name) (Some fresh) (look levels name)
   look-with_node at fresh name = look-put at fresh (level_of levels level) name ∙ ap (cond (is_there level at name) (Some fresh)) (look-same name)
 
   look-divided : (greatest at : Pos) (first second : NodePtr) (name : NodeName)
@@ -99,11 +99,11 @@ look-under_root levels root name = by (length levels == name.level) refl
     by false is = ap (value_at pos_cmp name.greatest) (below (differ (length levels) name.level is))
 
 -- the node of a name where a btree has other levels
-abbrev beside : List Levels → Btree → Levels → NodeName → Option NodePtr
+abbrev pub beside : List Levels → Btree → Levels → NodeName → Option NodePtr
 beside nodes btree levels name = cond (btree_code btree == btree_code name.btree) (look levels name) (node_of nodes name)
 
 module _ (nodes : List Levels) (btree : Btree) where
-  node_of-set : btree_code btree < length nodes → (levels : Levels) (name : NodeName) → node_of (slice_set nodes (btree_code btree) levels) name ≡ beside nodes btree levels name
+  pub node_of-set : btree_code btree < length nodes → (levels : Levels) (name : NodeName) → node_of (slice_set nodes (btree_code btree) levels) name ≡ beside nodes btree levels name
   node_of-set there levels name = by (btree_code btree == btree_code name.btree) refl
     where
       by : (b : Bool) → (btree_code btree == btree_code name.btree) ≡ b → node_of (slice_set nodes (btree_code btree) levels) name ≡ cond b (look levels name) (node_of nodes name)
@@ -112,7 +112,7 @@ module _ (nodes : List Levels) (btree : Btree) where
           ∙ ap (λ (ls : Levels). look ls name) (get_or-set_same nodes (btree_code btree) levels [] there)
       by false is = ap (λ (ls : Levels). look ls name) (get_or-set_other nodes (btree_code btree) (btree_code name.btree) levels [] (differ (btree_code btree) (btree_code name.btree) is))
 
-  beside-same : (name : NodeName) → beside nodes btree (levels_of nodes btree) name ≡ node_of nodes name
+  pub beside-same : (name : NodeName) → beside nodes btree (levels_of nodes btree) name ≡ node_of nodes name
   beside-same name = by (btree_code btree == btree_code name.btree) refl
     where
       by : (b : Bool) → (btree_code btree == btree_code name.btree) ≡ b → cond b (look (levels_of nodes btree) name) (node_of nodes name) ≡ node_of nodes name
@@ -120,7 +120,7 @@ module _ (nodes : List Levels) (btree : Btree) where
       by false is = refl
 
   -- a node that was put among the levels is found beside the others
-  beside-put : (before after : Levels) (level : ℕ) (at : Pos) (node : NodePtr) (name : NodeName) → look after name ≡ cond (is_there level at name) (Some node) (look before name)
+  pub beside-put : (before after : Levels) (level : ℕ) (at : Pos) (node : NodePtr) (name : NodeName) → look after name ≡ cond (is_there level at name) (Some node) (look before name)
       → beside nodes btree after name ≡ cond (same_name (record { btree = btree; level = level; greatest = at }) name) (Some node) (beside nodes btree before name)
   beside-put before after level at node name put = by (btree_code btree == btree_code name.btree)
     where

@@ -1,5 +1,7 @@
 pub mod Births
 pub mod ChangeLaws
+pub mod ExchangeLaws
+pub mod Exchanges
 pub mod FindLaws
 pub mod NameLaws
 pub mod Parts

@@ -210,8 +210,8 @@ fn grown(name: &NodeName, at: &Pos, first: u64, second: u64, root: u64) -> [Name
     ]
 }
 
-// Puts a pointer in the place of that of a node.
-fn replace_in(trees: &mut Vec<TreeNodes>, name: &NodeName, fresh: NodePtr) -> NodePtr
+/// Puts a pointer in the place of that of a node. It takes no memory.
+pub(crate) fn replace_in(trees: &mut Vec<TreeNodes>, name: &NodeName, fresh: NodePtr) -> NodePtr
     requires code { btree_code name.now.btree < length trees.old.items }
     requires there { EndsAt (level_of (levels_of trees.old.items name.now.btree) name.now.level)
         name.now.greatest }

@@ -1,10 +1,11 @@
-ghost use Rattle.std.specs.Prelude.{◌≡◌, ◌≢◌, [], All, IfErr, IfOk, IsSome, None, OnErr, OnOk, Some, option_copied};
+ghost use Rattle.std.specs.Prelude.{◌≡◌, ◌≢◌, [], All, IfErr, IfOk, IsSome, None, OnErr, OnOk, Some, map, option_copied};
 ghost use Rattle.std.specs.Ordering.{nat_cmp};
 ghost use Rattle.birth_index.specs.Births.{HasCause, Index as AnIndex, IsFreeIn, IsIndex, birth_of, replaced, with_named};
-ghost use Rattle.vol_types.specs.Maps.{IsMap, value_at};
+ghost use Rattle.birth_index.specs.Exchanges.{fresh_of};
+ghost use Rattle.vol_types.specs.Maps.{IsMap, value_at, without};
 
-use crate::making::{add_all, index_of, remove_all, reuses};
-use crate::{IndexFault, Named, NodeName};
+use crate::making::{add_all, add_births, index_of, remove_all, reuses};
+use crate::{Exchange, IndexFault, Named, NodeName};
 use std::alloc::{AllocError, Global};
 use std::collections::BTreeMap;
 use std::marker::Model;
@@ -90,5 +91,21 @@ impl BirthIndex {
         if !reuses(gone, news) {
             self.names.remove(&gone);
         }
+    }
+    /// Adds the births of the pointers of changes, which are in use by no node, with the names of the nodes that are to get
+    /// them: all or none. An `Err` is out of memory, and changes nothing.
+    pub fn add_fresh(&mut self, changes: &[Exchange]) -> Result<(), AllocError>
+        requires { All (λ change. value_at nat_cmp change.pointer.birth self.old ≡ None) changes.now }
+        ensures ok { OnOk result (self.new ≡ with_named (map fresh_of changes.now) self.old) }
+        ensures err { OnErr result (self.new ≡ self.old) }
+    {
+        add_births(&mut self.names, changes)
+    }
+
+    /// Removes a birth, and leaves all others.
+    pub fn remove(&mut self, gone: u64)
+        ensures { self.new ≡ without nat_cmp gone self.old }
+    {
+        self.names.remove(&gone);
     }
 }

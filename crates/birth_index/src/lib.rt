@@ -11,11 +11,12 @@ mod laws;
 mod making;
 mod name;
 mod nodes;
+mod pointers;
 
 pub use index::BirthIndex;
-pub use laws::{births_differ, indexes_are_kept};
+pub use laws::{births_differ, exchanges_are_kept, indexes_are_kept};
 pub use making::IndexFault;
-pub use name::{Named, NodeName};
+pub use name::{Exchange, Named, NodeName};
 pub use nodes::IndexedNodes;
 
 #[cfg(test)]

@@ -1,14 +1,15 @@
-ghost use Rattle.std.specs.Prelude.{ℕ, ◌≡◌, ◌==◌, All, IfErr, IfOk, IsSome, None, OnErr, OnOk, Option, Some};
+ghost use Rattle.std.specs.Prelude.{ℕ, ◌≡◌, ◌==◌, All, IfErr, IfOk, IsSome, None, OnErr, OnOk, Option, Some, map};
 ghost use Rattle.std.specs.List.{list_any};
 ghost use Rattle.std.specs.Ordering.{nat_cmp};
 ghost use Rattle.birth_index.specs.Births.{Finds, HasCause, IsFreeIn, IsIndex, birth_of, with_named};
+ghost use Rattle.birth_index.specs.Exchanges.{fresh_of, without_births};
 ghost use Rattle.birth_index.specs.Parts.{HasNoLevel, HasNoTree, IsRefused, with_level, with_tree};
 ghost use Rattle.birth_index.specs.Rooms.{cleared};
 ghost use Rattle.birth_index.specs.declared.name.NodeName.{NodeName as ANodeName};
 ghost use Rattle.tree_nodes.specs.Levels.{IsRow};
 ghost use Rattle.vol_types.specs.Maps.{value_at, with_value};
 
-use crate::{Named, NodeName};
+use crate::{Exchange, Named, NodeName};
 use std::alloc::{AllocError, Global};
 use std::collections::BTreeMap;
 use tree_nodes::{LevelNodes, TreeNodes};
@@ -177,4 +178,34 @@ pub(crate) fn reuses(gone: u64, news: &[Named]) -> bool
     ensures { result ≡ list_any (λ new. new.birth == gone) news.now }
 {
     news.iter().any(|new| new.birth == gone)
+}
+
+/// Puts the names of nodes under the births of the pointers that they are to get, all or none. An `Err` is out of memory.
+pub(crate) fn add_births(
+    names: &mut BTreeMap<u64, NodeName>,
+    changes: &[Exchange],
+) -> Result<(), AllocError>
+    requires { All (λ change. value_at nat_cmp change.pointer.birth names.old.entries ≡ None) changes.now }
+    ensures ok { OnOk result (names.new.entries ≡ with_named (map fresh_of changes.now) names.old.entries) }
+    ensures err { OnErr result (names.new.entries ≡ names.old.entries) }
+{
+    // The births rise, as those of each map do.
+    let _ = names.len();
+    for place in 0..changes.len() {
+        let change = &changes[place];
+        if let Err(error) = put(names, change.pointer.birth, change.name) {
+            remove_births(names, &changes[..place]);
+            return Err(error);
+        }
+    }
+    Ok(())
+}
+
+// Removes the births of the pointers of changes.
+fn remove_births(names: &mut BTreeMap<u64, NodeName>, changes: &[Exchange])
+    ensures { names.new.entries ≡ without_births changes.now names.old.entries }
+{
+    for change in changes {
+        names.remove(&change.pointer.birth);
+    }
 }

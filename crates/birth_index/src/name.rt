@@ -1,4 +1,4 @@
-use vol_types::{Btree, Pos};
+use vol_types::{Btree, NodePtr, Pos};
 
 /// Which node of which btree: its level, and the greatest position that it covers.
 #[derive(Clone, Copy, Debug, PartialEq, Eq)]
@@ -13,4 +13,11 @@ pub struct NodeName {
 pub struct Named {
     pub birth: u64,
     pub name: NodeName,
+}
+
+/// A node, by its name, and a pointer to put in the place of the one that it has. Once it was put, the one that it had.
+#[derive(Debug, PartialEq, Eq, Drop)]
+pub struct Exchange {
+    pub name: NodeName,
+    pub pointer: NodePtr,
 }

@@ -1,5 +1,6 @@
 ghost use Rattle.std.specs.Prelude.{◌≡◌, ◌≢◌, ◌+◌, ◌-◌, ◌<◌, ◌∷◌, [], IfErr, IfNone, IfOk, IfSome, None, OnErr, OnOk, Some, length, option_copied, slice_get, slice_set};
 ghost use Rattle.birth_index.specs.Births.{BirthsDiffer, HasCause, ForHalves, ForRoots, IsFree, IsIndex, birth_of, levels_of, root_named};
+ghost use Rattle.birth_index.specs.Exchanges.{AreBefore, AreExchanges, exchanged};
 ghost use Rattle.birth_index.specs.declared.name.NodeName.{NodeName as ANodeName};
 ghost use Rattle.tree_nodes.specs.Levels.{Covers, EndsAt, IsNodeOf, divided, level_of, under_root, with_node};
 ghost use Rattle.vol_types.specs.Btrees.{btree_code};
@@ -7,7 +8,8 @@ ghost use Rattle.vol_types.specs.Maps.{value_at};
 ghost use Rattle.vol_types.specs.Positions.{IsBefore, greatest_pos, pos_cmp};
 
 use crate::changing::{divide_node, divide_top, replace_node};
-use crate::{BirthIndex, IndexFault, NodeName};
+use crate::pointers::exchange_nodes;
+use crate::{BirthIndex, Exchange, IndexFault, NodeName};
 use std::alloc::{AllocError, Global};
 use std::marker::Model;
 use tree_nodes::TreeNodes;
@@ -86,6 +88,19 @@ impl IndexedNodes {
         ensures err { OnErr result (self.new ≡ self.old) }
     {
         replace_node(&mut self.trees, &mut self.births, name, fresh)
+    }
+
+    /// Exchanges the pointers of changes for those of their nodes, all or none: each change gets the one that its node had.
+    /// Each node is there and named once; no node has the birth of one of the pointers, and no two of these have one birth.
+    /// An `Err` is out of memory, and changes nothing.
+    pub fn exchange(&mut self, alloc: Global, changes: &mut [Exchange]) -> Result<(), AllocError>
+        requires { AreExchanges self.old changes.old }
+        ensures ok { OnOk result (self.new ≡ exchanged changes.old self.old) }
+        ensures before { OnOk result (AreBefore self.old changes.old changes.new) }
+        ensures err { OnErr result (self.new ≡ self.old) }
+        ensures kept { OnErr result (changes.new ≡ changes.old) }
+    {
+        exchange_nodes(alloc, &mut self.trees, &mut self.births, changes)
     }
 
     /// Puts two nodes in the place of one that isn't the root: the first covers its positions up to `at`, and the second

@@ -1,17 +1,23 @@
-//! An index of nine btrees, of which one has three nodes; two nodes of one birth; and nodes in the place of one.
+//! An index of nine btrees, of which one has three nodes; two nodes of one birth; nodes in the place of one; and pointers of
+//! two nodes that are exchanged.
 
-ghost use Rattle.std.specs.Prelude.{◌≤◌, IfOk};
-ghost use Rattle.tree_nodes.specs.Levels.{IsNodeOf};
+ghost use Rattle.std.specs.Prelude.{◌≡◌, ◌≢◌, ◌≤◌, IfOk, IsTrue, Some};
+ghost use Rattle.birth_index.specs.Births.{birth_of, levels_of};
+ghost use Rattle.birth_index.specs.Exchanges.{only_name};
+ghost use Rattle.birth_index.specs.declared.name.NodeName.{NodeName as ANodeName};
+ghost use Rattle.tree_nodes.specs.Levels.{EndsAt, IsNodeOf, level_of};
+ghost use Rattle.vol_types.specs.Positions.{greatest_pos};
 
 use super::*;
 use std::alloc::{AllocError, Global};
 use std::test::Fail;
 use tree_nodes::TreeNodes;
-use vol_types::{Btree, NodePtr, Place, Places, Pos};
+use vol_types::{Btree, Listing, NodePtr, Place, Places, Pos};
 
 fn pointer(alloc: Global, birth: u64, level: u8) -> Result<NodePtr, AllocError>
     requires { level ≤ 7 }
-    ensures { IfOk result (IsNodeOf level) }
+    ensures node { IfOk result (IsNodeOf level) }
+    ensures born { IfOk result (λ node. node.birth ≡ birth) }
 {
     let places = Places::from_slice(alloc, &[Place { dev: 0, block: 512 }])?;
     Ok(NodePtr {
@@ -137,6 +143,86 @@ fn one_birth_twice(rt: HostRuntime) -> Result<(), Fail> {
     match BirthIndex::of(alloc, trees.as_slice()) {
         Err(fault) => assert_eq!(rt; fault, IndexFault::SameBirth { birth: 12 }),
         Ok(_) => assert!(rt; false),
+    }
+    Ok(())
+}
+
+// Whether a btree is one node, and no node has the birth.
+fn may_get(nodes: &IndexedNodes, btree: Btree, birth: u64) -> bool
+    ensures there { IsTrue result → EndsAt (level_of (levels_of nodes.now btree) 0) greatest_pos }
+    ensures free { IsTrue result → (name : ANodeName) → birth_of nodes.now name ≢ Some birth }
+{
+    let Some(tree) = nodes.get(btree) else {
+        return false;
+    };
+    if tree.get(0, &Pos::GREATEST).is_none() {
+        return false;
+    }
+    nodes.find(birth).is_none()
+}
+
+fn root_change(alloc: Global, btree: Btree, birth: u64) -> Result<Exchange, AllocError>
+    ensures name { IfOk result (λ change. change.name ≡ only_name btree) }
+    ensures node { IfOk result (λ change. IsNodeOf 0 change.pointer) }
+    ensures born { IfOk result (λ change. change.pointer.birth ≡ birth) }
+{
+    let name = NodeName {
+        btree,
+        level: 0,
+        greatest: Pos::GREATEST,
+    };
+    let pointer = pointer(alloc, birth, 0)?;
+    Ok(Exchange { name, pointer })
+}
+
+// Exchanges the pointers of two btrees of one node each, and gives the births of those that were there.
+fn exchange_two(
+    alloc: Global,
+    nodes: &mut IndexedNodes,
+    one: Btree,
+    other: Btree,
+) -> Result<Option<[u64; 2]>, AllocError> {
+    if one.code() == other.code() {
+        return Ok(None);
+    }
+    if !may_get(nodes, one, 31) {
+        return Ok(None);
+    }
+    if !may_get(nodes, other, 32) {
+        return Ok(None);
+    }
+    let first = root_change(alloc, one, 31)?;
+    let second = root_change(alloc, other, 32)?;
+    let mut changes = [first, second];
+    nodes.exchange(alloc, &mut changes)?;
+    Ok(Some([changes[0].pointer.birth, changes[1].pointer.birth]))
+}
+
+fn root_birth(nodes: &IndexedNodes, btree: Btree) -> Option<u64> {
+    let root = nodes.get(btree)?.get(0, &Pos::GREATEST)?;
+    Some(root.birth)
+}
+
+#[test]
+fn pointers_are_exchanged(rt: HostRuntime) -> Result<(), Fail> {
+    let alloc = rt.alloc();
+    let trees = Listing::from(nine(alloc)?);
+    match IndexedNodes::of(alloc, trees) {
+        Err(_) => assert!(rt; false),
+        Ok(nodes) => {
+            let mut nodes = nodes;
+            let before = exchange_two(alloc, &mut nodes, Btree::Dirents, Btree::Counters)?;
+            assert_eq!(rt; before, Some([12, 18]));
+            let found = [12, 18, 31, 32].map(|birth| nodes.find(birth).copied());
+            let (dirents, counters) = (
+                name(Btree::Dirents, 0, Pos::GREATEST),
+                name(Btree::Counters, 0, Pos::GREATEST),
+            );
+            assert_eq!(rt; found, [None, None, Some(dirents), Some(counters)]);
+            let btrees = [Btree::Dirents, Btree::Subvols, Btree::Counters];
+            let births = btrees.map(|btree| root_birth(&nodes, btree));
+            assert_eq!(rt; births, [Some(31), Some(13), Some(32)]);
+        }
     }
     Ok(())
 }

@@ -13,9 +13,12 @@ use Rattle.std.proofs.lemmas.Map.{lookup-none}
 use Rattle.std.proofs.lemmas.Map.Entries.{none_below_head}
 use Rattle.std.proofs.lemmas.Map.Keys.{sorted_tail}
 use Rattle.std.proofs.lemmas.Option.{same_Some}
+use Rattle.birth_index.specs.ExchangeLaws.{exchanges-head, exchanges-later}
+use Rattle.birth_index.specs.Exchanges.{AreExchanges}
+use Rattle.birth_index.specs.declared.name.Exchange.{Exchange}
 use Rattle.btree_map.specs.FreshLaws.{code-lt}
 use Rattle.btree_map.specs.StandLaws.{same_btree}
-use Rattle.btree_map.specs.Trees.{IsBtree, IsTrees, Trees, cut_in, cut_of, cuts_divided, cuts_joined, levels_in, no_cut, with_divided, with_levels, with_root}
+use Rattle.btree_map.specs.Trees.{IsBtree, IsTrees, Trees, cut_in, cut_of, cuts_divided, cuts_joined, levels_in, no_cut, with_divided, with_exchanged, with_levels, with_root}
 use Rattle.node_mem.specs.MergeLaws.{keys_of-insert_entry}
 use Rattle.tree_keys.specs.CutLaws.{IsCut-cut, is_end-cut}
 use Rattle.tree_keys.specs.Cuts.{Cut, cut_at, is_end, joined_at}
@@ -98,6 +101,15 @@ trees-with_node trees btree level at fresh is ends node =
         ap keys_of (set-here (levels_in trees btree) level (with_value pos_cmp at fresh (level_of (levels_in trees btree) level)) there 0 zero_is)
         ∙ ends-replaced at fresh (level_of (levels_in trees btree) level) ((is.each btree).nodes.each level there).row.rises ends ∙ ap (λ n. keys_of (level_of (levels_in trees btree) n)) (sym zero_is)
     by false eq = ap keys_of (set-other (levels_in trees btree) level (with_value pos_cmp at fresh (level_of (levels_in trees btree) level)) there 0 (λ e. true≢false (sym (eq-eqb 0 level e) ∙ eq)))
+
+-- Other pointers in the place of those of several nodes leave btrees.
+pub trees-exchanged : (changes : List Exchange) (trees : Trees) → IsTrees trees → AreExchanges trees.nodes changes → IsTrees (with_exchanged changes trees)
+trees-exchanged [] trees is are = is
+trees-exchanged (change ∷ changes) trees is are =
+    let name = change.name in
+    let first = exchanges-head trees.nodes change changes are in
+    trees-exchanged changes (with_levels name.btree (with_node name.level name.greatest change.pointer (levels_in trees name.btree)) trees)
+    (trees-with_node trees name.btree name.level name.greatest change.pointer is first.there first.node) (exchanges-later trees.nodes change changes are)
 
 module _ (trees : Trees) (btree : Btree) (level : ℕ) (at : Pos) (levels : Levels) (is : IsTrees trees) (tree : IsTree levels) (fits : PosFits at) (apart : level ≡ 0 → is_end at (cut_in trees btree).ends ≡ false)
     (leaves : level ≡ 0 → (cut_at at (cut_in trees btree)).ends ≡ keys_of (level_of levels 0)) (upper : level ≢ 0 → keys_of (level_of levels 0) ≡ keys_of (level_of (levels_in trees btree) 0)) where

@@ -1,6 +1,8 @@
 -- The btrees of a volume in memory: the keys of each, cut into leaves, and its nodes.
 use Rattle.std.specs.Prelude.{◌-◌, ◌≡◌, ◌==◌, ℕ, if◌then◌else◌, List, [], ◌∷◌, All, length, map, slice_index_or, slice_set}
 use Rattle.std.specs.Map.{keys_of, values_of}
+use Rattle.birth_index.specs.Exchanges.{exchanged}
+use Rattle.birth_index.specs.declared.name.Exchange.{Exchange}
 use Rattle.tree_keys.specs.Cuts.{Cut, IsCut, cut_at, joined_at}
 use Rattle.tree_nodes.specs.Levels.{Levels, IsNodeOf, IsTree, divided, level_of, under_root}
 use Rattle.vol_types.specs.Btrees.{btree_code}
@@ -78,6 +80,10 @@ fresh_trees roots = record { keys = map (λ _. one_leaf) roots; nodes = map (λ 
 -- the btrees with other nodes of one
 abbrev pub with_levels : Btree → Levels → Trees → Trees
 with_levels btree levels trees = record { keys = trees.keys; nodes = slice_set trees.nodes (btree_code btree) levels }
+
+-- the btrees with other pointers of several nodes
+abbrev pub with_exchanged : List Exchange → Trees → Trees
+with_exchanged changes trees = record { keys = trees.keys; nodes = exchanged changes trees.nodes }
 
 -- the nodes with two in the place of the root, under a new one
 abbrev pub with_root : NodePtr → Pos → NodePtr → NodePtr → Levels → Levels

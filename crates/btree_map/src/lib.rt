@@ -13,11 +13,13 @@ mod nodes;
 mod parts;
 mod sizes;
 
-pub use birth_index::{IndexFault, NodeName};
+pub use birth_index::{Exchange, IndexFault, NodeName};
 pub use laws::btrees_hold_a_key_map;
 pub use map::KeyMap;
 pub use parts::NotAKeyMap;
 pub use sizes::NodeSize;
 
+#[cfg(test)]
+mod exchange_tests;
 #[cfg(test)]
 mod tests;

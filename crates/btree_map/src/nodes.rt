@@ -1,6 +1,7 @@
 ghost use Rattle.std.specs.Prelude.{◌≡◌, ◌+◌, ◌-◌, ◌<◌, ◌∷◌, [], false, true, All, None, Some, IfOk, OnErr, OnOk, if◌then◌else◌, length, map, option_copied, slice_index_or, slice_set};
 ghost use Rattle.birth_index.specs.Births.{ForHalves, ForRoots, IsFree, levels_of, root_named};
-ghost use Rattle.btree_map.specs.Trees.{cut_of, cut_in, cuts_divided, cuts_joined, levels_in, no_cut, with_divided, with_levels, with_root};
+ghost use Rattle.birth_index.specs.Exchanges.{AreBefore, AreExchanges};
+ghost use Rattle.btree_map.specs.Trees.{cut_of, cut_in, cuts_divided, cuts_joined, levels_in, no_cut, with_divided, with_exchanged, with_levels, with_root};
 ghost use Rattle.tree_keys.specs.Counts.{leaf_size};
 ghost use Rattle.tree_keys.specs.Cuts.{is_end, leaf_entries, start_of};
 ghost use Rattle.tree_keys.specs.Sizes.{sizes_after};
@@ -11,7 +12,7 @@ ghost use Rattle.vol_types.specs.Positions.{IsBefore, greatest_pos, pos_cmp};
 ghost use Rattle.vol_types.specs.Ranges.{IsKeyValue};
 
 use crate::KeyMap;
-use birth_index::{IndexedNodes, NodeName};
+use birth_index::{Exchange, IndexedNodes, NodeName};
 use node_mem::{Change, NodeMem};
 use std::alloc::{AllocError, Global};
 use std::collections::btree_map;
@@ -99,6 +100,20 @@ impl KeyMap {
     {
         let _ = &self.keys;
         self.nodes.replace(name, fresh)
+    }
+
+    /// Exchanges the pointers of changes for those of their nodes, all or none: each change gets the one that its node had.
+    /// Each node is there and named once; no node has the birth of one of the pointers, and no two of these have one birth.
+    /// The keys stay. An `Err` is out of memory, and changes nothing.
+    pub fn exchange(&mut self, alloc: Global, changes: &mut [Exchange]) -> Result<(), AllocError>
+        requires { AreExchanges self.old.nodes changes.old }
+        ensures ok { OnOk result (self.new ≡ with_exchanged changes.old self.old) }
+        ensures before { OnOk result (AreBefore self.old.nodes changes.old changes.new) }
+        ensures err { OnErr result (self.new ≡ self.old) }
+        ensures kept { OnErr result (changes.new ≡ changes.old) }
+    {
+        let _ = &self.keys;
+        self.nodes.exchange(alloc, changes)
     }
 
     /// Puts two nodes in the place of one that isn't the root: the first covers its positions up to `at`, and the second

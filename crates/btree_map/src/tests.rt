@@ -23,7 +23,7 @@ fn at(offset: u64) -> Pos {
     }
 }
 
-fn pointer(alloc: Global, birth: u64, level: u8) -> Result<NodePtr, AllocError>
+pub(crate) fn pointer(alloc: Global, birth: u64, level: u8) -> Result<NodePtr, AllocError>
     requires { level ≤ 7 }
     ensures node { IfOk result (IsNodeOf level) }
     ensures born { IfOk result (λ node. node.birth ≡ birth) }
@@ -354,7 +354,7 @@ fn divide(
 }
 
 // Whether no node has one of three births in a row.
-fn are_unused(map: &KeyMap, birth: u64) -> bool
+pub(crate) fn are_unused(map: &KeyMap, birth: u64) -> bool
     ensures room { IsTrue result → birth + 2 < 2 ^ 64 }
     ensures free { IsTrue result → (name : ANodeName) (place : ℕ) → place ≤ 2
         → birth_of map.now.nodes name ≢ Some (birth + place) }
@@ -368,7 +368,7 @@ fn are_unused(map: &KeyMap, birth: u64) -> bool
     map.node_of(birth + 2).is_none()
 }
 
-fn has_node(map: &KeyMap, btree: Btree, level: u8, greatest: &Pos) -> bool
+pub(crate) fn has_node(map: &KeyMap, btree: Btree, level: u8, greatest: &Pos) -> bool
     ensures { IsTrue result → EndsAt (level_of (levels_in map.now btree) level) greatest.now }
 {
     let name = NodeName {
@@ -442,7 +442,7 @@ fn grows(
 }
 
 // A map without keys, or none where two roots have one birth.
-fn fresh(alloc: Global) -> Result<Option<KeyMap>, AllocError> {
+pub(crate) fn fresh(alloc: Global) -> Result<Option<KeyMap>, AllocError> {
     match KeyMap::fresh(alloc, roots(alloc)?) {
         Ok(map) => Ok(Some(map)),
         Err(IndexFault::NoMemory) => Err(AllocError),
