@@ -1,14 +1,13 @@
 -- Buckets that are taken for nodes, device by device.
-use Rattle.std.proofs.Common.{◌≡◌, ℕ, zero, suc, ◌+◌, ◌*◌, ◌<◌, ◌≤◌, Bool, true, false, ◌&&◌, nat_lt, if◌then◌else◌, List, [], ◌∷◌, ◌++◌, length, take, get_or, refl, sym, ap, ◌∙◌, arith}
+use Rattle.std.proofs.Common.{◌≡◌, ℕ, zero, suc, ◌+◌, ◌<◌, ◌≤◌, Bool, true, false, ◌&&◌, nat_lt, if◌then◌else◌, List, [], ◌∷◌, ◌++◌, length, take, get_or, refl, sym, ap, ◌∙◌, arith}
 use Rattle.std.specs.List.{list_all, list_any}
 use Rattle.std.proofs.lemmas.Bool.{false≢true}
 use Rattle.std.proofs.lemmas.Bool.Decides.{nat_tests}
 use Rattle.vol_types.specs.declared.pointers.Place.{Place}
-use Rattle.vol_types.specs.Limits.{bucket_blocks}
 use Rattle.bucket_pool.specs.declared.bucket.Bucket.{Bucket}
 use Rattle.bucket_pool.specs.Buckets.{is_free}
 use Rattle.bucket_pool.specs.Places.{each_from, each_place, partly, partly_from}
-use Rattle.bucket_pool.specs.Space.{first_free, have_free, node_place, noded, with_node}
+use Rattle.bucket_pool.specs.Space.{have_free, node_place, noded, with_node}
 use Rattle.bucket_pool.proofs.EachPlace.{partly_from_get}
 
 -- the members of a list up to a place, each changed by its place, and one more
@@ -71,9 +70,8 @@ free_there count at space d all below lt = all_at (list_any is_free) count at sp
 pub same_buckets : (dev : ℕ) (initial now : List (List Bucket)) (d : List Bucket) → now ≡ partly (λ _. with_node) dev initial → get_or now dev d ≡ get_or initial dev d
 same_buckets dev initial now d is = ap (λ list. get_or list dev d) is ∙ partly_from_get (λ _. with_node) 0 dev initial d
 
-pub nodes_more : (dev at : ℕ) (initial now : List (List Bucket)) (places after : List Place) (d : List Bucket) → dev < length initial → places ≡ each_place node_place (take dev initial)
-    → now ≡ partly (λ _. with_node) dev initial → at ≡ first_free (get_or now dev d) → after ≡ places ++ record { dev = dev; block = bucket_blocks * at } ∷ [] → after ≡ each_place node_place (take (dev + 1) initial)
-nodes_more dev at initial now places after d lt so_far is found pushed =
-    pushed ∙ ap (λ list. list ++ record { dev = dev; block = bucket_blocks * at } ∷ []) so_far
-    ∙ ap (λ (n : ℕ). each_place node_place (take dev initial) ++ record { dev = dev; block = bucket_blocks * n } ∷ []) (found ∙ ap first_free (same_buckets dev initial now d is))
-    ∙ each_place_more node_place dev initial d lt
+-- the places so far, and that of one device more
+pub places_more : (dev : ℕ) (space : List (List Bucket)) (places after : List Place) (buckets : List Bucket) (place : Place) → dev < length space → buckets ≡ get_or space dev buckets
+    → places ≡ each_place node_place (take dev space) → place ≡ node_place dev buckets → after ≡ places ++ place ∷ [] → after ≡ each_place node_place (take (dev + 1) space)
+places_more dev space places after buckets place lt read so_far found pushed =
+    pushed ∙ ap (λ list. list ++ place ∷ []) so_far ∙ ap (λ p. each_place node_place (take dev space) ++ p ∷ []) (found ∙ ap (node_place dev) read) ∙ each_place_more node_place dev space buckets lt

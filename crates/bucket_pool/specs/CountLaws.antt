@@ -16,7 +16,7 @@ any_by : (b any : Bool) (first size : ℕ) → (any ≡ true → first < size) �
 any_by true any first size rest is = omega arith
 any_by false any first size rest is = let lt = rest is in omega (arith, lt)
 
-first_there : {X : Type 0} (p : X → Bool) (xs : List X) → list_any p xs ≡ true → position_or_len p xs < length xs
+pub first_there : {X : Type 0} (p : X → Bool) (xs : List X) → list_any p xs ≡ true → position_or_len p xs < length xs
 first_there p [] is = absurd (false≢true is)
 first_there p (x ∷ xs) is = any_by (p x) (list_any p xs) (position_or_len p xs) (length xs) (first_there p xs) is
 
@@ -28,7 +28,7 @@ none_counted p (x ∷ xs) is = sum_by-cons (λ y. cond (p y) 1 0) x xs ∙ none_
     none_by true any rest none no_one = absurd (false≢true (sym no_one))
     none_by false any rest none no_one = let zero_one = none no_one in omega (arith, zero_one)
 
-length-changed : {X : Type 0} (f : X → X) (at : ℕ) (xs : List X) → length (changed f at xs) ≡ length xs
+pub length-changed : {X : Type 0} (f : X → X) (at : ℕ) (xs : List X) → length (changed f at xs) ≡ length xs
 length-changed f at [] = refl
 length-changed f zero (x ∷ xs) = refl
 length-changed f (suc at) (x ∷ xs) = ap suc (length-changed f at xs)

@@ -2,6 +2,9 @@ pub mod Buckets
 pub mod CountLaws
 pub mod Given
 pub mod Groups
+pub mod NodeBuckets
+pub mod NodeLaws
+pub mod NodeOpenings
 pub mod Opening
 pub mod Places
 pub mod ReserveLaws

@@ -1,6 +1,6 @@
 -- The space of a volume: for each device its buckets, and what each call makes of them.
 use Rattle.std.specs.Prelude.{◌≡◌, ℕ, ◌+◌, ◌*◌, ◌/◌, ◌<◌, ⊤, Bool, false, ◌||◌, nat_lt, if◌then◌else◌, Option, None, option_map, unwrap_or, List, map, take, count_by, slice_get, slice_index}
-use Rattle.std.specs.List.{list_all, list_any, position_or_len}
+use Rattle.std.specs.List.{fold, list_all, list_any, position_or_len}
 use Rattle.vol_types.specs.declared.pointers.Place.{Place}
 use Rattle.vol_types.specs.declared.pointers.Pointer.{Pointer}
 use Rattle.vol_types.specs.declared.space.Short.{Short}
@@ -82,6 +82,10 @@ kept actor runs space = each_place (λ dev. each_place (kept_at actor runs dev))
 -- the space in which the entry of this number empties the bucket that a place lies in
 abbrev pub emptied : Place → ℕ → Space → Space
 emptied place seq space = changed (changed (waited seq) (place.block / bucket_blocks)) place.dev space
+
+-- the space in which the buckets at these places wait for an entry
+abbrev pub emptied_all : List Place → ℕ → Space → Space
+emptied_all places seq space = fold (λ (made : Space) (place : Place). emptied place seq made) space places
 
 -- the space once all entries up to this number are durable
 abbrev pub settled_space : ℕ → Space → Space

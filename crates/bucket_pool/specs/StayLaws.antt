@@ -17,19 +17,19 @@ use Rattle.bucket_pool.specs.Places.{Picked, changed, each_from, picked_from, wi
 use Rattle.bucket_pool.specs.Space.{Space, as_node, can_give, emptied, first_free, has_open_room, kept, marked, noded, pointer_to, readied, reopened, reserved, reserved_at, reserved_on, run_of, settled_space, spot, with_node}
 
 -- a device and a bucket of it
-parts : {P : Type 0} (space : Space) (dev at : ℕ) (bucket : Bucket) → bucket_at space dev at ≡ Some bucket → ((buckets : List Bucket) → slice_get space dev ≡ Some buckets → slice_get buckets at ≡ Some bucket → P) → P
+pub parts : {P : Type 0} (space : Space) (dev at : ℕ) (bucket : Bucket) → bucket_at space dev at ≡ Some bucket → ((buckets : List Bucket) → slice_get space dev ≡ Some buckets → slice_get buckets at ≡ Some bucket → P) → P
 parts space dev at bucket is go = option_and_then_some (λ buckets. slice_get buckets at) (slice_get space dev) bucket is go
 
 pub on_device : (space : Space) (dev at : ℕ) (buckets : List Bucket) (bucket : Bucket) → slice_get space dev ≡ Some buckets → slice_get buckets at ≡ Some bucket → bucket_at space dev at ≡ Some bucket
 on_device space dev at buckets bucket device there = ap (λ (o : Option (List Bucket)). option_and_then (λ list. slice_get list at) o) device ∙ there
 
-each_get : {X Y : Type 0} (f : ℕ → X → Y) (first place k : ℕ) (xs : List X) (x : X) → place ≡ first + k → slice_get xs k ≡ Some x → slice_get (each_from f first xs) k ≡ Some (f place x)
+pub each_get : {X Y : Type 0} (f : ℕ → X → Y) (first place k : ℕ) (xs : List X) (x : X) → place ≡ first + k → slice_get xs k ≡ Some x → slice_get (each_from f first xs) k ≡ Some (f place x)
 each_get f first place k [] x is got = absurd (none_some x got)
 each_get f first place zero (y ∷ ys) x is got = ap Some (ap (λ (n : ℕ). f n y) (let same : first ≡ place = omega (arith, is) in same) ∙ ap (f place) (same_Some y x got))
 each_get f first place (suc k) (y ∷ ys) x is got = each_get f (suc first) place k ys x (let same : place ≡ suc first + k = omega (arith, is) in same) got
 
 -- a member stays where the change would leave it as it is
-changed_stays : {X : Type 0} (f : X → X) (at k : ℕ) (xs : List X) (x : X) → slice_get xs k ≡ Some x → (k ≡ at → f x ≡ x) → slice_get (changed f at xs) k ≡ Some x
+pub changed_stays : {X : Type 0} (f : X → X) (at k : ℕ) (xs : List X) (x : X) → slice_get xs k ≡ Some x → (k ≡ at → f x ≡ x) → slice_get (changed f at xs) k ≡ Some x
 changed_stays f at k [] x got same = got
 changed_stays f zero zero (y ∷ ys) x got same = ap Some (ap f (same_Some y x got) ∙ same refl)
 changed_stays f zero (suc k) (y ∷ ys) x got same = got
@@ -37,7 +37,7 @@ changed_stays f (suc at) zero (y ∷ ys) x got same = got
 changed_stays f (suc at) (suc k) (y ∷ ys) x got same = changed_stays f at k ys x got (λ e. same (ap suc e))
 
 -- a member is changed or stays
-changed_get : {X : Type 0} (f : X → X) (at k : ℕ) (xs : List X) (x : X) → slice_get xs k ≡ Some x → (slice_get (changed f at xs) k ≡ Some x) ⊎ (slice_get (changed f at xs) k ≡ Some (f x))
+pub changed_get : {X : Type 0} (f : X → X) (at k : ℕ) (xs : List X) (x : X) → slice_get xs k ≡ Some x → (slice_get (changed f at xs) k ≡ Some x) ⊎ (slice_get (changed f at xs) k ≡ Some (f x))
 changed_get f at k [] x got = inl got
 changed_get f zero zero (y ∷ ys) x got = inr (ap (λ z. Some (f z)) (same_Some y x got))
 changed_get f zero (suc k) (y ∷ ys) x got = inl got

@@ -6,7 +6,7 @@ ghost use Rattle.bucket_pool.specs.Buckets.{is_free, has_room, kept_at, settled,
 ghost use Rattle.bucket_pool.specs.Groups.{IsIdle};
 ghost use Rattle.bucket_pool.specs.Opening.{as_live, holds_node};
 ghost use Rattle.bucket_pool.specs.Places.{changed, each_place, partly};
-ghost use Rattle.bucket_pool.specs.Space.{can_give, first_free, free_count, has_open_room, readied, reopened, reserved_at, spot, with_node};
+ghost use Rattle.bucket_pool.specs.Space.{can_give, first_free, free_count, has_open_room, node_place, readied, reopened, reserved_at, spot, with_node};
 
 use crate::bucket::{self, Bucket, Run};
 use crate::groups::{self, GROUP, Group, Want};
@@ -309,21 +309,32 @@ impl Device {
         }
     }
 
-    /// Makes the first free bucket one that holds a node, and gives its number.
-    pub fn take_node(&mut self) -> usize
-        requires { IsTrue (list_any is_free self.old) }
-        ensures at { result ≡ first_free self.old }
-        ensures few { result < 65536 }
-        ensures after { self.new ≡ with_node self.old }
+    /// The place that the next node on this device gets, whose number is given: the first block of its first free bucket.
+    pub fn node_place(&self, dev: u8) -> Place
+        requires { IsTrue (list_any is_free self.now) }
+        ensures { result ≡ node_place dev self.now }
     {
         let Some(at) = self.first_free() else {
             unreachable!()
         };
         // So the number of a block fits.
         let buckets = self.len();
+        prove!(at < buckets);
+        Place {
+            dev,
+            block: BUCKET_BLOCKS * at as u32,
+        }
+    }
+
+    /// Makes the first free bucket one that holds a node.
+    pub fn take_node(&mut self)
+        requires { IsTrue (list_any is_free self.old) }
+        ensures { self.new ≡ with_node self.old }
+    {
+        let Some(at) = self.first_free() else {
+            unreachable!()
+        };
         let bucket = self.at(at);
         self.put(at, bucket::as_node(bucket));
-        prove!(at < buckets);
-        at
     }
 }

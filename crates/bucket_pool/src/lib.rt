@@ -16,7 +16,9 @@ mod pool;
 
 pub use bucket::{Bucket, OpenBucket, Run, Slot, State};
 pub use fault::PoolFault;
-pub use laws::{buckets_stay, reservations_are_whole, reserved_blocks_are_unused};
+pub use laws::{
+    buckets_stay, nodes_keep_their_buckets, reservations_are_whole, reserved_blocks_are_unused,
+};
 pub use pool::Pool;
 
 #[cfg(test)]

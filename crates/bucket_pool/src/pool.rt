@@ -132,26 +132,33 @@ impl Pool {
         Ok(Pointers::from(pointers))
     }
 
-    /// Takes the first free bucket of each of the first so many devices for a node, and gives its first block for each.
-    /// `NoSpace` says that one of them has none. An `Err` changes nothing.
+    /// The places that the next nodes get: on each of the first so many devices the first block of the first free bucket.
+    /// `NoSpace` says that one of them has none. It changes nothing: `take_nodes` takes these buckets, without memory.
     ///
     /// It looks at the counts of these devices' groups, and at the buckets of one group of each.
-    pub fn node_places(&mut self, alloc: Global, replicas: u8) -> Result<Places, PoolFault>
-        requires { replicas ≤ length self.old }
-        ensures ok { IfOk result (λ places. places ≡ node_places replicas self.old) }
-        ensures after { OnOk result (self.new ≡ noded replicas self.old) }
-        ensures can { OnOk result (have_free replicas self.old ≡ true) }
-        ensures short { IfErr result (IsFaultOf (IsShortOfNodes replicas self.old)) }
-        ensures err { OnErr result (self.new ≡ self.old) }
+    pub fn free_places(&self, alloc: Global, replicas: u8) -> Result<Places, PoolFault>
+        requires { replicas ≤ length self.now }
+        ensures ok { IfOk result (λ places. places ≡ node_places replicas self.now) }
+        ensures can { OnOk result (have_free replicas self.now ≡ true) }
+        ensures short { IfErr result (IsFaultOf (IsShortOfNodes replicas self.now)) }
     {
-        let mut places = SpareList::new(alloc);
-        places.reserve(replicas as usize)?;
         if !have_free(&self.devices, replicas as usize) {
             let short = short_of(alloc, &self.devices, 0, zeros(alloc, &self.devices)?)?;
             return Err(PoolFault::NoSpace(short));
         }
-        take_nodes(&mut self.devices, replicas, &mut places);
-        Ok(Places::from(places))
+        Ok(node_places(alloc, &self.devices, replicas)?)
+    }
+
+    /// Takes the first free bucket of each of the first so many devices for a node, where each of them has one: those whose
+    /// first blocks `free_places` gives.
+    ///
+    /// It takes no memory. It looks at the counts of these devices' groups, and at the buckets of one group of each.
+    pub fn take_nodes(&mut self, replicas: u8)
+        requires within { replicas ≤ length self.old }
+        requires can { have_free replicas self.old ≡ true }
+        ensures { self.new ≡ noded replicas self.old }
+    {
+        take_nodes(&mut self.devices, replicas);
     }
 
     /// Makes of the places that an actor reserved exactly those used that the runs name, and gives the others back. A
@@ -267,22 +274,29 @@ fn have_free(devices: &[Device], count: usize) -> bool
     first.iter().all(Device::has_free)
 }
 
+// The places that nodes get on the first so many devices.
+fn node_places(alloc: Global, devices: &[Device], replicas: u8) -> Result<Places, AllocError>
+    requires within { replicas ≤ length devices.now }
+    requires can { have_free replicas devices.now ≡ true }
+    ensures { IfOk result (λ places. places ≡ node_places replicas devices.now) }
+{
+    let mut places = Places::new(alloc);
+    for dev in 0..replicas {
+        let device = &devices[dev as usize];
+        places.push(device.node_place(dev))?;
+    }
+    Ok(places)
+}
+
 // Takes the first free bucket of each of the first so many devices for a node.
-fn take_nodes(devices: &mut [Device], replicas: u8, places: &mut SpareList<Place>)
+fn take_nodes(devices: &mut [Device], replicas: u8)
     requires within { replicas ≤ length devices.old }
     requires can { have_free replicas devices.old ≡ true }
-    requires empty { places.old.members ≡ [] }
-    requires room { replicas ≤ places.old.spare }
-    ensures given { places.new.members ≡ node_places replicas devices.old }
-    ensures after { devices.new ≡ noded replicas devices.old }
+    ensures { devices.new ≡ noded replicas devices.old }
 {
     for dev in 0..replicas {
         let device = &mut devices[dev as usize];
-        let at = device.take_node();
-        places.push(Place {
-            dev,
-            block: BUCKET_BLOCKS * at as u32,
-        });
+        device.take_node();
     }
 }
 

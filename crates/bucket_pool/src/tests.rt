@@ -133,8 +133,11 @@ fn take_nodes(alloc: Global, pool: &mut Pool, replicas: u8) -> u64 {
     if replicas as usize > pool.devices() {
         return 9;
     }
-    match pool.node_places(alloc, replicas) {
-        Ok(places) => places_sum(&places),
+    match pool.free_places(alloc, replicas) {
+        Ok(places) => {
+            pool.take_nodes(replicas);
+            places_sum(&places)
+        }
         Err(PoolFault::NoSpace(_)) => 0,
         Err(PoolFault::NoMemory) => 8,
     }

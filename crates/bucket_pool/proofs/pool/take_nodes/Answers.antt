@@ -5,34 +5,27 @@ use Rattle.bucket_pool.specs.Buckets.{is_free}
 use Rattle.bucket_pool.specs.Space.{with_node}
 use Rattle.bucket_pool.specs.Places.{partly}
 use Rattle.bucket_pool.proofs.EachPlace.{partly_more}
-use Rattle.bucket_pool.proofs.Nodes.{free_there, noded_is, nodes_more, same_buckets}
+use Rattle.bucket_pool.proofs.Nodes.{free_there, noded_is, same_buckets}
 use Rattle.bucket_pool.proofs.pool.take_nodes.Goals as goal
 
-pub take_node-at-requires : goal.take_node-at-requires
-take_node-at-requires c =
+pub take_node-requires : goal.take_node-requires
+take_node-requires c =
     let initial = c.args.devices.now in
     let dev = c.loop-dev.dev in
     let d = c.index-devices-dev.result in
     let there : dev < length initial = omega arith in
-    subst (λ (buckets : List Bucket). IsTrue (list_any is_free buckets)) (sym (same_buckets dev initial c.loop-dev.devices d c.loop-dev.invariant.after))
+    subst (λ (buckets : List Bucket). IsTrue (list_any is_free buckets)) (sym (same_buckets dev initial c.loop-dev.devices d c.loop-dev.invariant))
     (free_there c.args.replicas dev initial d c.requires.can c.loop-dev-test.true there)
 
 pub loop-dev-preserved : goal.loop-dev-preserved
 loop-dev-preserved c =
     let initial = c.args.devices.now in
     let dev = c.loop-dev.dev in
-    let now = c.loop-dev.devices in
     let d = c.index-devices-dev.result in
     let there : dev < length initial = omega arith in
-    let pushed = c.push.ensures.room in
-    let room = c.loop-dev.invariant.room in
-    record {
-      given = nodes_more dev c.take_node-at.result initial now c.loop-dev.places.members c.push.new.self.members d there c.loop-dev.invariant.given c.loop-dev.invariant.after c.take_node-at.ensures.at c.push.ensures.members;
-      after = partly_more (λ _. with_node) dev initial now c.take_node-at.new.self d there c.loop-dev.invariant.after c.take_node-at.ensures.after;
-      room = omega (arith, pushed, room);
-    }
+    partly_more (λ _. with_node) dev initial c.loop-dev.devices c.take_node.new.self d there c.loop-dev.invariant c.take_node.ensures
 
-pub returns-clause-after : goal.returns-clause-after
-returns-clause-after c =
+pub returns : goal.returns
+returns c =
     let all : c.loop-dev.dev ≡ c.args.replicas = omega arith in
-    c.loop-dev.invariant.after ∙ ap (λ n. partly (λ _. with_node) n c.args.devices.now) all ∙ noded_is c.args.replicas c.args.devices.now
+    c.loop-dev.invariant ∙ ap (λ n. partly (λ _. with_node) n c.args.devices.now) all ∙ noded_is c.args.replicas c.args.devices.now
