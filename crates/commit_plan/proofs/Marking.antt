@@ -93,15 +93,15 @@ same-above levels tree lower p q p_fits q_fits same (suc upper) le lt =
     (cases_eq lower (suc upper))
 
 -- A node of a level of a btree covers the position and has the birth.
-record IsFound (nodes : List Levels) (btree : Btree) (level : ℕ) (pos : Pos) (birth : ℕ) : Type 0 where
-  node : Pos × NodePtr
-  there : level < length (levels_of nodes btree)
-  at : node_at pos (level_of (levels_of nodes btree) level) ≡ Some node
-  value : value_at pos_cmp node.0 (level_of (levels_of nodes btree) level) ≡ Some node.1
-  born : node.1.birth ≡ birth
+pub record IsFound (nodes : List Levels) (btree : Btree) (level : ℕ) (pos : Pos) (birth : ℕ) : Type 0 where
+  pub node : Pos × NodePtr
+  pub there : level < length (levels_of nodes btree)
+  pub at : node_at pos (level_of (levels_of nodes btree) level) ≡ Some node
+  pub value : value_at pos_cmp node.0 (level_of (levels_of nodes btree) level) ≡ Some node.1
+  pub born : node.1.birth ≡ birth
 
 module _ (nodes : List Levels) (trees : (btree : Btree) → IsTree (levels_of nodes btree)) where
-  found : (btree : Btree) (level : ℕ) (pos : Pos) (birth : ℕ) → birth_at nodes btree level pos ≡ Some birth → IsFound nodes btree level pos birth
+  pub found : (btree : Btree) (level : ℕ) (pos : Pos) (birth : ℕ) → birth_at nodes btree level pos ≡ Some birth → IsFound nodes btree level pos birth
   found btree level pos birth is = by (node_at pos (level_of (levels_of nodes btree) level)) refl is
     where
       there : IsSome (node_at pos (level_of (levels_of nodes btree) level)) → level < length (levels_of nodes btree)
@@ -117,7 +117,7 @@ module _ (nodes : List Levels) (trees : (btree : Btree) → IsTree (levels_of no
         born = same_Some node.1.birth birth is;
       }
 
-name_is : (nodes : List Levels) (btree : Btree) (level : ℕ) (pos : Pos) (birth : ℕ) → (f : IsFound nodes btree level pos birth) → birth_of nodes (record { btree = btree; level = level; greatest = f.node.0 }) ≡ Some birth
+pub name_is : (nodes : List Levels) (btree : Btree) (level : ℕ) (pos : Pos) (birth : ℕ) → (f : IsFound nodes btree level pos birth) → birth_of nodes (record { btree = btree; level = level; greatest = f.node.0 }) ≡ Some birth
 name_is nodes btree level pos birth f = ap (option_map (λ (n : NodePtr). n.birth)) f.value ∙ ap Some f.born
 
 -- What has one birth is one node, of one level of one btree.
@@ -139,6 +139,12 @@ one_node nodes differ one other low lower p q birth f g =
       level = ap (λ (n : NodeName). n.level) same;
       node = f.at ∙ ap Some alike ∙ sym g.at ∙ sym (ap (λ (n : NodeName). node_at q (level_of (levels_of nodes n.btree) n.level)) same);
     }
+
+-- A node is over the same dirty one, where both stand as they did and this one is pinned.
+pub still_over : (nodes after : List Levels) (pins new : List (ℕ × ℕ)) (birth : ℕ) → (o : IsOverDirty nodes pins birth)
+    → birth_at after o.btree o.upper o.pos ≡ Some birth → birth_at after o.btree o.lower o.pos ≡ Some o.dirty → IsSome (value_at nat_cmp o.dirty new) → IsOverDirty after new birth
+still_over nodes after pins new birth o over under pinned =
+    record { btree = o.btree; pos = o.pos; upper = o.upper; lower = o.lower; dirty = o.dirty; fits = o.fits; order = o.order; over = over; under = under; pinned = pinned }
 
 module _ (nodes : List Levels) (seq : ℕ) (updates : List Update) (pins marks : List (ℕ × ℕ)) (trees : (btree : Btree) → IsTree (levels_of nodes btree)) (fits : All (λ (u : Update). PosFits u.pos) updates) where
   -- a node that updates mark is over one that they make dirty
@@ -204,23 +210,13 @@ module _ (nodes : List Levels) (seq : ℕ) (updates : List Update) (pins marks :
         (pinned-cases seq (paths_of nodes updates) marks birth some),
     λ o. ⊎_elim
         (λ (before : IsSome (value_at nat_cmp o.dirty pins)). pinned-stays seq (paths_of nodes updates) marks birth
-        ((marked birth).1 (record { btree = o.btree; pos = o.pos; upper = o.upper; lower = o.lower; dirty = o.dirty; fits = o.fits; order = o.order; over = o.over; under = o.under; pinned = before })))
+        ((marked birth).1 (still_over nodes nodes (with_pins seq (changed_nodes nodes updates) pins) pins birth o o.over o.under before)))
         (λ (new : IsIn o.dirty (changed_nodes nodes updates)). pinned-new seq (paths_of nodes updates) marks birth (over_path differ birth o new)) (pinned-cases seq (changed_nodes nodes updates) pins o.dirty o.pinned),
   )
     where
       still : IsOverDirty nodes pins birth → IsOverDirty nodes (with_pins seq (changed_nodes nodes updates) pins) birth
-      still o = record {
-        btree = o.btree;
-        pos = o.pos;
-        upper = o.upper;
-        lower = o.lower;
-        dirty = o.dirty;
-        fits = o.fits;
-        order = o.order;
-        over = o.over;
-        under = o.under;
-        pinned = pinned-stays seq (changed_nodes nodes updates) pins o.dirty o.pinned;
-      }
+      still o =
+          still_over nodes nodes pins (with_pins seq (changed_nodes nodes updates) pins) birth o o.over o.under (pinned-stays seq (changed_nodes nodes updates) pins o.dirty o.pinned)
 
 -- Where no node is dirty none is marked.
 pub marked-none : (nodes : List Levels) → AreMarked nodes [] []

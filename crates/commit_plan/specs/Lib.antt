@@ -1,3 +1,4 @@
 pub mod Ids
 pub mod Splits
 pub mod Dirty
+pub mod PinLaws

@@ -9,8 +9,13 @@ mod splits;
 
 pub use dirty::{DirtyNodes, Paths, paths_of};
 pub use ids::{changes_ids, ids_updated, trees_after};
-pub use laws::{dirty_nodes_are_marked, other_updates_leave_ids};
+pub use laws::{
+    changed_pins_are_known, dirty_nodes_are_marked, moved_pins_are_known, moved_roots_are_marked,
+    other_updates_leave_ids,
+};
 pub use splits::{NeedSplit, split_needed};
 
+#[cfg(test)]
+mod dirty_tests;
 #[cfg(test)]
 mod tests;

@@ -129,6 +129,15 @@ impl PinList {
         self.tree = self.tree.take().released(&mut self.spares, node);
         self.len -= self.spares.len() - spare;
     }
+
+    /// Takes all pins away, and gives their memory back. Room that was spare stays.
+    pub fn clear(&mut self)
+        ensures numbers { self.new.numbers ≡ [] }
+        ensures spare { self.new.spare ≡ self.old.spare }
+    {
+        self.tree = Tree::new();
+        self.len = 0;
+    }
 }
 
 // Makes spare forks until there are so many, for which the list has room.
