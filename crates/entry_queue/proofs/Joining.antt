@@ -118,6 +118,7 @@ module _ (changes : KeyChanges) (counted : Bool) (queue : Queue) (is : IsQueue q
     closed_changes = is.closed_changes;
     followed = followed_grown queue.mirrors queue.closed queue.open_entry changes counted is.followed;
     after = is.after;
+    sequence = λ some. let s = ((numbers_of changes.updates counted queue).0 has).0 in omega (arith, s);
     last = let l = last_block-joined changes counted queue in let b = has.blocks in let o = ap (λ b. last_block (committed changes counted (cond b (closing queue) queue))) fits in omega (arith, l, b, o);
     commits = has.commits;
   }
@@ -138,6 +139,7 @@ module _ (changes : KeyChanges) (counted : Bool) (queue : Queue) (is : IsQueue q
           has_keys = closing_some changes.updates queue is close;
         });
     after = let s = ((numbers_of changes.updates counted queue).0 has).0 in let c = ap count_of close in omega (arith, s, c);
+    sequence = λ some. let s = ((numbers_of changes.updates counted queue).0 has).0 in let c = ap count_of close in omega (arith, s, c);
     last = let l = last_block-joined changes counted queue in let b = has.blocks in let o = ap (λ b. last_block (committed changes counted (cond b (closing queue) queue))) close in omega (arith, l, b, o);
     commits = has.commits;
   }
@@ -185,6 +187,7 @@ taken_out queue room places is numbers place = by queue.closed numbers place is.
             closed_changes = All-tail (λ (e : Pending). AreChanges queue.mirrors e.changes) entry later are;
             followed = followed.1;
             after = is.after;
+            sequence = is.sequence;
             last = is.last;
             commits = is.commits;
           },
@@ -211,6 +214,7 @@ taken_out queue room places is numbers place = by queue.closed numbers place is.
             closed_changes = All-nil (λ (e : Pending). AreChanges queue.mirrors e.changes);
             followed = tt;
             after = after;
+            sequence = λ some. absurd (omega (arith, some));
             last = (let m = is.mirrors_few in omega (arith, m, last));
             commits = is.commits;
           },

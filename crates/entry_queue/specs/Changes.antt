@@ -1,8 +1,9 @@
 -- What commits changed: their updates with the values from before them, and the key map with these taken back.
-use Rattle.std.specs.Prelude.{◌≡◌, ◌++◌, ⊤, Option, List, [], ◌∷◌}
+use Rattle.std.specs.Prelude.{◌≡◌, ◌++◌, ⊤, Bool, Option, List, [], ◌∷◌}
+use Rattle.std.specs.List.{list_any}
 use Rattle.btree_map.specs.Applied.{values_before}
 use Rattle.node_mem.specs.Nodes.{Node}
-use Rattle.vol_types.specs.KeyMaps.{KeyMap, entries_of, entries_within, with_update, with_updates}
+use Rattle.vol_types.specs.KeyMaps.{KeyMap, entries_of, entries_within, is_update_of, with_update, with_updates}
 use Rattle.vol_types.specs.declared.keys.Update.{Update}
 use Rattle.vol_types.specs.declared.positions.Btree.{Btree}
 use Rattle.vol_types.specs.declared.values.Value.{Value}
@@ -11,6 +12,10 @@ use Rattle.entry_queue.specs.declared.changes.KeyChanges.{KeyChanges}
 -- no changes
 abbrev pub no_changes : KeyChanges
 no_changes = record { updates = []; before = [] }
+
+-- whether updates change the keys of a btree
+abbrev pub changes_btree : Btree → List Update → Bool
+changes_btree btree updates = list_any (is_update_of btree) updates
 
 -- changes and then others
 abbrev pub changes_then : KeyChanges → KeyChanges → KeyChanges

@@ -1,3 +1,4 @@
 pub mod Changes
 pub mod ChangeLaws
 pub mod Queues
+pub mod FirstLaws

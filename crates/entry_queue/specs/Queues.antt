@@ -1,5 +1,5 @@
 -- The entries of the journal that wait to be written: those that are closed, and the open one that commits join.
-use Rattle.std.specs.Prelude.{◌≡◌, ℕ, ◌+◌, ◌-◌, ◌*◌, ◌^◌, ◌<◌, ◌≤◌, ◌++◌, ⊤, Bool, true, false, nat_lt, if◌then◌else◌, List, [], ◌∷◌, All, length, map, sum_by}
+use Rattle.std.specs.Prelude.{◌≡◌, ℕ, ◌+◌, ◌-◌, ◌*◌, ◌^◌, ◌<◌, ◌≤◌, ◌++◌, ⊤, Bool, true, false, nat_lt, if◌then◌else◌, Option, None, Some, List, [], ◌∷◌, All, length, map, sum_by}
 use Rattle.journal_ring.specs.EntryBlocks.{part_count}
 use Rattle.record_codec.specs.Entries.{update_length_of}
 use Rattle.record_codec.specs.declared.entries.EntryRecord.{EntryRecord}
@@ -8,7 +8,8 @@ use Rattle.vol_types.specs.Ranges.{IsKeyValue}
 use Rattle.vol_types.specs.Standing.{IsUpdate}
 use Rattle.vol_types.specs.declared.keys.Update.{Update}
 use Rattle.vol_types.specs.declared.pointers.NodePtr.{NodePtr}
-use Rattle.entry_queue.specs.Changes.{changes_then, no_changes, undone}
+use Rattle.vol_types.specs.declared.positions.Btree.{Btree}
+use Rattle.entry_queue.specs.Changes.{changes_btree, changes_then, no_changes, undone}
 use Rattle.entry_queue.specs.declared.changes.KeyChanges.{KeyChanges}
 use Rattle.entry_queue.specs.declared.changes.Pending.{Pending}
 
@@ -136,6 +137,7 @@ pub record IsQueue (queue : Queue) : Type 0 where
   pub closed_changes : All (λ entry. AreChanges queue.mirrors entry.changes) queue.closed
   pub followed : AreFollowed queue.mirrors queue.closed queue.open_entry
   pub after : queue.open_entry.after < 2 ^ 64
+  pub sequence : 0 < length queue.open_entry.changes.updates → queue.open_entry.after + 1 < 2 ^ 64
   pub last : last_block queue < 2 ^ 64
   pub commits : queue.open_entry.commits < 2 ^ 64
 
@@ -160,6 +162,20 @@ record_of oldest_needed session roots entry = record {
   roots = roots;
   updates = entry.changes.updates;
 }
+
+-- the entries, the oldest first
+abbrev pub waiting_entries : Queue → List Pending
+waiting_entries queue = queue.closed ++ queue.open_entry ∷ []
+
+-- the sequence of the first of the entries that changes a btree, if one does
+abbrev pub first_with : Btree → List Pending → Option ℕ
+first_with btree [] = None
+first_with btree (entry ∷ later) = if changes_btree btree entry.changes.updates then Some (entry.after + 1) else first_with btree later
+
+-- The first of the entries follows this sequence or a later one, and no entry follows an earlier one than the entry before it.
+abbrev pub AreBehind : ℕ → List Pending → Type 0
+AreBehind sequence [] = ⊤
+AreBehind sequence (entry ∷ later) = (sequence ≤ entry.after) × AreBehind entry.after later
 
 -- the changes of closed entries
 abbrev pub closed_changes : List Pending → List KeyChanges

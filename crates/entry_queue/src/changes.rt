@@ -4,7 +4,7 @@ ghost use Rattle.vol_types.specs.KeyMaps.{IsKeyMap, KeyMap, is_update_of, with_u
 ghost use Rattle.vol_types.specs.Maps.{put_at};
 ghost use Rattle.vol_types.specs.Positions.{is_within, pos_cmp};
 ghost use Rattle.vol_types.specs.Ranges.{IsKeyValue};
-ghost use Rattle.entry_queue.specs.Changes.{IsPartOf, giving, taken_back};
+ghost use Rattle.entry_queue.specs.Changes.{IsPartOf, changes_btree, giving, taken_back};
 
 use node_mem::NodeMem;
 use std::alloc::{AllocError, Global};
@@ -28,6 +28,44 @@ pub struct Pending {
     pub commits: u64,
     /// What its commits changed.
     pub changes: KeyChanges,
+}
+
+impl Pending {
+    /// Whether the entry changes the keys of a btree. It goes over its updates, up to the first of such a key.
+    pub fn has_keys_of(&self, btree: Btree) -> bool
+        ensures { result ≡ changes_btree btree self.now.changes.updates }
+    {
+        has_keys_of(self.changes.updates.as_slice(), btree)
+    }
+
+    /// A node of level 0 of a btree with the changes of this entry taken back, the last one first. It costs what the function
+    /// `taken_back` does.
+    pub fn taken_back(
+        &self,
+        alloc: Global,
+        btree: Btree,
+        node: NodeMem,
+    ) -> Result<NodeMem, AllocError>
+        requires pairs { length self.now.changes.before ≡ length self.now.changes.updates }
+        requires in_range { All IsKeyValue self.now.changes.before }
+        ensures least { IfOk result (λ taken. taken.least ≡ node.least) }
+        ensures greatest { IfOk result (λ taken. taken.greatest ≡ node.greatest) }
+        ensures keys { (keys : KeyMap) → IsKeyMap keys → IsPartOf keys btree node
+            → IfOk result (IsPartOf (taken_back self.now.changes.updates self.now.changes.before keys)
+            btree) }
+    {
+        let updates = self.changes.updates.as_slice();
+        let before = self.changes.before.as_slice();
+        taken_back(alloc, updates, before, btree, node)
+    }
+}
+
+/// Whether updates change the keys of a btree; those of pointers to its nodes don't. It goes over the updates, up to the first
+/// of such a key.
+pub fn has_keys_of(updates: &[Update], btree: Btree) -> bool
+    ensures { result ≡ changes_btree btree updates.now }
+{
+    updates.iter().any(|update| is_leaf_update(btree, update))
 }
 
 /// A node of level 0 of a btree with updates taken back, the last one first, each by the value beside it from before, so that

@@ -1,15 +1,17 @@
-ghost use Rattle.std.specs.Prelude.{ℕ, ◌≡◌, ◌+◌, ◌≤◌, ◌++◌, ◌∷◌, [], Bool, false, List, All, length};
+ghost use Rattle.std.specs.Prelude.{ℕ, ◌≡◌, ◌+◌, ◌<◌, ◌≤◌, ◌++◌, ◌∷◌, [], Bool, false, true, List, Option, None, Some, All, Contains, length};
+ghost use Rattle.std.specs.Option.{option_or};
 ghost use Rattle.btree_map.specs.Applied.{values_before};
 ghost use Rattle.btree_map.specs.Trees.{IsTrees, Trees, keys_in};
 ghost use Rattle.journal_ring.specs.EntryBlocks.{parts_of};
 ghost use Rattle.record_codec.specs.Entries.{IsEntryInRange};
-ghost use Rattle.vol_types.specs.KeyMaps.{IsKeyMap, KeyMap, with_updates};
+ghost use Rattle.vol_types.specs.KeyMaps.{IsKeyMap, KeyMap, entries_of, with_updates};
 ghost use Rattle.vol_types.specs.Ranges.{IsKeyValue, IsNode};
 ghost use Rattle.vol_types.specs.Standing.{IsUpdate};
 ghost use Rattle.vol_types.specs.declared.keys.Update.{Update as AnUpdate};
 ghost use Rattle.vol_types.specs.declared.pointers.NodePtr.{NodePtr as ANode};
-ghost use Rattle.entry_queue.specs.Changes.{LeadTo, changes_of, undone};
-ghost use Rattle.entry_queue.specs.Queues.{AreChanges, HasNumbers, IsQueue, Queue, blocks_with, count_of, growth, last_block, last_of, durable_keys, empty_queue, joined, oldest, record_of, waiting, without_oldest};
+ghost use Rattle.vol_types.specs.declared.positions.Btree.{Btree as ABtree};
+ghost use Rattle.entry_queue.specs.Changes.{LeadTo, changes_btree, changes_of, undone};
+ghost use Rattle.entry_queue.specs.Queues.{AreBehind, AreChanges, HasNumbers, IsQueue, Queue, blocks_with, closed_changes, count_of, first_with, growth, last_block, last_of, durable_keys, empty_queue, joined, oldest, record_of, waiting, waiting_entries, without_oldest};
 ghost use Rattle.entry_queue.specs.declared.changes.KeyChanges.{KeyChanges as SomeChanges};
 ghost use Rattle.entry_queue.specs.declared.changes.Pending.{Pending as APending};
 
@@ -57,6 +59,33 @@ pub fn waiting_changes_lead_from_durable_keys()
     ensures durable { (in_flight : List SomeChanges) (queue : Queue) (durable keys : KeyMap)
         → IsKeyMap durable → LeadTo (in_flight ++ waiting queue) durable keys
         → durable_keys in_flight queue keys ≡ durable }
+{}
+
+/// Of entries under rising sequences the first one that changes a btree is the oldest one, and is behind what the entries follow.
+/// Where none does, what the btree has is the same without their changes. The entries of a queue are such ones, with the
+/// changes that wait.
+pub fn btrees_change_from_their_first_entry()
+    ensures oldest { (btree : ABtree) (sequence : ℕ) (entries : List APending) (entry : APending)
+        → AreBehind sequence entries → Contains entries entry
+        → changes_btree btree entry.changes.updates ≡ true → (first : ℕ)
+        × (first_with btree entries ≡ Some first) × (first ≤ entry.after + 1) }
+    ensures there { (btree : ABtree) (entries : List APending) (first : ℕ)
+        → first_with btree entries ≡ Some first → (entry : APending) × Contains entries entry
+        × (changes_btree btree entry.changes.updates ≡ true) × (first ≡ entry.after + 1) }
+    ensures none { (btree : ABtree) (entries : List APending) (entry : APending)
+        → first_with btree entries ≡ None → Contains entries entry
+        → changes_btree btree entry.changes.updates ≡ false }
+    ensures later { (btree : ABtree) (sequence : ℕ) (entries : List APending) (first : ℕ)
+        → AreBehind sequence entries → first_with btree entries ≡ Some first → sequence < first }
+    ensures appended { (btree : ABtree) (entries others : List APending)
+        → first_with btree (entries ++ others) ≡ option_or (first_with btree entries)
+        (first_with btree others) }
+    ensures unchanged { (btree : ABtree) (entries : List APending) (keys : KeyMap)
+        → first_with btree entries ≡ None
+        → entries_of (undone (closed_changes entries) keys) btree ≡ entries_of keys btree }
+    ensures in_turn { (sequence : ℕ) (queue : Queue) → IsQueue queue
+        → sequence ≤ (oldest queue).after → AreBehind sequence (waiting_entries queue) }
+    ensures changes { (queue : Queue) → closed_changes (waiting_entries queue) ≡ waiting queue }
 {}
 
 /// A queue stays one after a commit, with the same metadata devices, and counts the commit, if that counts. The entry that is

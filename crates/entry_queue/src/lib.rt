@@ -11,10 +11,10 @@ mod open_entry;
 mod queue;
 mod sizes;
 
-pub use changes::{KeyChanges, Pending, taken_back};
+pub use changes::{KeyChanges, Pending, has_keys_of, taken_back};
 pub use laws::{
-    commits_are_undone, commits_leave_queues, entries_fit, entries_leave_in_turn,
-    waiting_changes_lead_from_durable_keys,
+    btrees_change_from_their_first_entry, commits_are_undone, commits_leave_queues, entries_fit,
+    entries_leave_in_turn, waiting_changes_lead_from_durable_keys,
 };
 pub use queue::EntryQueue;
 

@@ -1,11 +1,10 @@
 ghost use Rattle.std.specs.Prelude.{◌≡◌, ◌↔◌, ◌+◌, ◌-◌, ◌<◌, ◌≤◌, ◌^◌, ◌++◌, ◌∷◌, [], All, IfOk, IsTrue, OnOk, false, true, length, not, ◌==◌, vec_len, vec_capacity};
 ghost use Rattle.vol_types.specs.KeyMaps.{IsKeyMap, KeyMap};
-ghost use Rattle.vol_types.specs.Ranges.{IsKeyValue};
 ghost use Rattle.vol_types.specs.Standing.{IsUpdate};
-ghost use Rattle.entry_queue.specs.Changes.{IsPartOf, taken_back, undone};
-ghost use Rattle.entry_queue.specs.Queues.{AreChanges, HasNumbers, HasRoom, IsQueue, blocks_with, closed_changes, closes, count_of, empty_queue, follower_of, growth, joined, last_block, last_of, oldest, waiting, with_commit, without_oldest, IsTakenOut, Queue};
+ghost use Rattle.entry_queue.specs.Changes.{IsPartOf, undone};
+ghost use Rattle.entry_queue.specs.Queues.{AreChanges, HasNumbers, HasRoom, IsQueue, blocks_with, closed_changes, closes, count_of, empty_queue, first_with, follower_of, growth, joined, last_block, last_of, oldest, waiting, waiting_entries, with_commit, without_oldest, IsTakenOut, Queue};
 
-use crate::changes::{KeyChanges, Pending, last_left, taken_back};
+use crate::changes::{KeyChanges, Pending, has_keys_of, last_left, taken_back};
 use crate::open_entry::OpenEntry;
 use crate::sizes::{MOST_BLOCKS, blocks_with, fits_one_entry};
 use node_mem::NodeMem;
@@ -82,7 +81,8 @@ impl EntryQueue {
 
     /// The closed entries, the oldest first.
     pub fn closed(&self) -> &[Pending]
-        ensures { result.now ≡ self.now.queue.closed }
+        ensures exact { result.now ≡ self.now.queue.closed }
+        ensures numbers { All (λ entry. entry.after + 1 < 2 ^ 64) result.now }
     {
         self.closed.as_slice()
     }
@@ -165,6 +165,29 @@ impl EntryQueue {
         self.has_numbers(&[], false)
     }
 
+    /// The sequence of the oldest entry that changes the keys of a btree, or none. It goes over the updates of the entries, up to
+    /// the first of such a key.
+    #[tactic(auto, using(crate::specs::FirstLaws::first_append))]
+    pub fn first_with(&self, btree: Btree) -> Option<u64>
+        ensures { result ≡ first_with btree (waiting_entries self.now.queue) }
+    {
+        match first_with(self.closed(), btree) {
+            None => self.open_with(btree),
+            Some(first) => Some(first),
+        }
+    }
+
+    // The sequence of the open entry, if it changes the keys of a btree.
+    #[tactic(auto, using(crate::proofs::Numbers::open_number))]
+    fn open_with(&self, btree: Btree) -> Option<u64>
+        ensures { result ≡ first_with btree (self.now.queue.open_entry ∷ []) }
+    {
+        if has_keys_of(self.updates(), btree) {
+            return Some(self.after() + 1);
+        }
+        None
+    }
+
     /// A node of level 0 of a btree with what waits taken back, the newest first. It goes over the updates of all entries,
     /// and costs a logarithm of the node's values, and memory for a value, for each that lies in it.
     pub fn taken_back(
@@ -193,7 +216,7 @@ impl EntryQueue {
         let count = self.closed.len();
         for done in 0..count {
             let at = last_left(count, done);
-            node = entry_back(alloc, &self.closed[at], btree, node)?;
+            node = self.closed[at].taken_back(alloc, btree, node)?;
         }
         Ok(node)
     }
@@ -313,24 +336,17 @@ impl EntryQueue {
     }
 }
 
-// The node with the changes of a closed entry taken back.
-fn entry_back(
-    alloc: Global,
-    entry: &Pending,
-    btree: Btree,
-    node: NodeMem,
-) -> Result<NodeMem, AllocError>
-    requires pairs { length entry.now.changes.before ≡ length entry.now.changes.updates }
-    requires in_range { All IsKeyValue entry.now.changes.before }
-    ensures least { IfOk result (λ taken. taken.least ≡ node.least) }
-    ensures greatest { IfOk result (λ taken. taken.greatest ≡ node.greatest) }
-    ensures keys { (keys : KeyMap) → IsKeyMap keys → IsPartOf keys btree node
-        → IfOk result (IsPartOf (taken_back entry.now.changes.updates entry.now.changes.before keys)
-        btree) }
+// The sequence of the first of some entries that changes the keys of a btree, if one does.
+fn first_with(entries: &[Pending], btree: Btree) -> Option<u64>
+    requires { All (λ entry. entry.after + 1 < 2 ^ 64) entries.now }
+    ensures { result ≡ first_with btree entries.now }
 {
-    let updates = entry.changes.updates.as_slice();
-    let before = entry.changes.before.as_slice();
-    taken_back(alloc, updates, before, btree, node)
+    for entry in entries {
+        if entry.has_keys_of(btree) {
+            return Some(entry.after + 1);
+        }
+    }
+    None
 }
 
 // Adds an entry behind others, where there is a place for it.

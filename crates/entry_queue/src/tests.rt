@@ -476,3 +476,77 @@ fn taken_back_to_the_entry_before(rt: HostRuntime) -> Result<(), Fail> {
     assert!(rt; queue.commits() == 80);
     Ok(())
 }
+
+// The changes of one update that takes a key away, or a pointer to a node where the level isn't 0.
+fn removal(alloc: Global, btree: Btree, level: u8) -> Result<KeyChanges, AllocError> {
+    let mut changes = no_changes(alloc);
+    let update = Update {
+        btree,
+        level,
+        pos: at(3),
+        value: None,
+    };
+    push(&mut changes, update, None)?;
+    Ok(changes)
+}
+
+// Whether these entries are the first ones that change three btrees.
+fn has_firsts(
+    queue: &EntryQueue,
+    alloc: Option<u64>,
+    inodes: Option<u64>,
+    dirents: Option<u64>,
+) -> bool {
+    if queue.first_with(Btree::Alloc) != alloc || queue.first_with(Btree::Inodes) != inodes {
+        return false;
+    }
+    queue.first_with(Btree::Dirents) == dirents
+}
+
+// Entry 8 is filled with changes of one btree and closed, and entry 9 has those of others; a pointer is no key.
+#[test]
+fn first_entries_with_keys(rt: HostRuntime) -> Result<(), Fail> {
+    let alloc = rt.alloc();
+    let mut queue = EntryQueue::new(alloc, 1, 7, 99, 5);
+    assert!(rt; has_firsts(&queue, None, None, None));
+    commit(&mut queue, changes(alloc, 11_023, 9)?, true)?;
+    assert!(rt; has_firsts(&queue, Some(8), None, None));
+    commit(&mut queue, removal(alloc, Btree::Inodes, 0)?, true)?;
+    commit(&mut queue, removal(alloc, Btree::Dirents, 1)?, false)?;
+    assert!(rt; has_firsts(&queue, Some(8), Some(9), None));
+    assert!(rt; take_out(alloc, &mut queue));
+    assert!(rt; has_firsts(&queue, None, Some(9), None));
+    commit(&mut queue, removal(alloc, Btree::Dirents, 0)?, true)?;
+    assert!(rt; has_firsts(&queue, None, Some(9), Some(9)));
+    Ok(())
+}
+
+// A table without the changes of the entry that is written next, which is taken out.
+fn without_next(
+    alloc: Global,
+    queue: &mut EntryQueue,
+    table: &NodeMem,
+) -> Result<Option<NodeMem>, AllocError> {
+    if !queue.has_entry_numbers() {
+        return Ok(None);
+    }
+    let entry = queue.take_oldest(alloc);
+    let back = entry.taken_back(alloc, Btree::Alloc, table.copy(alloc)?)?;
+    Ok(Some(back))
+}
+
+// The changes of the one entry that is taken out are taken back from what stood when it was.
+#[test]
+fn one_entry_taken_back(rt: HostRuntime) -> Result<(), Fail> {
+    let alloc = rt.alloc();
+    let mut queue = EntryQueue::new(alloc, 2, 1, 0, 0);
+    let mut table = table(alloc)?;
+    let first = table.copy(alloc)?;
+    assert!(rt; commit_some(alloc, &mut queue, &mut table, 10)?);
+    let back = without_next(alloc, &mut queue, &table)?;
+    assert!(rt; back.is_some());
+    if let Some(back) = back {
+        assert!(rt; are_same(alloc, &back, &first)?);
+    }
+    Ok(())
+}

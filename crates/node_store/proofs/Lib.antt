@@ -16,3 +16,4 @@ pub mod NodeAnswers
 pub mod AlikeCopies
 pub mod BadWithin
 pub mod PlannedContents
+pub mod WrittenLengths

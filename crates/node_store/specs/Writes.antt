@@ -1,7 +1,7 @@
 -- A block that is written on each place of a node.
-use Rattle.std.specs.Prelude.{◌≡◌, ℕ, ◌+◌, List, Contains, Some, Result, IfErr}
-use Rattle.dev_model.specs.Devices.{IsPlace}
-use Rattle.dev_model.specs.Disk.{Image, block_at}
+use Rattle.std.specs.Prelude.{◌≡◌, ℕ, ◌+◌, ◌≤◌, List, Contains, Some, Result, IfErr, length, map}
+use Rattle.dev_model.specs.Devices.{DevicesState, IsPlace, now}
+use Rattle.dev_model.specs.Disk.{Disk, Image, IsCrashImage, block_at}
 use Rattle.vol_types.specs.declared.pointers.Place.{Place}
 use Rattle.node_store.specs.declared.fault.NodeFault.{NodeFault}
 use Rattle.node_store.specs.declared.fault.NodeFault.TheVariants.{DeviceFault}
@@ -25,3 +25,11 @@ HoldCopies places n bytes image = (place : Place) → Contains places place → 
 -- Where it fails, it names the device of one of the places.
 abbrev pub NamesDeviceOf : {T : Type 0} → List Place → Result T NodeFault → Type 0
 NamesDeviceOf places result = IfErr result (λ fault. (place : Place) × Contains places place × (fault ≡ DeviceFault place.dev))
+
+-- The image is as long as one that a crash may leave of these disks.
+abbrev pub HasLengthsOf : List Disk → Image → Type 0
+HasLengthsOf disks image = (before : Image) × IsCrashImage disks before × (map (λ blocks. length blocks) before ≡ map (λ blocks. length blocks) image)
+
+-- Whatever a crash leaves meanwhile has the lengths of something that it might leave before.
+abbrev pub KeepsLengths : DevicesState → DevicesState → Type 0
+KeepsLengths old new = (m : ℕ) → old.moment ≤ m → m ≤ new.moment → (image : Image) → IsCrashImage (new.disks m) image → HasLengthsOf (now old) image

@@ -6,7 +6,7 @@ ghost use Rattle.dev_model.specs.Crashes.{EachCrash, IsCrashImageBut, SameBut};
 ghost use Rattle.dev_model.specs.HeldBlocks.{HoldOnly};
 ghost use Rattle.node_store.specs.Faults.{failed_node_device};
 ghost use Rattle.node_store.specs.Plans.{block_of_bytes, part_bytes, planned_blocks};
-ghost use Rattle.node_store.specs.Writes.{HaveCopies, HoldCopies, IsCopyBlock, IsCopyOf, NamesDeviceOf};
+ghost use Rattle.node_store.specs.Writes.{HaveCopies, HoldCopies, IsCopyBlock, IsCopyOf, KeepsLengths, NamesDeviceOf};
 
 use crate::{Blocked, NodeFault};
 use dev_model::Devices;
@@ -30,6 +30,7 @@ pub fn write_part<D: Devices>(devices: &mut D, blocked: &Blocked, part: u8) -> R
     ensures asks { D.tells → (opens : List ℕ → Bool) → HoldOnly opens
         (IsCopyBlock blocked.now.places (blocked.now.block + part) (part_bytes blocked.now part))
         (D.state devices.old) (D.state devices.new) }
+    ensures lengths { D.tells → KeepsLengths (D.state devices.old) (D.state devices.new) }
     ensures goes_on { GoOn (D.state devices.old) (D.state devices.new) }
     ensures cause { (D.state devices.new).faults ≡ after_writes (failed_node_device result)
         (D.state devices.old).faults }
@@ -72,6 +73,7 @@ fn write_copies<D: Devices>(
         (as_read (now (D.state devices.old))) (as_read (now (D.state devices.new))) }
     ensures asks { D.tells → (opens : List ℕ → Bool) → HoldOnly opens
         (IsCopyBlock places.now n bytes.now) (D.state devices.old) (D.state devices.new) }
+    ensures lengths { D.tells → KeepsLengths (D.state devices.old) (D.state devices.new) }
     ensures goes_on { GoOn (D.state devices.old) (D.state devices.new) }
     ensures cause { (D.state devices.new).faults ≡ after_writes (failed_node_device result)
         (D.state devices.old).faults }

@@ -3,6 +3,7 @@ ghost use Rattle.birth_index.specs.Births.{BirthsDiffer};
 ghost use Rattle.btree_map.specs.Trees.{IsTrees, keys_in};
 ghost use Rattle.dev_model.specs.Disk.{Image};
 ghost use Rattle.image_view.specs.Found.{Found, IsInOrder, found};
+ghost use Rattle.record_codec.specs.Entries.{IsEntry};
 ghost use Rattle.replay.specs.NodeUpdates.{ChangesNode, EachUpdate, HaveRisen, IsBelowRoot};
 ghost use Rattle.replay.specs.Volumes.{trees_read};
 
@@ -12,10 +13,12 @@ use sealed_block::opened_blocks_are_sealed;
 
 /// What is found in an image is a key map: the nodes of each level of a btree rise and cover all positions, those of a level
 /// above the leaves are made of nodes of the level below, under one root; the leaves cut the keys, which may stand in their
-/// btree; and no two nodes have one birth. Its newest entry is one of those that are needed.
+/// btree; and no two nodes have one birth. Its newest entry is one of those that are needed, each of which can be encoded.
 pub fn found_btrees_are_a_key_map()
     ensures trees { (image : Image) (f : Found) → found image ≡ Ok f → IsTrees (trees_read f.trees) }
     ensures newest { (image : Image) (f : Found) → found image ≡ Ok f → 0 < length f.needed }
+    ensures entries { (image : Image) (f : Found) → found image ≡ Ok f
+        → All (λ needed. IsEntry needed.entry) f.needed }
     ensures births { (image : Image) (f : Found) → found image ≡ Ok f → BirthsDiffer f.trees.nodes }
     ensures keys { (image : Image) (f : Found) → found image ≡ Ok f
         → keys_in (trees_read f.trees) ≡ f.trees.keys }

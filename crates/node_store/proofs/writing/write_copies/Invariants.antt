@@ -5,7 +5,7 @@ use Rattle.dev_model.specs.Devices.{now}
 use Rattle.dev_model.specs.Crashes.{EachCrash, IsCrashImageBut, SameBut}
 use Rattle.dev_model.specs.Frames.{GoOn}
 use Rattle.dev_model.specs.HeldBlocks.{HoldOnly}
-use Rattle.node_store.specs.Writes.{IsCopyBlock, IsCopyOf}
+use Rattle.node_store.specs.Writes.{HasLengthsOf, IsCopyBlock, IsCopyOf}
 use Rattle.node_store.proofs.writing.write_copies.Given as goal
 
 abbrev pub invariant-loop-place : goal.invariant-loop-place
@@ -17,6 +17,7 @@ invariant-loop-place g l =
       written : D.tells → (k : ℕ) (d : Place) → k < l.place-index → k < length l.fn.places → block_at (as_read (now (D.state l.devices))) (get_or l.fn.places k d).dev ((get_or l.fn.places k d).block + l.fn.n) ≡ Some l.fn.bytes;
       elsewhere : D.tells → SameBut (IsCopyOf l.fn.places l.fn.n) (as_read (now (D.state first))) (as_read (now (D.state l.devices)));
       asks : D.tells → (opens : List ℕ → Bool) → HoldOnly opens (IsCopyBlock l.fn.places l.fn.n l.fn.bytes) (D.state first) (D.state l.devices);
+      lengths : D.tells → EachCrash (λ _ _ image. HasLengthsOf (now (D.state first)) image) (D.state first) (D.state l.devices);
       goes_on : GoOn (D.state first) (D.state l.devices);
       faults : (D.state l.devices).faults ≡ (D.state first).faults;
     }
