@@ -1,0 +1,13 @@
+mod ApartNodes
+mod CalledLeaves
+mod FoundLeaves
+mod FrozenLeaf
+mod NamedLeaves
+mod NineBtrees
+mod OwnBuckets
+mod PinnedMore
+mod SameLeaves
+mod SettledLeaves
+mod WrittenLeaf
+mod PlacedLeaves
+mod GivenUpLeaves

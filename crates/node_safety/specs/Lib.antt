@@ -1,0 +1,4 @@
+pub mod Leaves
+pub mod NodeParts
+pub mod Naming
+pub mod LeafLaws

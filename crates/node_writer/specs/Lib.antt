@@ -1,0 +1,2 @@
+pub mod NodeWork
+pub mod NodeWrites
