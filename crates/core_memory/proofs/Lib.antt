@@ -7,3 +7,4 @@ mod Opened
 mod Walking
 mod Written
 mod RootNodes
+pub mod Sent

@@ -132,6 +132,7 @@ fn reserve(
     ensures room { OnOk result (HasRoom updates.now queue.new) }
     ensures pin_room { OnOk result (length paths.now.changed.items ≤ dirty.new.pins.spare) }
     ensures mark_room { OnOk result (length paths.now.over.items ≤ dirty.new.marks.spare) }
+    ensures later_room { OnOk result (length paths.now.changed.items ≤ dirty.new.later.spare) }
 {
     queue.reserve(updates)?;
     dirty.reserve(paths)

@@ -1,5 +1,5 @@
-//! A volume on one device of 1,024 blocks in memory, with a journal area of 256: nine leaves without keys, byte by byte from the tables of
-//! the format.
+//! A volume on up to four devices of 1,024 blocks in memory, with a journal area of 256 on each metadata device: nine leaves without
+//! keys, byte by byte from the tables of the format.
 
 use dev_model::{Devices, MemDevices};
 use geometry::{session_bytes, write_super};
@@ -14,16 +14,48 @@ const ID: [u8; 16] = [0, 0, 0, 0, 0, 0, 0x40, 0, 0x80, 0, 0, 0, 0, 0, 0, 1];
 // The birth of the root of btree 0.
 const BIRTH: u64 = 0x1_0000_0000;
 
+/// On how many devices a volume lies, and how many of them, the first ones, keep its metadata.
+#[derive(Clone, Copy, Debug, PartialEq, Eq)]
+pub struct Shape {
+    pub devices: u8,
+    pub mirrors: u8,
+}
+
 // The place of the root of a btree.
 fn root_block(btree: u8) -> u32 {
     272 + 16 * u32::from(btree)
 }
 
-fn put(devices: &mut MemDevices, block: u32, bytes: &[u8]) -> Result<(), Fail> {
-    if devices.count() == 0 || block >= devices.blocks(0) || bytes.len() != 4096 {
+/// The bytes of a block of a device.
+pub fn block_of(
+    alloc: Global,
+    devices: &mut MemDevices,
+    dev: u8,
+    block: u32,
+) -> Result<Vec<u8>, Fail> {
+    if dev >= devices.count() || block >= devices.blocks(dev) {
         return Err(Fail::from("there is no such block"));
     }
-    devices.write(0, block, bytes)?;
+    let mut bytes = vec![in alloc; 0; 4096]?;
+    devices.read(dev, block, &mut bytes)?;
+    Ok(bytes)
+}
+
+/// Writes a block of a device.
+pub fn put(devices: &mut MemDevices, dev: u8, block: u32, bytes: &[u8]) -> Result<(), Fail> {
+    if dev >= devices.count() || block >= devices.blocks(dev) || bytes.len() != 4096 {
+        return Err(Fail::from("there is no such block"));
+    }
+    devices.write(dev, block, bytes)?;
+    Ok(())
+}
+
+// Settles what was written to a device.
+fn settle(devices: &mut MemDevices, dev: u8) -> Result<(), Fail> {
+    if dev >= devices.count() {
+        return Err(Fail::from("there is no such device"));
+    }
+    devices.flush(dev)?;
     Ok(())
 }
 
@@ -31,6 +63,7 @@ fn put(devices: &mut MemDevices, block: u32, bytes: &[u8]) -> Result<(), Fail> {
 fn put_record(
     alloc: Global,
     devices: &mut MemDevices,
+    dev: u8,
     block: u32,
     head: Head,
     payload: &[u8],
@@ -45,7 +78,7 @@ fn put_record(
     }
     let mut bytes = vec![in alloc; 0; 4096]?;
     seal(&head, payload, &mut bytes);
-    put(devices, block, &bytes)
+    put(devices, dev, block, &bytes)
 }
 
 fn head_of(kind: u8, owner: u64) -> Head {
@@ -74,62 +107,128 @@ fn leaf_payload(alloc: Global, btree: u8) -> Result<Bytes, AllocError> {
     Ok(payload)
 }
 
+// A root, at the same place of each metadata device.
+fn put_root(payload: &mut Bytes, btree: u8, mirrors: u8) -> Result<(), AllocError> {
+    payload.extend_from_slice(&BIRTH.wrapping_add(u64::from(btree)).to_le_bytes())?;
+    payload.extend_from_slice(&[0, mirrors])?;
+    for dev in 0..mirrors {
+        payload.extend_from_slice(&[dev])?;
+        payload.extend_from_slice(&root_block(btree).to_le_bytes())?;
+    }
+    Ok(())
+}
+
 // The first entry: sequence 1, which needs itself alone, session 1, no commits, the roots, and no updates.
-fn entry_payload(alloc: Global) -> Result<Bytes, AllocError> {
+fn entry_payload(alloc: Global, mirrors: u8) -> Result<Bytes, AllocError> {
     let mut payload = Bytes::new(alloc);
     for number in [1u64, 1, 1, 0] {
         payload.extend_from_slice(&number.to_le_bytes())?;
     }
     for btree in 0..9 {
-        payload.extend_from_slice(&BIRTH.wrapping_add(u64::from(btree)).to_le_bytes())?;
-        payload.extend_from_slice(&[0, 1, 0])?;
-        payload.extend_from_slice(&root_block(btree).to_le_bytes())?;
+        put_root(&mut payload, btree, mirrors)?;
     }
     payload.extend_from_slice(&[0; 4])?;
     Ok(payload)
 }
 
-fn put_super(alloc: Global, devices: &mut MemDevices) -> Result<(), Fail> {
+// The sizes of the devices.
+fn sizes_of(count: u8) -> &'static [u32] {
+    match count {
+        1 => &[1024],
+        2 => &[1024, 1024],
+        3 => &[1024, 1024, 1024],
+        _ => &[1024, 1024, 1024, 1024],
+    }
+}
+
+fn put_super(alloc: Global, devices: &mut MemDevices, shape: Shape, dev: u8) -> Result<(), Fail> {
     let layout = Layout {
         id: ID,
-        blocks: Blocks::from_slice(alloc, &[1024])?,
+        blocks: Blocks::from_slice(alloc, sizes_of(shape.devices))?,
         journal: 256,
-        metadata_replicas: 1,
+        metadata_replicas: shape.mirrors,
         data_replicas: 1,
     };
-    if !layout.is_valid() || layout.blocks.is_empty() {
+    if !layout.is_valid() || usize::from(dev) >= layout.blocks.len() {
         return Err(Fail::from("it is no layout"));
     }
     let mut bytes = vec![in alloc; 0; 4096]?;
-    write_super(&layout, 0, 0, 1, &mut bytes);
-    put(devices, 0, &bytes)
+    write_super(&layout, dev, 0, 1, &mut bytes);
+    put(devices, dev, 0, &bytes)
 }
 
-/// The devices of the volume, which session 1 wrote last.
-pub fn formatted(alloc: Global) -> Result<MemDevices, Fail> {
-    let mut devices = MemDevices::blank(alloc, &[1024])?;
+// Writes the leaves of a metadata device.
+fn put_leaves(alloc: Global, devices: &mut MemDevices, dev: u8) -> Result<(), Fail> {
     for btree in 0..9 {
         let leaf = leaf_payload(alloc, btree)?;
         let head = head_of(NODE_SET, BIRTH.wrapping_add(u64::from(btree)));
         put_record(
             alloc,
-            &mut devices,
+            devices,
+            dev,
             root_block(btree),
             head,
             leaf.as_slice(),
         )?;
     }
-    let entry = entry_payload(alloc)?;
+    Ok(())
+}
+
+// Writes the first entry and the session of a metadata device.
+fn put_front(alloc: Global, devices: &mut MemDevices, shape: Shape, dev: u8) -> Result<(), Fail> {
+    let entry = entry_payload(alloc, shape.mirrors)?;
     put_record(
         alloc,
-        &mut devices,
+        devices,
+        dev,
         16,
         head_of(JOURNAL_ENTRY, 1),
         entry.as_slice(),
     )?;
     let mut bytes = vec![in alloc; 0; 4096]?;
     session_bytes(&ID, 1, &mut bytes);
-    put(&mut devices, 5, &bytes)?;
-    put_super(alloc, &mut devices)?;
+    put(devices, dev, 5, &bytes)
+}
+
+/// Makes a volume as it was after its format, whose sessions wrote at most the first 64 blocks of its journal areas.
+pub fn renew(alloc: Global, devices: &mut MemDevices, shape: Shape) -> Result<(), Fail> {
+    let zeros = vec![in alloc; 0; 4096]?;
+    for dev in 0..shape.mirrors {
+        put(devices, dev, 4, &zeros)?;
+        for block in 17..80 {
+            put(devices, dev, block, &zeros)?;
+        }
+        put_front(alloc, devices, shape, dev)?;
+        settle(devices, dev)?;
+    }
+    Ok(())
+}
+
+/// The devices of a volume of this shape, which session 1 wrote last. Nothing is pending on them.
+pub fn formatted_on(alloc: Global, shape: Shape) -> Result<MemDevices, Fail> {
+    let sizes = sizes_of(shape.devices);
+    if sizes.is_empty() || sizes.len() > 8 {
+        return Err(Fail::from("there are no such devices"));
+    }
+    let mut devices = MemDevices::blank(alloc, sizes)?;
+    for dev in 0..shape.mirrors {
+        put_leaves(alloc, &mut devices, dev)?;
+        put_front(alloc, &mut devices, shape, dev)?;
+    }
+    for dev in 0..shape.devices {
+        put_super(alloc, &mut devices, shape, dev)?;
+        settle(&mut devices, dev)?;
+    }
     Ok(devices)
+}
+
+/// The devices of a volume on one device, which session 1 wrote last.
+pub fn formatted(alloc: Global) -> Result<MemDevices, Fail> {
+    formatted_on(
+        alloc,
+        Shape {
+            devices: 1,
+            mirrors: 1,
+        },
+    )
 }

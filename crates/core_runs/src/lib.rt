@@ -1,7 +1,24 @@
-//! A formatted volume on devices in memory, and where its nodes lie. The crate holds tests alone.
+//! Open volumes on devices in memory: where their nodes lie, what their events are answered beside a plain model, how many device
+//! calls a sync makes, what is left where devices fail, and a core that is sent to a thread. The crate holds tests alone.
 #![tactic(auto)]
 
 #[cfg(test)]
+mod crashes;
+#[cfg(test)]
+mod draws;
+#[cfg(test)]
+mod events;
+#[cfg(test)]
 mod images;
 #[cfg(test)]
+mod lists;
+#[cfg(test)]
+mod model;
+#[cfg(test)]
+mod moves;
+#[cfg(test)]
+mod remains;
+#[cfg(test)]
 mod tests;
+#[cfg(test)]
+mod threads;

@@ -12,3 +12,4 @@ pub mod Stepped
 pub mod Surviving
 pub mod Written
 pub mod ChangedNodes
+pub mod Sent

@@ -20,7 +20,7 @@ use replay::{Loaded, updates_change_nodes};
 use std::alloc::{AllocError, Global};
 use std::marker::{Model, PhantomData};
 
-/// An open volume.
+/// An open volume. It may be sent to another thread.
 ///
 /// Its type keeps what the session promises: whatever a crash has left of the devices since the volume was opened means
 /// what some entry of the journal led to, and none before the last that was durable by then (`survives`).
