@@ -3,6 +3,7 @@ use Rattle.std.proofs.Common.{◌≡◌, ◌≤◌, ◌<◌, ◌+◌, ◌^◌, �
 use Rattle.std.specs.Prelude.{All, ◌==◌, slice_index_or}
 use Rattle.std.proofs.lemmas.List.{get_or_default, length-append}
 use Rattle.std.proofs.lemmas.List.Elements.{All-cons, All-nil, All-push, All-weaker}
+use Rattle.entry_queue.specs.Queues.{AreChanges}
 use Rattle.entry_queue.specs.declared.changes.Pending.{Pending}
 use Rattle.journal_ring.specs.declared.found.FoundEntry.{FoundEntry}
 use Rattle.vol_types.specs.Layouts.{IsLayout}
@@ -60,7 +61,7 @@ first_stays (start ∷ starts) more some = refl
 
 -- An entry is put in flight where none is.
 module _ (mirrors : ℕ) (begun : Bool) (old : Writer) (is : IsWriter old) (knows : KnowsRing mirrors begun old.ring) (none : old.flight ≡ None) (blocks : List (List ℕ)) (some : 0 < length blocks)
-    (entry : Pending) (oldest : ℕ) (sequence : entry.after + 1 < 2 ^ 64) (order : oldest ≤ entry.after + 1) where
+    (entry : Pending) (oldest : ℕ) (sequence : entry.after + 1 < 2 ^ 64) (order : oldest ≤ entry.after + 1) (changes : AreChanges old.ring.mirrors entry.changes) where
   -- No part was written.
   unwritten : old.ring.written ≡ 0
   unwritten = let most = is.parts in let nothing = ap (λ (bs : List (List ℕ)). length bs) (is.at_rest none) in omega (arith, most, nothing)
@@ -76,7 +77,7 @@ module _ (mirrors : ℕ) (begun : Bool) (old : Writer) (is : IsWriter old) (know
       within = All-push (λ start. start ≤ old.ring.next + length blocks) old.starts old.ring.next (All-weaker (λ start. start ≤ old.ring.next) (λ start. start ≤ old.ring.next + length blocks) (λ start le. omega (arith, le)) old.starts is.within) (omega arith);
       parts = omega arith;
       at_rest = λ nothing. absurd cc;
-      flying = record { blocks = some; sequence = sequence; oldest = order };
+      flying = record { blocks = some; sequence = sequence; oldest = order; changes = changes };
     },
     record { count = knows.count; parts = knows.parts ∙ ap (λ (n : ℕ). not (n == 0)) unwritten },
   )

@@ -1,6 +1,6 @@
 -- The writing side of a journal: the entry in flight and how far it is, the last durable one, and what is to be flushed.
 use Rattle.std.specs.Prelude.{◌≡◌, ℕ, suc, ◌+◌, ◌-◌, ◌<◌, ◌≤◌, ◌^◌, ⊤, min, Bool, true, false, not, ◌==◌, if◌then◌else◌, Option, Some, None, IfSome, List, [], ◌∷◌, ◌++◌, All, length, map, replicate, take, drop, slice_get, slice_set, slice_index_or}
-use Rattle.entry_queue.specs.Queues.{record_of}
+use Rattle.entry_queue.specs.Queues.{AreChanges, record_of}
 use Rattle.entry_queue.specs.declared.changes.Pending.{Pending}
 use Rattle.journal_ring.specs.EntryBlocks.{AreEntryBlocks, parts_of}
 use Rattle.journal_ring.specs.Rings.{IsClear, RingState, ring_of, used, with_first, with_flight, with_part}
@@ -147,11 +147,12 @@ settled_by (Some flight) writer =
 abbrev pub settled : Writer → Writer
 settled writer = settled_by writer.flight writer
 
--- An entry is in flight: it has blocks, and a sequence of its own.
+-- An entry is in flight: it has blocks, a sequence of its own, and changes that fit an entry.
 pub record IsFlying (writer : Writer) (flight : Flight) : Type 0 where
   pub blocks : 0 < length writer.ring.blocks
   pub sequence : flight.entry.after + 1 < 2 ^ 64
   pub oldest : flight.oldest ≤ flight.entry.after + 1
+  pub changes : AreChanges writer.ring.mirrors flight.entry.changes
 
 -- What a writer keeps.
 pub record IsWriter (writer : Writer) : Type 0 where

@@ -1,4 +1,4 @@
-/// The next step that the journal needs.
+/// The next step that a work on what is durable needs: the journal, or nodes that are written.
 #[derive(Clone, Copy, Debug, PartialEq, Eq)]
 pub enum Stage {
     /// None.
@@ -11,4 +11,10 @@ pub enum Stage {
     Flush(u8),
     /// All of the entry in flight is settled, and it is to be taken as the last durable one.
     Settle,
+    /// The node of this birth is to be frozen.
+    Freeze(u64),
+    /// The next block of what is frozen of the node of this birth is to be written.
+    WriteSet(u64),
+    /// All frozen nodes are written and settled, and are to be put in place.
+    CommitNodes,
 }

@@ -1,4 +1,4 @@
-ghost use Rattle.std.specs.Prelude.{◌≡◌, ◌+◌, ◌-◌, ◌<◌, ◌≤◌, ◌^◌, ◌↔◌, ◌++◌, ◌∷◌, [], ℕ, Bool, List, All, None, Some, IsSome, IfSome, IfOk, IfErr, OnOk, OnErr, drop, if◌then◌else◌, length, min, true};
+ghost use Rattle.std.specs.Prelude.{◌≡◌, ◌+◌, ◌-◌, ◌<◌, ◌≤◌, ◌^◌, ◌↔◌, ◌++◌, ◌∷◌, [], ℕ, Bool, List, All, None, Some, IsSome, IfSome, IfOk, IfErr, OnOk, OnErr, drop, if◌then◌else◌, length, min, take, true};
 ghost use Rattle.dev_model.specs.Devices.{IsFlush};
 ghost use Rattle.entry_queue.specs.Queues.{AreChanges, record_of};
 ghost use Rattle.geometry.specs.Faults.{failed_device};
@@ -8,7 +8,7 @@ ghost use Rattle.journal_ring.specs.Rings.{HaveArea, IsClear, part_number, used,
 ghost use Rattle.record_codec.specs.Entries.{IsEntry, IsEntryInRange};
 ghost use Rattle.vol_types.specs.Layouts.{is_layout};
 ghost use Rattle.vol_types.specs.Ranges.{IsNode};
-ghost use Rattle.entry_writer.specs.Writers.{HasBlockNumbers, HasRoom, IsSealed, IsWhy, IsWriterOpened, flush_before, most_devices, settled, stage_of, starts_of, step_of, unsettled_by, with_flushed, with_next_part};
+ghost use Rattle.entry_writer.specs.Writers.{HasBlockNumbers, HasRoom, IsFlying, IsSealed, IsWhy, IsWriterOpened, first_flag, flush_before, most_devices, settled, stage_of, starts_of, step_of, unsettled_by, with_flushed, with_next_part};
 ghost use Rattle.entry_writer.specs.Writes.{WritesPart};
 ghost use Rattle.entry_writer.specs.declared.stage.Stage.TheVariants.{Rest, Seal, Settle, WriteEntry};
 
@@ -119,6 +119,7 @@ impl EntryWriter {
     pub fn flight(&self) -> Option<&Flight>
         ensures none { IsSome result ↔ IsSome self.now.flight }
         ensures some { IfSome result (λ flight. self.now.flight ≡ Some flight.now) }
+        ensures kept { IfSome result (λ flight. IsFlying self.now flight.now) }
     {
         self.flight.as_ref()
     }
@@ -141,8 +142,7 @@ impl EntryWriter {
             return flush_before(first_flag(&self.unsettled), Stage::WriteEntry);
         }
         if self.ring.is_written() {
-            let (metadata, _) = self.unsettled.split_at(usize::from(self.mirrors));
-            return flush_before(first_flag(metadata), Stage::Settle);
+            return flush_before(self.first_unsettled(), Stage::Settle);
         }
         Stage::WriteEntry
     }
@@ -241,6 +241,22 @@ impl EntryWriter {
         devices.flush(dev)?;
         self.unsettled[usize::from(dev)] = false;
         Ok(())
+    }
+
+    /// Says that something else was written to the metadata devices, so that these are to be flushed. It takes no memory.
+    pub fn unsettle(&mut self)
+        ensures { self.new ≡ unsettled_by self.old }
+    {
+        let mirrors = self.mirrors;
+        set_flags(&mut self.unsettled, mirrors);
+    }
+
+    /// The first metadata device on which something isn't settled, if there is one.
+    pub fn first_unsettled(&self) -> Option<u8>
+        ensures { result ≡ first_flag 0 (take self.now.ring.mirrors self.now.unsettled) }
+    {
+        let (metadata, _) = self.unsettled.split_at(usize::from(self.mirrors));
+        first_flag(metadata)
     }
 
     /// Takes the entry in flight as the last durable one, and lets go what it needs no more. It takes no memory.

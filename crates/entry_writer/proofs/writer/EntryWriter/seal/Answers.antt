@@ -1,7 +1,7 @@
 use Rattle.std.proofs.Common.{◌≡◌, ◌+◌, ◌<◌, ◌∙◌, ℕ, List, Some, length, ap, sym, subst, arith}
 use Rattle.journal_ring.specs.EntryBlocks.{parts_of}
 use Rattle.journal_ring.specs.Rings.{RingState}
-use Rattle.entry_queue.specs.Queues.{record_of}
+use Rattle.entry_queue.specs.Queues.{AreChanges, record_of}
 use Rattle.entry_writer.specs.Writers.{IsKept, Writer}
 use Rattle.entry_writer.proofs.Entries.{entry_in_range, entry_is_short}
 use Rattle.entry_writer.proofs.Kept.{sealed-kept}
@@ -22,4 +22,5 @@ invariant_of-self c =
     let some : 0 < length staged.ring.blocks = omega (arith, count) in
     subst (λ (ring : RingState). IsKept inside.mirrors inside.begun (record { ring = ring; flight = Some (record { entry = c.args.entry; oldest = c.args.oldest }); starts = staged.starts.items; durable = inside.durable; unsettled = inside.unsettled })) (sym c.in-Ok.ensures.ring)
     (subst (λ (starts : List ℕ). IsKept inside.mirrors inside.begun (record { ring = record inside.ring { next = inside.ring.next + length staged.ring.blocks; blocks = staged.ring.blocks; written = 0 }; flight = Some (record { entry = c.args.entry; oldest = c.args.oldest }); starts = starts; durable = inside.durable; unsettled = inside.unsettled })) (sym c.in-Ok.ensures.starts)
-    (sealed-kept inside.mirrors inside.begun old c.self.invariant.0 c.self.invariant.1 (ap (λ (w : Writer). w.flight) c.self.view_is ∙ c.requires.free) staged.ring.blocks some c.args.entry c.args.oldest c.requires.sequence c.requires.oldest))
+    (sealed-kept inside.mirrors inside.begun old c.self.invariant.0 c.self.invariant.1 (ap (λ (w : Writer). w.flight) c.self.view_is ∙ c.requires.free) staged.ring.blocks some c.args.entry c.args.oldest c.requires.sequence c.requires.oldest
+    (subst (λ (w : Writer). AreChanges w.ring.mirrors c.args.entry.changes) (sym c.self.view_is) c.requires.changes)))
