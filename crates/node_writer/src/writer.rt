@@ -1,6 +1,7 @@
 ghost use Rattle.std.specs.Prelude.{◌≡◌, ◌+◌, ◌/◌, ◌<◌, ◌≤◌, ◌^◌, ◌==◌, ◌++◌, ◌∷◌, ◌*◌, [], All, None, Some, IsSome, IfSome, OnErr, OnOk, if◌then◌else◌, length, vec_capacity, vec_len, ℕ};
 ghost use Rattle.node_store.specs.Faults.{failed_node_device};
-ghost use Rattle.node_writer.specs.NodeWork.{IsFrozen, IsKept, IsWork, first_left, no_work, with_part};
+ghost use Rattle.node_store.specs.Writes.{NamesDeviceOf};
+ghost use Rattle.node_writer.specs.NodeWork.{IsFrozen, IsKept, IsWork, first_left, frozen_nodes, no_work, with_part};
 ghost use Rattle.node_writer.specs.NodeWrites.{HaveBuckets, WritesNodePart};
 ghost use Rattle.record_codec.specs.Sets.{IsSetInRange};
 ghost use Rattle.vol_types.specs.Limits.{bucket_blocks};
@@ -64,12 +65,23 @@ impl NodeWriter {
 
     /// The birth of the node of which blocks are left to be written, if there is one: of the node in whose place it comes.
     pub fn unfinished(&self) -> Option<u64>
-        ensures { result ≡ first_left self.now }
+        ensures exact { result ≡ first_left self.now }
+        ensures sound { IsWork self.now }
     {
         match &self.unfinished {
             None => None,
             Some(unfinished) => Some(unfinished.node.birth),
         }
+    }
+
+    /// Whether no node is frozen.
+    pub fn is_idle(&self) -> bool
+        ensures { result ≡ (length (frozen_nodes self.now) == 0) }
+    {
+        if !self.finished.is_empty() {
+            return false;
+        }
+        self.unfinished.is_none()
     }
 
     /// Freezes a node, in whose place `fresh` comes: the keys of the set are what is written of it. It takes the bytes' memory and the
@@ -120,6 +132,8 @@ impl NodeWriter {
         ensures writes { IfSome self.old.unfinished (λ unfinished. WritesNodePart D.tells
             unfinished.node.blocked unfinished.written (failed_node_device result)
             (D.state devices.old) (D.state devices.new)) }
+        ensures named { IfSome self.old.unfinished (λ unfinished. NamesDeviceOf
+            unfinished.node.blocked.places result) }
     {
         let Some(unfinished) = self.unfinished.take() else {
             unreachable!()
