@@ -1,0 +1,5 @@
+mod Leaves
+mod Moving
+mod Placed
+mod Sets
+mod Wide

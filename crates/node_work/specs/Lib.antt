@@ -1,0 +1,4 @@
+pub mod Due
+pub mod Durable
+pub mod Freezing
+pub mod Placing
