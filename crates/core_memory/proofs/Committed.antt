@@ -7,8 +7,9 @@ use Rattle.std.proofs.lemmas.Option.{same_Some}
 use Rattle.btree_map.specs.Trees.{Trees, keys_in}
 use Rattle.commit_plan.specs.Dirty.{AreMarked, changed_nodes, paths_of, with_pins}
 use Rattle.entry_queue.specs.Changes.{LeadTo, changes_of}
-use Rattle.entry_queue.specs.Queues.{Queue, closes, follower_of, joined, oldest, waiting}
+use Rattle.entry_queue.specs.Queues.{AreFollowed, Queue, closes, follower_of, joined, oldest, waiting}
 use Rattle.entry_queue.specs.declared.changes.KeyChanges.{KeyChanges}
+use Rattle.node_work.specs.Durable.{undurable}
 use Rattle.vol_types.specs.KeyMaps.{KeyMap, with_updates}
 use Rattle.vol_types.specs.declared.keys.Update.{Update}
 use Rattle.vol_types.specs.declared.layout.Layout.{Layout}
@@ -22,8 +23,10 @@ use Rattle.core_memory.specs.Uncommitted.{IsWhy, answer_of_why, noted_why}
 use Rattle.core_memory.specs.declared.answer.Answer.{Answer}
 use Rattle.core_memory.specs.declared.commit.Why.{Why}
 use Rattle.core_memory.specs.declared.commit.Why.TheVariants.{NoMemory, Refused}
-use Rattle.core_memory.specs.Volumes.{AreInTurn, HoldsBack, IsVolume, Volume, changes_in}
+use Rattle.core_memory.specs.Volumes.{ArePinnedByRoots, IsVolume, Volume, changes_in, in_flight}
 use Rattle.core_memory.specs.declared.actor.Actor.{Actor}
+use Rattle.core_memory.proofs.HeldBack.{joined-held}
+use Rattle.core_memory.proofs.Pinned.{PinRoots, roots-committed, work-committed}
 use Rattle.core_memory.proofs.Kept.{free-no_looks, holder-given_back, no_looks-given}
 
 -- A queue has the same metadata devices after a commit.
@@ -43,46 +46,46 @@ LeadsOn updates counted old =
 abbrev pub KeepsTurn : List Update → Bool → Volume → Type 0
 KeepsTurn updates counted old = (oldest (joined (changes_of updates (keys_in old.trees)) counted old.queue)).after ≡ (oldest old.queue).after
 
--- What the pins hold back stays so.
-abbrev pub HoldsOn : List Update → Bool → Volume → Type 0
-HoldsOn updates counted old =
-    HoldsBack old.writer old.queue old.pins → AreInTurn old.writer old.queue
-    → HoldsBack old.writer (joined (changes_of updates (keys_in old.trees)) counted old.queue) (with_pins (entry_of old updates) (changed_nodes old.trees.nodes updates) old.pins)
-
 -- A commit keeps a volume.
 pub committed-volume : (updates : List Update) (counted : Bool) (old new : Volume) → IsVolume old → IsCommitted updates counted old new
     → AreMarked old.trees.nodes (with_pins (entry_of old updates) (changed_nodes old.trees.nodes updates) old.pins) (with_pins (entry_of old updates) (paths_of old.trees.nodes updates) old.marks)
-    → HoldsOn updates counted old → KeepsTurn updates counted old → LeadsOn updates counted old → IsVolume new
-committed-volume updates counted old new is made marked holds_on turn leads =
+    → AreFollowed old.queue.mirrors old.queue.closed old.queue.open_entry → PinRoots old.trees.nodes updates (entry_of old updates) → KeepsTurn updates counted old → LeadsOn updates counted old → IsVolume new
+committed-volume updates counted old new is made marked followed pin turn leads =
     subst IsVolume (sym made.rest) (record {
       placed = is.placed;
       mirrors = mirrors-joined (changes_of updates (keys_in old.trees)) counted old.queue ∙ is.mirrors;
       devices = is.devices;
+      fixed = is.fixed;
       ring = is.ring;
       in_turn = record { flying = is.in_turn.flying; waiting_ones = turn ∙ is.in_turn.waiting_ones };
       marked = subst (λ (nodes : List Levels). AreMarked nodes (with_pins (entry_of old updates) (changed_nodes old.trees.nodes updates) old.pins) (with_pins (entry_of old updates) (paths_of old.trees.nodes updates) old.marks)) (sym made.nodes) marked;
-      held_back = holds_on is.held_back is.in_turn;
+      held_back = joined-held old.writer old.queue old.pins (changed_nodes old.trees.nodes updates) updates is.held_back is.in_turn followed (entry_of old updates) refl;
+      pinned = subst (λ (nodes : List Levels). ArePinnedByRoots nodes (undurable (in_flight old.writer.flight) (joined (changes_of updates (keys_in old.trees)) counted old.queue)) (with_pins (entry_of old updates) (changed_nodes old.trees.nodes updates) old.pins)) (sym made.nodes)
+          (roots-committed old updates counted (keys_in old.trees) pin is.pinned);
+      work = work-committed old updates counted (keys_in old.trees) pin new.trees made.nodes (with_pins (entry_of old updates) (paths_of old.trees.nodes updates) old.marks) is.work;
       durable_keys = is.durable_keys;
       are_keys = is.are_keys;
+      stand = is.stand;
       lead = subst (λ (keys : KeyMap). LeadTo (changes_in old.writer.flight ++ waiting (joined (changes_of updates (keys_in old.trees)) counted old.queue)) is.durable_keys keys) (sym made.keys) (leads is.durable_keys (keys_in old.trees) is.lead);
     })
 
-module _ (old : Volume) (is : IsVolume old) (updates : List Update) (counted : Bool) (trees : Trees) (queue : Queue) (pins marks : List (ℕ × ℕ)) where
+module _ (old : Volume) (is : IsVolume old) (updates : List Update) (counted : Bool) (trees : Trees) (queue : Queue) (pins marks later : List (ℕ × ℕ)) where
   -- What a commit makes, part by part, is kept.
   pub made-kept : keys_in trees ≡ with_updates updates (keys_in old.trees) → trees.nodes ≡ old.trees.nodes
       → queue ≡ joined (changes_of updates (keys_in old.trees)) counted old.queue
       → pins ≡ with_pins (entry_of old updates) (changed_nodes old.trees.nodes updates) old.pins → marks ≡ with_pins (entry_of old updates) (paths_of old.trees.nodes updates) old.marks
+      → later ≡ with_pins (entry_of old updates) (changed_nodes old.trees.nodes updates) old.later
       → AreMarked old.trees.nodes (with_pins (entry_of old updates) (changed_nodes old.trees.nodes updates) old.pins) (with_pins (entry_of old updates) (paths_of old.trees.nodes updates) old.marks)
-      → HoldsOn updates counted old → KeepsTurn updates counted old → LeadsOn updates counted old
-      → IsVolume (record old { trees = trees; queue = queue; pins = pins; marks = marks; changes = old.changes + 1 })
-  made-kept keys nodes joins pinned marks_are marked holds_on turn leads =
-      committed-volume updates counted old (record old { trees = trees; queue = queue; pins = pins; marks = marks; changes = old.changes + 1 }) is
+      → AreFollowed old.queue.mirrors old.queue.closed old.queue.open_entry → PinRoots old.trees.nodes updates (entry_of old updates) → KeepsTurn updates counted old → LeadsOn updates counted old
+      → IsVolume (record old { trees = trees; queue = queue; pins = pins; marks = marks; later = later; changes = old.changes + 1 })
+  made-kept keys nodes joins pinned marks_are later_is marked followed pin turn leads =
+      committed-volume updates counted old (record old { trees = trees; queue = queue; pins = pins; marks = marks; later = later; changes = old.changes + 1 }) is
       (record {
         keys = keys;
         nodes = nodes;
-        rest = λ i. record old { trees = trees; queue = joins i; pins = pinned i; marks = marks_are i; changes = old.changes + 1 };
+        rest = λ i. record old { trees = trees; queue = joins i; pins = pinned i; marks = marks_are i; later = later_is i; changes = old.changes + 1 };
       })
-      marked holds_on turn leads
+      marked followed pin turn leads
 
 -- What an actor has under way that has no transaction goes with any keys.
 free-actor : (volume : Volume) (turn : Option ℕ) (number : ℕ) (actor : Actor) → holds actor ≡ false → IfSome actor.intended (AreIntended volume.layout.metadata_replicas) → IsActor volume turn number actor

@@ -11,14 +11,16 @@ use Rattle.vol_types.specs.KeyMaps.{GivesLooks, IsLook, answer_of}
 use Rattle.vol_types.specs.declared.keys.Update.{Update}
 use Rattle.vol_types.specs.declared.queries.Query.{Query}
 use Rattle.vol_types.specs.declared.queries.Look.{Look}
-use Rattle.core_memory.specs.Actors.{begun, dropped, ended, holds, idle_actor, told_of, with_intent, with_look}
+use Rattle.core_memory.specs.Actors.{begun, dropped, ended, holds, idle_actor, told_of, with_fault, with_intent, with_look}
 use Rattle.core_memory.specs.Commits.{AreIntended}
 use Rattle.core_memory.specs.Uncommitted.{noted_why}
 use Rattle.core_memory.specs.declared.commit.Why.{Why}
 use Rattle.core_memory.specs.declared.commit.Why.TheVariants.{NoMemory, Refused}
 use Rattle.entry_writer.specs.declared.stage.Stage.{Stage}
 use Rattle.core_memory.specs.States.{IsActor, IsState, State, actor_count, mine, other_holder}
-use Rattle.core_memory.specs.Volumes.{IsVolume, Volume}
+use Rattle.core_memory.specs.Volumes.{IsVolume, Volume, first_halt, halted_at}
+use Rattle.core_memory.specs.declared.answer.Halt.{Halt}
+use Rattle.core_memory.proofs.Written.{halted-kept}
 use Rattle.core_memory.specs.declared.actor.Actor.{Actor}
 
 -- The turn is one actor's at most: whoever isn't the actor that changes still has the turn if it had it.
@@ -113,6 +115,9 @@ module _ (volume : Volume) (turn : Option ℕ) (number : ℕ) (actor : Actor) (i
   noted-kept (Refused refusal) = record { has_turn = is.has_turn; looks = is.looks; intended = is.intended }
   noted-kept NoMemory = is
 
+  pub fault-kept : (dev : ℕ) → IsActor volume turn number (with_fault dev actor)
+  fault-kept dev = record { has_turn = is.has_turn; looks = is.looks; intended = is.intended }
+
   -- A look is answered by the keys.
   pub looked-kept : (query : Query) → IsActor volume (Some number) number (with_look query (answer_of query (keys_in volume.trees)) actor)
   looked-kept query = record {
@@ -187,3 +192,8 @@ journal-kept old is volume sound trees layout = record {
     intended = subst (λ (l : Layout). IfSome (mine old number).intended (AreIntended l.metadata_replicas)) (sym layout) (is.each number).intended;
   };
 }
+
+-- So it does where the session stops writing.
+pub stopped-kept : (old : State) → IsState old → (halt : Halt) (volume : Volume) → volume ≡ halted_at halt old.volume → IsState (record { volume = volume; actors = old.actors; turn = old.turn })
+stopped-kept old is halt volume same =
+    journal-kept old is volume (subst IsVolume (sym same) (halted-kept old.volume is.volume (first_halt halt old.volume.halted))) (ap (λ (v : Volume). v.trees) same) (ap (λ (v : Volume). v.layout) same)

@@ -1,5 +1,6 @@
 mod Kept
 mod HeldBack
+mod Pinned
 mod Committed
 mod Pinning
 mod Spaces
@@ -7,4 +8,6 @@ mod Opened
 mod Walking
 mod Written
 mod RootNodes
+mod Frozen
+mod InPlace
 pub mod Sent

@@ -5,6 +5,8 @@ use Rattle.std.proofs.lemmas.Bool.{cases_lt, true≢false}
 use Rattle.std.proofs.lemmas.List.{get_or-replicate, length-replicate}
 use Rattle.std.proofs.lemmas.List.Elements.{All-nil}
 use Rattle.std.specs.Prelude.{replicate, slice_index_or}
+use Rattle.std.proofs.lemmas.Option.{none-some as none_some}
+use Rattle.bucket_pool.specs.NodeBuckets.{AreFixed}
 use Rattle.bucket_pool.specs.Opening.{space_of}
 use Rattle.bucket_pool.specs.Space.{Space}
 use Rattle.core_memory.specs.Actors.{idle_actor}
@@ -21,7 +23,9 @@ use Rattle.vol_types.specs.declared.layout.Layout.{Layout}
 use Rattle.vol_types.specs.declared.pointers.Place.{Place}
 use Rattle.entry_writer.specs.Writers.{Writer, opened_by as writer_opened}
 use Rattle.core_memory.specs.Opening.{keys_of_buckets, opened_by, updates_in}
-use Rattle.core_memory.specs.Volumes.{IsVolume, Volume}
+use Rattle.node_work.specs.Placing.{AreFrozenLeaves}
+use Rattle.node_writer.specs.NodeWork.{NodeWork, no_work}
+use Rattle.core_memory.specs.Volumes.{IsFrozenKept, IsVolume, StandInLeaves, Volume}
 use Rattle.core_memory.proofs.HeldBack.{opened-held}
 use Rattle.core_memory.proofs.Spaces.{length-space_of}
 
@@ -29,26 +33,32 @@ module _ (layout : Layout) (session : ℕ) (trees : Trees) (needed : List FoundE
   -- Nothing waits, so the keys in memory are durable.
   pub opened-kept : is_layout layout ≡ true → IsKeyMap (keys_in trees)
       → AreMarked trees.nodes (with_pins newest.entry.oldest (changed_nodes trees.nodes (updates_in needed)) []) (with_pins newest.entry.oldest (paths_of trees.nodes (updates_in needed)) [])
+      → AreFixed layout (space_of layout (keys_of_buckets (keys_in trees)) nodes) → StandInLeaves (keys_in trees)
+      → AreFrozenLeaves trees.nodes (with_pins newest.entry.oldest (changed_nodes trees.nodes (updates_in needed)) []) []
       → ((mirrors after behind commits : ℕ) (keys : KeyMap) → LeadTo (waiting (empty_queue mirrors after behind commits)) keys keys)
       → IsVolume (opened_by layout session trees needed nodes newest)
-  opened-kept placed keys marked leads = record {
+  opened-kept placed keys marked fixed stand leaves leads = record {
     placed = placed;
     mirrors = refl;
     devices = length-space_of layout (keys_of_buckets (keys_in trees)) nodes;
+    fixed = fixed;
     ring = record { id = refl; mirrors = refl; journal = refl };
     in_turn = record { flying = tt; waiting_ones = refl };
     marked = marked;
-    held_back = opened-held (writer_opened layout needed newest) (empty_queue layout.metadata_replicas newest.entry.sequence (newest.end - 1) newest.entry.commits) (changed_nodes trees.nodes (updates_in needed)) refl refl refl;
+    held_back = opened-held (writer_opened layout needed newest) (changed_nodes trees.nodes (updates_in needed)) refl;
+    pinned = λ btree root alone sequence none. absurd (none_some sequence none);
+    work = record { leaves = leaves; each = All-nil (IsFrozenKept (opened_by layout session trees needed nodes newest)) };
     durable_keys = keys_in trees;
     are_keys = keys;
+    stand = stand;
     lead = leads layout.metadata_replicas newest.entry.sequence (newest.end - 1) newest.entry.commits (keys_in trees);
   }
 
   -- What the parts make.
-  pub opened-same : (kept : Trees) → kept ≡ trees → (behind : ℕ) (queue : Queue) (pins marks : List (ℕ × ℕ)) (space : Space) (writer : Writer)
+  pub opened-same : (kept : Trees) → kept ≡ trees → (behind : ℕ) (queue : Queue) (pins marks later : List (ℕ × ℕ)) (space : Space) (writer : Writer) (work : NodeWork)
       → behind ≡ newest.end - 1 → queue ≡ empty_queue layout.metadata_replicas newest.entry.sequence behind newest.entry.commits
-      → pins ≡ with_pins newest.entry.oldest (changed_nodes trees.nodes (updates_in needed)) [] → marks ≡ with_pins newest.entry.oldest (paths_of trees.nodes (updates_in needed)) []
-      → space ≡ space_of layout (keys_of_buckets (keys_in trees)) nodes → writer ≡ writer_opened layout needed newest
+      → pins ≡ with_pins newest.entry.oldest (changed_nodes trees.nodes (updates_in needed)) [] → marks ≡ with_pins newest.entry.oldest (paths_of trees.nodes (updates_in needed)) [] → later ≡ []
+      → space ≡ space_of layout (keys_of_buckets (keys_in trees)) nodes → writer ≡ writer_opened layout needed newest → work ≡ no_work 0
       → record {
         layout = layout;
         session = session;
@@ -56,20 +66,26 @@ module _ (layout : Layout) (session : ℕ) (trees : Trees) (needed : List FoundE
         queue = queue;
         pins = pins;
         marks = marks;
+        later = later;
         space = space;
         writer = writer;
+        work = work;
+        emptied = 0;
         halted = None;
         changes = 0;
       } ≡ opened_by layout session trees needed nodes newest
-  opened-same kept keeps behind queue pins marks space writer ends queue_is pins_are marks_are space_is writer_is = λ i. record {
+  opened-same kept keeps behind queue pins marks later space writer work ends queue_is pins_are marks_are later_is space_is writer_is work_is = λ i. record {
     layout = layout;
     session = session;
     trees = keeps i;
     queue = (queue_is ∙ ap (λ (b : ℕ). empty_queue layout.metadata_replicas newest.entry.sequence b newest.entry.commits) ends) i;
     pins = pins_are i;
     marks = marks_are i;
+    later = later_is i;
     space = space_is i;
     writer = writer_is i;
+    work = work_is i;
+    emptied = 0;
     halted = None;
     changes = 0;
   }

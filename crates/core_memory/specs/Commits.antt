@@ -17,7 +17,7 @@ pub record AreIntended (mirrors : ℕ) (updates : List Update) : Type 0 where
   pub few : blocks_with mirrors updates ≤ 64
 
 -- The commit made all updates: they are in the keys, and joined the open entry with the values from before them; the nodes that they
--- change are dirty. Nothing else has changed.
+-- change are dirty, and it is noted that they changed. Nothing else has changed.
 pub record IsCommitted (updates : List Update) (counted : Bool) (old new : Volume) : Type 0 where
   pub keys : keys_in new.trees ≡ with_updates updates (keys_in old.trees)
   pub nodes : new.trees.nodes ≡ old.trees.nodes
@@ -26,5 +26,6 @@ pub record IsCommitted (updates : List Update) (counted : Bool) (old new : Volum
     queue = joined (changes_of updates (keys_in old.trees)) counted old.queue;
     pins = with_pins (entry_of old updates) (changed_nodes old.trees.nodes updates) old.pins;
     marks = with_pins (entry_of old updates) (paths_of old.trees.nodes updates) old.marks;
+    later = with_pins (entry_of old updates) (changed_nodes old.trees.nodes updates) old.later;
     changes = old.changes + 1;
   }

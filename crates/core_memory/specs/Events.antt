@@ -6,14 +6,16 @@ use Rattle.commit_plan.specs.Ids.{id_trees}
 use Rattle.snap_tree.specs.Snaps.{Snaps}
 use Rattle.vol_types.specs.KeyMaps.{answer_of}
 use Rattle.vol_types.specs.declared.keys.Update.{Update}
-use Rattle.entry_writer.specs.Writers.{Writer, settled, unsettled_by, with_flushed, with_next_part}
+use Rattle.entry_writer.specs.Writers.{Writer, unsettled_by, with_flushed, with_next_part}
+use Rattle.entry_writer.specs.declared.stage.Stage.{Stage}
 use Rattle.entry_writer.specs.declared.stage.Stage.TheVariants as stages
 use Rattle.core_memory.specs.Actors.{begun, committed, dropped, ended, holds, noted, told_of, with_fault, with_ids, with_intent, with_look}
+use Rattle.core_memory.specs.Checkpoints.{AreInPlace, IsFreezeRefused, IsLeafFrozen, IsNodeStage, IsOtherNodeStage, IsPlacingRefused, after_refused, with_block}
 use Rattle.core_memory.specs.Commits.{AreIntended, IsCommitted}
 use Rattle.core_memory.specs.Rulings.{IsAllowed, IsRefused}
-use Rattle.core_memory.specs.Sealing.{IsFlown, IsOtherStage, IsSealRefused, IsStage, with_writer}
+use Rattle.core_memory.specs.Sealing.{IsFlown, IsOtherStage, IsSealRefused, IsStage, settled_volume, with_writer}
 use Rattle.core_memory.specs.States.{State, actor_count, mine, other_holder, with_mine, with_turn, without_turn}
-use Rattle.core_memory.specs.Volumes.{Volume, are_durable, commits_of, halted_at, stage_of}
+use Rattle.core_memory.specs.Volumes.{Volume, are_durable, commits_of, halted_at, node_stage_of, stage_of}
 use Rattle.core_memory.specs.declared.actor.Actor.{Actor}
 use Rattle.core_memory.specs.declared.answer.Answer.{Answer}
 use Rattle.core_memory.specs.declared.answer.Answer.TheVariants.{At, DeviceFault, Done, Found, Ids, NoMemory, Refused, Wait}
@@ -21,6 +23,8 @@ use Rattle.core_memory.specs.declared.answer.Refusal.{Refusal}
 use Rattle.core_memory.specs.declared.answer.Refusal.TheVariants as refusals
 use Rattle.core_memory.specs.declared.event.Event.{Event}
 use Rattle.core_memory.specs.declared.event.Event.TheVariants as events
+use Rattle.core_memory.specs.declared.event.Work.{Work}
+use Rattle.core_memory.specs.declared.event.Work.TheVariants as works
 
 -- An actor begins a transaction where it has none under way: the first one of an operation, or a further one of the operation that it has.
 pub record MayBegin (first : Bool) (actor : Actor) : Type 0 where
@@ -41,6 +45,9 @@ FitsActor volume actor events.Seal = ⊤
 FitsActor volume actor events.WriteEntry = ⊤
 FitsActor volume actor (events.Flush dev) = dev < length volume.layout.blocks
 FitsActor volume actor events.Settle = ⊤
+FitsActor volume actor (events.Freeze node) = ⊤
+FitsActor volume actor (events.WriteSet node) = ⊤
+FitsActor volume actor events.CommitNodes = ⊤
 
 -- The event is one of an actor that is there, and fits what it has under way.
 pub record Fits (state : State) (actor : ℕ) (event : Event) : Type 0 where
@@ -91,11 +98,23 @@ CommitGives old actor counted (Refused refusal) new =
 CommitGives old actor counted NoMemory new = new ≡ old
 CommitGives old actor counted other new = ⊥
 
--- The actor is told the stage of the journal, and whether its commits are durable; nothing else has changed.
+-- the next event that a work needs
+abbrev pub stage_for : Work → Volume → Stage
+stage_for works.Journal volume = stage_of volume
+stage_for works.Nodes volume = node_stage_of volume
+
+-- The actor is told this stage, and whether its commits are durable; nothing else has changed.
+abbrev pub IsToldOf : Stage → State → ℕ → Answer → State → Type 0
+IsToldOf stage old actor answer new =
+    let durable = are_durable (mine old actor).operation old.volume in Gives (At stage durable) (with_mine actor (told_of stage durable (mine old actor)) old) answer new
+
+-- The actor is told the stage of the journal.
 abbrev pub IsTold : State → ℕ → Answer → State → Type 0
-IsTold old actor answer new =
-    let durable = are_durable (mine old actor).operation old.volume in
-    Gives (At (stage_of old.volume) durable) (with_mine actor (told_of (stage_of old.volume) durable (mine old actor)) old) answer new
+IsTold old actor answer new = IsToldOf (stage_of old.volume) old actor answer new
+
+-- The actor is told the stage of the nodes.
+abbrev pub IsToldNodes : State → ℕ → Answer → State → Type 0
+IsToldNodes old actor answer new = IsToldOf (node_stage_of old.volume) old actor answer new
 
 -- It is refused, and why is noted.
 abbrev pub IsNoted : Refusal → State → ℕ → State → Type 0
@@ -136,15 +155,41 @@ FlushGives dev tick old actor other new = ⊥
 
 -- The entry in flight becomes the last durable one, or not.
 abbrev pub SettleGives : State → ℕ → Answer → State → Type 0
-SettleGives old actor Done new = IsStage stages.Settle old.volume × (new ≡ record old { volume = with_writer (settled old.volume.writer) old.volume })
+SettleGives old actor Done new = IsStage stages.Settle old.volume × (new ≡ record old { volume = settled_volume old.volume })
 SettleGives old actor (At stage durable) new = IsOtherStage stages.Settle old.volume × IsTold old actor (At stage durable) new
 SettleGives old actor (Refused refusal) new = IsHalted refusal old.volume × IsNoted refusal old actor new
 SettleGives old actor other new = ⊥
+
+-- A leaf is frozen, or not. Where there is no free bucket, the work on nodes ends.
+abbrev pub FreezeGives : ℕ → State → ℕ → Answer → State → Type 0
+FreezeGives node old actor Done new = IsLeafFrozen node old.volume new.volume × (new ≡ record old { volume = new.volume })
+FreezeGives node old actor (At stage durable) new = IsOtherNodeStage (stages.Freeze node) old.volume × IsToldNodes old actor (At stage durable) new
+FreezeGives node old actor (Refused refusal) new =
+    IsFreezeRefused node old.volume refusal × (new ≡ record (with_mine actor (noted refusal (mine old actor)) old) { volume = after_refused refusal old.volume })
+FreezeGives node old actor NoMemory new = new ≡ old
+FreezeGives node old actor other new = ⊥
+
+-- The next block of a frozen node is written, or not. Where a device failed, the session stops writing at this moment.
+abbrev pub WriteSetGives : ℕ → ℕ → State → ℕ → Answer → State → Type 0
+WriteSetGives node tick old actor Done new = IsNodeStage (stages.WriteSet node) old.volume × (new ≡ record old { volume = with_block old.volume })
+WriteSetGives node tick old actor (At stage durable) new = IsOtherNodeStage (stages.WriteSet node) old.volume × IsToldNodes old actor (At stage durable) new
+WriteSetGives node tick old actor (Refused refusal) new = IsHalted refusal old.volume × IsNoted refusal old actor new
+WriteSetGives node tick old actor (DeviceFault dev) new = IsNodeStage (stages.WriteSet node) old.volume × (new ≡ failed_by dev tick actor (unsettled_by old.volume.writer) old)
+WriteSetGives node tick old actor other new = ⊥
+
+-- The frozen nodes are put in place, all or none.
+abbrev pub CommitNodesGives : State → ℕ → Answer → State → Type 0
+CommitNodesGives old actor Done new = AreInPlace old.volume new.volume × (new ≡ record old { volume = new.volume })
+CommitNodesGives old actor (At stage durable) new = IsOtherNodeStage stages.CommitNodes old.volume × IsToldNodes old actor (At stage durable) new
+CommitNodesGives old actor (Refused refusal) new = IsPlacingRefused old.volume refusal × IsNoted refusal old actor new
+CommitNodesGives old actor NoMemory new = new ≡ old
+CommitNodesGives old actor other new = ⊥
 
 -- The event calls no device.
 abbrev pub IsOfMemory : Event → Type 0
 IsOfMemory events.WriteEntry = ⊥
 IsOfMemory (events.Flush dev) = ⊥
+IsOfMemory (events.WriteSet node) = ⊥
 IsOfMemory other = ⊤
 
 -- What an actor's event is answered, and what the state is then.
@@ -161,8 +206,11 @@ EventGives old actor (events.Intend updates) answer new =
 EventGives old actor (events.Commit counted) answer new = CommitGives old actor counted answer new
 EventGives old actor events.Finish answer new = Gives Done (left actor ended old) answer new
 EventGives old actor events.Drop answer new = Gives Done (left actor dropped old) answer new
-EventGives old actor (events.Next work) answer new = IsTold old actor answer new
+EventGives old actor (events.Next work) answer new = IsToldOf (stage_for work old.volume) old actor answer new
 EventGives old actor events.Seal answer new = SealGives old actor answer new
 EventGives old actor events.WriteEntry answer new = (tick : ℕ) × WriteGives tick old actor answer new
 EventGives old actor (events.Flush dev) answer new = (tick : ℕ) × FlushGives dev tick old actor answer new
 EventGives old actor events.Settle answer new = SettleGives old actor answer new
+EventGives old actor (events.Freeze node) answer new = FreezeGives node old actor answer new
+EventGives old actor (events.WriteSet node) answer new = (tick : ℕ) × WriteSetGives node tick old actor answer new
+EventGives old actor events.CommitNodes answer new = CommitNodesGives old actor answer new

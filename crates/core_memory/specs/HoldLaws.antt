@@ -1,20 +1,17 @@
 -- What pins hold back: laws on the least pin, and on the entries that aren't durable.
-use Rattle.std.proofs.Common.{◌≡◌, ℕ, ◌+◌, ◌<◌, ◌≤◌, Bool, true, false, cond, min, Option, Some, None, List, [], ◌∷◌, ◌++◌, refl, sym, ap, ◌∙◌, subst, arith}
-use Rattle.std.specs.Prelude.{All, IfSome, slice_index_or}
+use Rattle.std.proofs.Common.{◌≡◌, ℕ, ◌+◌, ◌≤◌, Bool, true, false, cond, min, Option, Some, None, List, [], ◌∷◌, sym, ap, arith}
+use Rattle.std.specs.Prelude.{IfSome}
 use Rattle.std.specs.BTreeMap.{is_at}
 use Rattle.std.specs.Ordering.{nat_cmp}
-use Rattle.std.proofs.lemmas.Bool.{lt-ltb}
-use Rattle.std.proofs.lemmas.List.Elements.{All-append, All-cons, All-nil}
 use Rattle.std.proofs.lemmas.Option.{same_Some, none-some as none_some}
-use Rattle.entry_queue.specs.Queues.{Queue, oldest}
-use Rattle.entry_queue.specs.declared.changes.Pending.{Pending}
+use Rattle.entry_queue.specs.Queues.{oldest}
 use Rattle.entry_writer.specs.Writers.{settled, settled_by}
 use Rattle.entry_writer.specs.declared.durable.Durable.{Durable}
 use Rattle.entry_writer.specs.declared.writer.Flight.{Flight}
 use Rattle.pin_list.specs.Pins.{least_pin, smaller}
 use Rattle.vol_types.specs.Maps.{value_at}
 use Rattle.core_memory.specs.Sealing.{oldest_needed}
-use Rattle.core_memory.specs.Volumes.{ArePinnedFrom, HoldsBack, IsFlightHeld, IsHeldBack, IsVolume, Volume, is_below, last_sealed, needed_by}
+use Rattle.core_memory.specs.Volumes.{ArePinnedFrom, IsFlightHeld, IsVolume, Volume, last_sealed, needed_by}
 
 -- A number that is pinned makes the least pin no smaller.
 pub least-found : (node seq : ℕ) (pins : List (ℕ × ℕ)) → value_at nat_cmp node pins ≡ Some seq → Some (smaller seq (least_pin pins)) ≡ least_pin pins
@@ -77,35 +74,3 @@ needed-between volume is = by (least_pin volume.pins) is.held_back.durable
     by : (o : Option ℕ) → IfSome o (λ pin. needed_by durable ≤ pin) → (needed_by durable ≤ smaller (next + 1) o) × (smaller (next + 1) o ≤ next + 1)
     by None from = let le = behind volume.writer.flight is.in_turn.flying in (omega (arith, le, is.in_turn.waiting_ones), omega arith)
     by (Some pin) from = let le = behind volume.writer.flight is.in_turn.flying in (omega (arith, le, is.in_turn.waiting_ones, from), omega arith)
-
--- the entry in flight, if there is one
-abbrev pub flying : Option Flight → List Pending
-flying None = []
-flying (Some flight) = flight.entry ∷ []
-
--- the entries that aren't durable, the oldest first
-abbrev pub entries_left : Volume → List Pending
-entries_left volume = flying volume.writer.flight ++ volume.queue.closed ++ volume.queue.open_entry ∷ []
-
--- Each of them is held back.
-pub left-held : (volume : Volume) → IsVolume volume → All (IsHeldBack volume.pins) (entries_left volume)
-left-held volume is =
-    All-append (IsHeldBack volume.pins) (flying volume.writer.flight ++ volume.queue.closed) (volume.queue.open_entry ∷ [])
-    (All-append (IsHeldBack volume.pins) (flying volume.writer.flight) volume.queue.closed (by volume.writer.flight is.held_back.flight) is.held_back.closed)
-    (All-cons (IsHeldBack volume.pins) volume.queue.open_entry [] is.held_back.open_entry (All-nil (IsHeldBack volume.pins)))
-  where
-    by : (o : Option Flight) → IfSome o (IsFlightHeld volume.writer.durable volume.pins) → All (IsHeldBack volume.pins) (flying o)
-    by None held = All-nil (IsHeldBack volume.pins)
-    by (Some flight) held = All-cons (IsHeldBack volume.pins) flight.entry [] held.entry (All-nil (IsHeldBack volume.pins))
-
--- One that is held back and older than all that a node pins has no updates.
-pub older-no_updates : (next : ℕ) (pins : List (ℕ × ℕ)) (entry : Pending) → IsHeldBack pins entry → entry.after + 1 < smaller next (least_pin pins) → entry.changes.updates ≡ []
-older-no_updates next pins entry held older = held (by (least_pin pins) older)
-  where
-    by : (o : Option ℕ) → entry.after + 1 < smaller next o → is_below (entry.after + 1) o ≡ true
-    by None lt = refl
-    by (Some pin) lt = lt-ltb (entry.after + 1) pin (omega (arith, lt))
-
--- So each of those that the next entry doesn't need has no updates.
-pub unneeded-no_updates : (volume : Volume) → IsVolume volume → All (λ (entry : Pending). entry.after + 1 < oldest_needed volume → entry.changes.updates ≡ []) (entries_left volume)
-unneeded-no_updates volume is place entry lt older = older-no_updates ((oldest volume.queue).after + 1) volume.pins (slice_index_or (entries_left volume) place entry) (left-held volume is place entry lt) older

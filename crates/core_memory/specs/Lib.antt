@@ -11,3 +11,4 @@ pub mod HoldLaws
 pub mod Devices
 pub mod Events
 pub mod Nodes
+pub mod Checkpoints

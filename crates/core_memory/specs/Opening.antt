@@ -6,6 +6,7 @@ use Rattle.btree_map.specs.Trees.{Trees, keys_in}
 use Rattle.commit_plan.specs.Dirty.{changed_nodes, paths_of, with_pins}
 use Rattle.entry_queue.specs.Queues.{empty_queue}
 use Rattle.entry_writer.specs.Writers.{opened_by as writer_opened}
+use Rattle.node_writer.specs.NodeWork.{no_work}
 use Rattle.journal_ring.specs.declared.found.FoundEntry.{FoundEntry}
 use Rattle.vol_types.specs.KeyMaps.{KeyMap, answer_of}
 use Rattle.vol_types.specs.Positions.{greatest_pos, least_pos}
@@ -36,8 +37,11 @@ opened_by layout session trees needed nodes newest = record {
   queue = empty_queue layout.metadata_replicas newest.entry.sequence (newest.end - 1) newest.entry.commits;
   pins = with_pins newest.entry.oldest (changed_nodes trees.nodes (updates_in needed)) [];
   marks = with_pins newest.entry.oldest (paths_of trees.nodes (updates_in needed)) [];
+  later = [];
   space = space_of layout (keys_of_buckets (keys_in trees)) nodes;
   writer = writer_opened layout needed newest;
+  work = no_work 0;
+  emptied = 0;
   halted = None;
   changes = 0;
 }

@@ -45,9 +45,9 @@ pub record IsShortOfNodes (space : Space) (mirrors marked : ℕ) : Type 0 where
 abbrev pub short_of : Volume → Short
 short_of volume = record { need = 0; free = map free_count volume.space; held = map (held_on volume) (range_with_len 0 (length volume.space)) }
 
--- what is told where there are too few free buckets for nodes
-abbrev pub no_space : Volume → NoSpace
-no_space volume = record { short = short_of volume; idle = is_idle volume; changes = volume.changes }
+-- what is told where there are too few free buckets for nodes, and whether a checkpoint would free none
+abbrev pub no_space : Bool → Volume → NoSpace
+no_space idle volume = record { short = short_of volume; idle = idle; changes = volume.changes }
 
 -- The journal has no room for the updates beside the blocks that are kept.
 abbrev pub IsFull : Volume → List Update → Type 0
@@ -82,7 +82,7 @@ IsRefused volume updates counted refusals.Spent = MayStay volume updates × ¬ H
 IsRefused volume updates counted (refusals.RingFull full) =
     MayDraw volume updates counted × IsFull volume updates × (full ≡ record { left = blocks_left volume; need = growth updates volume.queue })
 IsRefused volume updates counted (refusals.NoSpace none) =
-    MayJoin volume updates counted × IsShortOfNodes volume.space volume.layout.metadata_replicas (marked_after volume updates) × (none ≡ no_space volume)
+    MayJoin volume updates counted × IsShortOfNodes volume.space volume.layout.metadata_replicas (marked_after volume updates) × (none ≡ no_space (is_idle volume) volume)
 
 -- The ruling on a commit is right: it is refused for its first cause, or allowed with the nodes that it makes dirty.
 abbrev pub IsRuling : Volume → List Update → Bool → Ruling → Type 0

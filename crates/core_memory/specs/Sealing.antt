@@ -1,27 +1,20 @@
 -- Entries become durable: which one is put in flight and with what, and what the events that write it make of a volume.
-use Rattle.std.specs.Prelude.{◌≡◌, ◌≢◌, ℕ, ◌+◌, ◌-◌, ◌⊎◌, false, None, Some, List, [], length, map, slice_index_or}
+use Rattle.std.specs.Prelude.{◌≡◌, ◌≢◌, ℕ, ◌+◌, ◌-◌, ◌⊎◌, false, None, Some, List, [], map}
+use Rattle.bucket_pool.specs.Space.{settled_space}
 use Rattle.entry_queue.specs.Queues.{HasNumbers, oldest, record_of, without_oldest}
-use Rattle.entry_writer.specs.Writers.{HasBlockNumbers, HasRoom, IsSealed, Writer}
+use Rattle.entry_writer.specs.Writers.{HasBlockNumbers, HasRoom, IsSealed, Writer, settled}
 use Rattle.entry_writer.specs.declared.stage.Stage.{Stage}
 use Rattle.entry_writer.specs.declared.stage.Stage.TheVariants as stages
 use Rattle.journal_ring.specs.EntryBlocks.{parts_of}
 use Rattle.journal_ring.specs.Rings.{used}
 use Rattle.pin_list.specs.Pins.{least_pin, smaller}
 use Rattle.record_codec.specs.declared.entries.EntryRecord.{EntryRecord}
-use Rattle.tree_nodes.specs.Levels.{Levels, level_of}
-use Rattle.vol_types.specs.Positions.{greatest_pos}
+use Rattle.node_work.specs.Due.{root_of}
+use Rattle.tree_nodes.specs.Levels.{Levels}
 use Rattle.vol_types.specs.declared.pointers.NodePtr.{NodePtr}
 use Rattle.core_memory.specs.Volumes.{Volume, stage_of}
 use Rattle.core_memory.specs.declared.answer.Refusal.{Refusal}
 use Rattle.core_memory.specs.declared.answer.Refusal.TheVariants as refusals
-
--- no node
-abbrev pub no_node : NodePtr
-no_node = record { birth = 0; level = 0; places = [] }
-
--- the root of a btree with these levels
-abbrev pub root_of : Levels → NodePtr
-root_of levels = (slice_index_or (level_of levels (length levels - 1)) 0 (greatest_pos, no_node)).1
 
 -- the root of each btree
 abbrev pub roots_in : List Levels → List NodePtr
@@ -69,3 +62,7 @@ IsSealRefused volume other = ⊥
 -- a volume with another writer
 abbrev pub with_writer : Writer → Volume → Volume
 with_writer writer volume = record volume { writer = writer }
+
+-- a volume whose entry in flight is the last durable one, so that the buckets are free that waited for it
+abbrev pub settled_volume : Volume → Volume
+settled_volume volume = record (with_writer (settled volume.writer) volume) { space = settled_space (settled volume.writer).durable.sequence volume.space }

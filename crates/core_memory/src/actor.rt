@@ -29,7 +29,7 @@ pub struct Actor {
     pub failure: Option<Failure>,
     /// Whether it was told, since its transaction began, that the commits are durable that stood then.
     pub durable: bool,
-    /// The stage of the journal that it was told last.
+    /// The stage of the journal or of the nodes that it was told last.
     pub stage: Option<Stage>,
     /// How many times it was told one, up to 2^64 - 1.
     pub told: u64,

@@ -17,25 +17,28 @@ pub struct Halt {
 pub struct NoSpace {
     /// For each device its free buckets and those that are held back; it needs 0, since it is no extent that lacks a place.
     pub short: Short,
-    /// No node is dirty and no bucket waits for an entry, so that a checkpoint would free none.
+    /// A checkpoint would free none. Of a commit: no node is dirty, no bucket waits for an entry, and no node is frozen. Where a leaf is to
+    /// be frozen: no bucket waits, and all that is committed is durable.
     pub idle: bool,
     /// How many commits of updates and of nodes there were in this session.
     pub changes: u64,
 }
 
-/// Why a commit isn't made, or an entry isn't written. The transaction stands as it was.
+/// Why a commit isn't made, an entry isn't written, or nodes aren't. The transaction stands as it was.
 #[derive(Debug, PartialEq, Eq, Drop)]
 pub enum Refusal {
     /// The session has stopped writing.
     Halted(Halt),
-    /// A leaf would be larger than nodes may be.
+    /// A leaf would be larger than nodes may be; or one that is to be frozen is, by durable entries alone, which no commits of this
+    /// program lead to.
     NeedSplit(NeedSplit),
-    /// A number that the event would draw isn't left: a sequence, a journal block, a count of commits or of changes.
+    /// A number that the event would draw isn't left: a sequence, a journal block, a birth, a count of commits or of changes.
     Spent,
     /// The journal would have fewer than 64 blocks left after a commit, or has no room for an entry that is to be written. The last
     /// is so of no volume that this program wrote.
     RingFull(RingFull),
-    /// There would be too few free buckets for nodes.
+    /// There would be too few free buckets for nodes after a commit; or there is none for a leaf that is to be frozen, and then the work
+    /// on nodes has ended, and their buckets are free again.
     NoSpace(NoSpace),
 }
 

@@ -11,7 +11,7 @@ ghost use Rattle.vol_types.specs.Standing.{IsUpdate};
 use crate::Refusal;
 use crate::ruling::{Ruling, entry_of, rule};
 use crate::volume::{Volume, see_widths};
-use commit_plan::{DirtyNodes, Paths, dirty_nodes_are_marked};
+use commit_plan::{DirtyNodes, Paths, changed_pins_are_known, dirty_nodes_are_marked};
 use entry_queue::{
     EntryQueue, KeyChanges, commits_are_undone, commits_leave_queues,
     waiting_changes_lead_from_durable_keys,
@@ -90,6 +90,7 @@ impl Volume {
         commits_leave_queues();
         waiting_changes_lead_from_durable_keys();
         dirty_nodes_are_marked();
+        changed_pins_are_known();
         let seq = entry_of(&self.queue, updates.as_slice(), counted);
         if reserve(&mut self.queue, &mut self.dirty, updates.as_slice(), paths).is_err() {
             return Err(unmade(updates));
@@ -129,6 +130,7 @@ fn reserve(
     ensures queue { queue.new.queue ≡ queue.old.queue }
     ensures pins { dirty.new.pins.numbers ≡ dirty.old.pins.numbers }
     ensures marks { dirty.new.marks.numbers ≡ dirty.old.marks.numbers }
+    ensures later { dirty.new.later.numbers ≡ dirty.old.later.numbers }
     ensures room { OnOk result (HasRoom updates.now queue.new) }
     ensures pin_room { OnOk result (length paths.now.changed.items ≤ dirty.new.pins.spare) }
     ensures mark_room { OnOk result (length paths.now.over.items ≤ dirty.new.marks.spare) }

@@ -5,6 +5,8 @@ use vol_types::{Query, Updates};
 pub enum Work {
     /// Entries of the journal are written.
     Journal,
+    /// Nodes are written anew, so that the journal can let entries go.
+    Nodes,
 }
 
 /// What an actor asks of the volume.
@@ -34,4 +36,10 @@ pub enum Event {
     Flush(u8),
     /// Takes the entry in flight, all of which is settled, as the last durable one.
     Settle,
+    /// Freezes the leaf of this birth: its keys of durable entries are what is written of it, into new buckets.
+    Freeze(u64),
+    /// Writes the next block of what is frozen of the leaf of this birth, on every metadata device.
+    WriteSet(u64),
+    /// Puts all frozen leaves in place, once they are written and settled.
+    CommitNodes,
 }

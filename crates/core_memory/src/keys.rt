@@ -1,12 +1,14 @@
 ghost use Rattle.std.specs.Arc.{arc_value};
 ghost use Rattle.std.specs.Prelude.{◌≡◌, All, IfOk, IsTrue, OnErr, OnOk};
 ghost use Rattle.btree_map.specs.Applied.{values_before};
-ghost use Rattle.btree_map.specs.Trees.{keys_in};
+ghost use Rattle.birth_index.specs.Exchanges.{AreBefore, AreExchanges};
+ghost use Rattle.btree_map.specs.Trees.{keys_in, with_exchanged};
 ghost use Rattle.commit_plan.specs.Ids.{id_trees};
 ghost use Rattle.core_memory.specs.KeptIds.{AreIds};
 ghost use Rattle.vol_types.specs.KeyMaps.{IsKeyMap, KeyMap as AKeyMap, with_updates};
 ghost use Rattle.vol_types.specs.Standing.{IsUpdate};
 
+use birth_index::Exchange;
 use btree_map::{KeyMap, btrees_hold_a_key_map};
 use commit_plan::{changes_ids, ids_updated, other_updates_leave_ids, trees_after};
 use snap_tree::SnapTree;
@@ -83,6 +85,23 @@ impl VolumeKeys {
         let before = self.map.apply(alloc, updates)?;
         self.ids = ids_after(self.ids.take(), updates);
         Ok(before)
+    }
+}
+
+impl VolumeKeys {
+    /// Exchanges the pointers of changes for those of their nodes, all or none: each change gets the one that its node had. The keys stay. An
+    /// `Err` is out of memory, and changes nothing.
+    pub(crate) fn exchange(
+        &mut self,
+        alloc: Global,
+        changes: &mut [Exchange],
+    ) -> Result<(), AllocError>
+        requires { AreExchanges self.old.nodes changes.old }
+        ensures ok { OnOk result (self.new ≡ with_exchanged changes.old self.old) }
+        ensures before { OnOk result (AreBefore self.old.nodes changes.old changes.new) }
+        ensures err { OnErr result (self.new ≡ self.old) }
+    {
+        self.map.exchange(alloc, changes)
     }
 }
 

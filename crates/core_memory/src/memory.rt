@@ -1,8 +1,9 @@
 ghost use Rattle.std.specs.Prelude.{◌≡◌, ◌<◌, ◌↔◌, IsTrue, None};
-ghost use Rattle.core_memory.specs.Events.{CommitGives, EventGives, Fits, FitsActor, IsNoted, IsOfMemory, IsTold, MayBegin, SealGives, SettleGives, failed_by};
+ghost use Rattle.core_memory.specs.Events.{CommitGives, CommitNodesGives, EventGives, Fits, FitsActor, FreezeGives, IsNoted, IsOfMemory, IsTold, IsToldNodes, IsToldOf, MayBegin, SealGives, SettleGives, failed_by};
 ghost use Rattle.core_memory.specs.States.{IsState, actor_count, mine, other_holder, with_halt};
+ghost use Rattle.core_memory.specs.Volumes.{KeepParts};
 ghost use Rattle.core_memory.specs.Uncommitted.{answer_of_why, noted_why};
-ghost use Rattle.core_memory.specs.declared.event.Event.TheVariants.{Begin, Commit, Drop, Finish, Intend, Look, LookIds, Seal, Settle};
+ghost use Rattle.core_memory.specs.declared.event.Event.TheVariants.{Begin, Commit, CommitNodes, Drop, Finish, Freeze, Intend, Look, LookIds, Seal, Settle};
 ghost use Rattle.core_memory.specs.declared.answer.Answer.TheVariants as Answer;
 
 use crate::commit::{Uncommitted, Why};
@@ -37,9 +38,11 @@ impl Model for Memory {
 impl Memory {
     /// What is kept of a volume and its actors holds, after any events.
     pub fn see_kept(&self)
-        ensures { IsState self.now }
+        ensures kept { IsState self.now }
+        ensures parts { KeepParts self.now.volume }
     {
-        let _ = &self.alloc;
+        let _ = self.volume.commits();
+        self.volume.see_parts();
     }
 
     /// What an actor has under way.
@@ -80,7 +83,14 @@ impl Memory {
                 actor.intended.is_some()
             }
             Event::Flush(dev) => *dev < self.volume.devices(),
-            Event::Drop | Event::Next(_) | Event::Seal | Event::WriteEntry | Event::Settle => true,
+            Event::Drop
+            | Event::Next(_)
+            | Event::Seal
+            | Event::WriteEntry
+            | Event::Settle
+            | Event::Freeze(_)
+            | Event::WriteSet(_)
+            | Event::CommitNodes => true,
         }
     }
 
@@ -95,7 +105,10 @@ impl Memory {
     /// a logarithm of the dirty nodes for each node that it makes dirty. A `LookIds` shares the trees of ids, which it makes anew,
     /// going over all ids, where a commit couldn't change them in place.
     ///
-    /// `Begin`, `Intend`, `Finish`, `Drop`, `Next` and `Settle` take no memory; a `Seal` takes that of the entry's bytes.
+    /// A `Freeze` goes over the updates that aren't durable, and costs what the bytes of its leaf do; a `CommitNodes` costs a few logarithms for
+    /// each of at most nine leaves.
+    ///
+    /// `Begin`, `Intend`, `Finish`, `Drop`, `Next` and `Settle` take no memory; a `Seal` and a `Freeze` take that of the bytes.
     pub fn step(&mut self, actor: u8, event: Event) -> Answer
         requires fits { Fits self.old actor event }
         requires of_memory { IsOfMemory event }
@@ -110,9 +123,12 @@ impl Memory {
             Event::Finish => self.finish(actor),
             Event::Drop => self.drop_transaction(actor),
             Event::Next(Work::Journal) => self.tell(actor),
+            Event::Next(Work::Nodes) => self.tell_nodes(actor),
             Event::Seal => self.seal(actor),
             Event::Settle => self.settle(actor),
-            Event::WriteEntry | Event::Flush(_) => unreachable!(),
+            Event::Freeze(node) => self.freeze(actor, node),
+            Event::CommitNodes => self.commit_nodes(actor),
+            Event::WriteEntry | Event::Flush(_) | Event::WriteSet(_) => unreachable!(),
         }
     }
 
@@ -222,6 +238,23 @@ impl Memory {
         ensures told { IsTold self.old actor result self.new }
     {
         let stage = self.volume.stage();
+        self.tell_stage(actor, stage)
+    }
+
+    // Tells an actor the stage of the nodes, and whether its commits are durable.
+    pub(crate) fn tell_nodes(&mut self, actor: u8) -> Answer
+        requires { actor < actor_count }
+        ensures told { IsToldNodes self.old actor result self.new }
+    {
+        let stage = self.volume.node_stage();
+        self.tell_stage(actor, stage)
+    }
+
+    // Tells an actor this stage, and whether its commits are durable.
+    fn tell_stage(&mut self, actor: u8, stage: Stage) -> Answer
+        requires { actor < actor_count }
+        ensures told { IsToldOf stage self.old actor result self.new }
+    {
         let mine = &mut self.actors[usize::from(actor)];
         let durable = self.volume.are_durable(mine.operation);
         mine.tell(stage, durable);
@@ -257,6 +290,40 @@ impl Memory {
         }
         self.volume.settle();
         Answer::Done
+    }
+
+    fn freeze(&mut self, actor: u8, node: u64) -> Answer
+        requires { Fits self.old actor (Freeze node) }
+        ensures { FreezeGives node self.old actor result self.new }
+    {
+        if let Some(halt) = self.volume.halted {
+            return self.refused(actor, Refusal::Halted(halt));
+        }
+        if self.volume.node_stage() != Stage::Freeze(node) {
+            return self.tell_nodes(actor);
+        }
+        match self.volume.freeze(self.alloc, node) {
+            Ok(()) => Answer::Done,
+            Err(Why::NoMemory) => Answer::NoMemory,
+            Err(Why::Refused(refusal)) => self.refused(actor, refusal),
+        }
+    }
+
+    fn commit_nodes(&mut self, actor: u8) -> Answer
+        requires { Fits self.old actor CommitNodes }
+        ensures { CommitNodesGives self.old actor result self.new }
+    {
+        if let Some(halt) = self.volume.halted {
+            return self.refused(actor, Refusal::Halted(halt));
+        }
+        if self.volume.node_stage() != Stage::CommitNodes {
+            return self.tell_nodes(actor);
+        }
+        match self.volume.commit_nodes(self.alloc) {
+            Ok(()) => Answer::Done,
+            Err(Why::NoMemory) => Answer::NoMemory,
+            Err(Why::Refused(refusal)) => self.refused(actor, refusal),
+        }
     }
 
     // Refuses an event of an actor, and notes why.

@@ -13,11 +13,13 @@ use crate::keys::VolumeKeys;
 use crate::memory::{ACTORS, Memory};
 use crate::volume::{Volume, see_widths};
 use btree_map::{KeyMap, btrees_hold_a_key_map};
-use bucket_pool::Pool;
+use bucket_pool::{Pool, nodes_keep_their_buckets};
 use commit_plan::{DirtyNodes, dirty_nodes_are_marked, paths_of};
 use entry_queue::{EntryQueue, waiting_changes_lead_from_durable_keys};
 use entry_writer::EntryWriter;
 use journal_ring::FoundEntry;
+use node_work::frozen_leaves_are_kept;
+use node_writer::NodeWriter;
 use std::alloc::{AllocError, Global};
 use vol_types::{Btree, Keys, Layout, Places, Pos, Query, Update, layouts_are_tested};
 
@@ -63,6 +65,8 @@ fn volume_of(
     // A layout has one to three metadata devices, and the keys are a key map.
     layouts_are_tested();
     btrees_hold_a_key_map();
+    nodes_keep_their_buckets();
+    frozen_leaves_are_kept();
     waiting_changes_lead_from_durable_keys();
     let _ = map.height(Btree::Extents);
     let newest = &needed[needed.len() - 1];
@@ -76,6 +80,8 @@ fn volume_of(
         dirty: dirty_nodes(alloc, &map, needed, entry.oldest)?,
         pool: Pool::of(alloc, &layout, &live, nodes)?,
         writer: EntryWriter::of(alloc, &layout, needed)?,
+        nodes: NodeWriter::new(alloc),
+        emptied: 0,
         halted: None,
         changes: 0,
         layout,
@@ -117,6 +123,7 @@ fn dirty_nodes(
         (changed_nodes map.now.nodes (updates_in needed.now)) []) }
     ensures marks { IfOk result (λ dirty. dirty.marks.numbers ≡ with_pins seq
         (paths_of map.now.nodes (updates_in needed.now)) []) }
+    ensures later { IfOk result (λ dirty. dirty.later.numbers ≡ []) }
     ensures marked { IfOk result (λ dirty. AreMarked map.now.nodes dirty.pins.numbers
         dirty.marks.numbers) }
 {
@@ -126,6 +133,7 @@ fn dirty_nodes(
     for found in needed {
         make_dirty(alloc, map, &mut dirty, found.entry.updates.as_slice(), seq)?;
     }
+    dirty.forget_later();
     Ok(dirty)
 }
 

@@ -1,5 +1,6 @@
 ghost use Rattle.std.specs.Prelude.{◌≡◌, ◌<◌, [], All, IfOk, length, slice_index_or};
-ghost use Rattle.core_memory.specs.Sealing.{root_of, roots_in};
+ghost use Rattle.core_memory.specs.Sealing.{roots_in};
+ghost use Rattle.node_work.specs.Due.{root_of};
 ghost use Rattle.vol_types.specs.Ranges.{IsNode};
 
 use btree_map::KeyMap;

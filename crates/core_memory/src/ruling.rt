@@ -98,7 +98,7 @@ fn rule_space(
     let seq = entry_of(&volume.queue, updates, counted);
     let marked = volume.dirty.marked_with(alloc, &paths, seq)?;
     if is_short_of_nodes(&volume.pool, volume.mirrors(), marked) {
-        let none = no_space(alloc, volume)?;
+        let none = no_space(alloc, volume.is_idle(), volume)?;
         return Ok(Ruling::Refused(Refusal::NoSpace(none)));
     }
     Ok(Ruling::Allowed(paths))

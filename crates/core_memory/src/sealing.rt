@@ -1,10 +1,10 @@
 ghost use Rattle.std.specs.Prelude.{◌≡◌, ◌<◌, ◌≤◌, ◌↔◌, [], true, false, All, IfErr, IsTrue, OnErr, OnOk, length};
-ghost use Rattle.core_memory.specs.Sealing.{HasEntryNumbers, IsFlown, IsStage, roots_in, with_writer};
+ghost use Rattle.core_memory.specs.Sealing.{HasEntryNumbers, IsFlown, IsStage, roots_in, settled_volume, with_writer};
 ghost use Rattle.core_memory.specs.Uncommitted.{IsWhySealed, why_of};
 ghost use Rattle.core_memory.specs.Volumes.{IsVolume};
 ghost use Rattle.entry_queue.specs.Queues.{HasNumbers};
 ghost use Rattle.dev_model.specs.Devices.{IsFlush};
-ghost use Rattle.entry_writer.specs.Writers.{settled, unsettled_by, with_flushed, with_next_part};
+ghost use Rattle.entry_writer.specs.Writers.{unsettled_by, with_flushed, with_next_part};
 ghost use Rattle.entry_writer.specs.Writes.{WritesPart};
 ghost use Rattle.entry_writer.specs.declared.stage.Stage.TheVariants.{Seal, Settle, WriteEntry};
 ghost use Rattle.geometry.specs.Faults.{failed_device};
@@ -16,7 +16,8 @@ ghost use Rattle.vol_types.specs.Ranges.{IsNode};
 use crate::Refusal;
 use crate::commit::Why;
 use crate::roots::roots_of;
-use crate::volume::Volume;
+use crate::volume::{Volume, in_flight};
+use bucket_pool::nodes_keep_their_buckets;
 use dev_model::Devices;
 use entry_queue::{EntryQueue, entries_leave_in_turn, waiting_changes_lead_from_durable_keys};
 use entry_writer::{Unsealed, Why as WhyUnsealed};
@@ -103,14 +104,20 @@ impl Volume {
         self.writer.flush(devices, dev)
     }
 
-    /// Takes the entry in flight as the last durable one. It takes no memory.
+    /// Takes the entry in flight as the last durable one; the buckets are free then that waited for it. It takes no memory, and goes over
+    /// the groups of buckets in which one waits.
     pub(crate) fn settle(&mut self)
         requires { IsStage Settle self.old }
         ensures sound { IsVolume self.new }
-        ensures settled { self.new ≡ with_writer (settled self.old.writer) self.old }
+        ensures settled { self.new ≡ settled_volume self.old }
     {
         waiting_changes_lead_from_durable_keys();
+        nodes_keep_their_buckets();
+        // The queue is one, and the updates in flight may be made.
+        let _ = self.queue.commits();
+        let _ = in_flight(&self.writer);
         self.writer.settle();
+        self.pool.settle(self.writer.durable().sequence);
     }
 }
 

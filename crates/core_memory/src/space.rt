@@ -39,13 +39,13 @@ fn has_few(pool: &Pool, dev: u8, marked: usize) -> bool
     free < (marked as u64).saturating_add(KEPT_BUCKETS)
 }
 
-/// What is told where there are too few free buckets for nodes.
-pub(crate) fn no_space(alloc: Global, volume: &Volume) -> Result<NoSpace, AllocError>
-    ensures { IfOk result (λ none. none ≡ no_space volume.now) }
+/// What is told where there are too few free buckets for nodes, and whether a checkpoint would free none.
+pub(crate) fn no_space(alloc: Global, idle: bool, volume: &Volume) -> Result<NoSpace, AllocError>
+    ensures { IfOk result (λ none. none ≡ no_space idle volume.now) }
 {
     Ok(NoSpace {
         short: short_of(alloc, volume)?,
-        idle: volume.dirty.is_clean(),
+        idle,
         changes: volume.changes,
     })
 }

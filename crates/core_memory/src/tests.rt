@@ -202,6 +202,9 @@ fn code_of_stage(stage: Stage) -> u64 {
         Stage::WriteEntry => 2,
         Stage::Flush(_) => 3,
         Stage::Settle => 4,
+        Stage::Freeze(_) => 5,
+        Stage::WriteSet(_) => 6,
+        Stage::CommitNodes => 7,
     }
 }
 
@@ -230,7 +233,7 @@ fn is_of_memory(event: &Event) -> bool
     ensures { IsTrue result → IsOfMemory event.now }
 {
     match event {
-        Event::WriteEntry | Event::Flush(_) => false,
+        Event::WriteEntry | Event::Flush(_) | Event::WriteSet(_) => false,
         Event::Begin { .. } => true,
         Event::Look(_) => true,
         Event::LookIds => true,
@@ -241,6 +244,8 @@ fn is_of_memory(event: &Event) -> bool
         Event::Next(_) => true,
         Event::Seal => true,
         Event::Settle => true,
+        Event::Freeze(_) => true,
+        Event::CommitNodes => true,
     }
 }
 

@@ -1,9 +1,12 @@
 ghost use Rattle.std.specs.Arc.{arc_value};
-ghost use Rattle.std.specs.Prelude.{◌≡◌, ◌↔◌, ◌≤◌, All, IfOk, IsTrue, length};
+ghost use Rattle.std.specs.List.{list_all};
+ghost use Rattle.std.specs.Option.{option_to_list};
+ghost use Rattle.std.specs.Prelude.{◌≡◌, ◌↔◌, ◌+◌, ◌<◌, ◌^◌, ◌≤◌, All, IfOk, IfSome, IsTrue, length, option_copied};
 ghost use Rattle.btree_map.specs.Trees.{keys_in};
 ghost use Rattle.commit_plan.specs.Ids.{id_trees};
 ghost use Rattle.core_memory.specs.Commits.{AreIntended};
-ghost use Rattle.core_memory.specs.Volumes.{are_durable, can_let_go, commits_of, halted_at, is_below, needs_entry, stage_of};
+ghost use Rattle.core_memory.specs.Volumes.{KeepParts, are_durable, can_let_go, commits_of, halted_at, has_no_updates, in_flight, is_below, is_exhausted, is_idle, needs_entry, none_waits, stage_of};
+ghost use Rattle.entry_queue.specs.Queues.{AreChanges, waiting_entries};
 ghost use Rattle.vol_types.specs.KeyMaps.{answer_of};
 ghost use Rattle.vol_types.specs.Standing.{IsUpdate};
 ghost use Rattle.vol_types.specs.Widths.{PosFits};
@@ -13,8 +16,9 @@ use crate::keys::VolumeKeys;
 use crate::{Durable, Halt, Stage};
 use bucket_pool::Pool;
 use commit_plan::DirtyNodes;
-use entry_queue::EntryQueue;
+use entry_queue::{EntryQueue, Pending};
 use entry_writer::EntryWriter;
+use node_writer::NodeWriter;
 use snap_tree::SnapTree;
 use std::alloc::{AllocError, Global};
 use std::marker::Model;
@@ -31,6 +35,8 @@ pub(crate) struct Volume {
     pub(crate) dirty: DirtyNodes,
     pub(crate) pool: Pool,
     pub(crate) writer: EntryWriter,
+    pub(crate) nodes: NodeWriter,
+    pub(crate) emptied: u64,
     pub(crate) halted: Option<Halt>,
     pub(crate) changes: u64,
 }
@@ -42,9 +48,9 @@ impl Model for Volume {
 
     ghost Value = { AVolume };
 
-    ghost view = { λ v. record { layout = v.layout; session = v.session; trees = v.keys; queue = v.queue.queue; pins = v.dirty.pins.numbers; marks = v.dirty.marks.numbers; space = v.pool; writer = v.writer; halted = v.halted; changes = v.changes } };
+    ghost view = { λ v. record { layout = v.layout; session = v.session; trees = v.keys; queue = v.queue.queue; pins = v.dirty.pins.numbers; marks = v.dirty.marks.numbers; later = v.dirty.later.numbers; space = v.pool; writer = v.writer; work = v.nodes; emptied = v.emptied; halted = v.halted; changes = v.changes } };
 
-    ghost invariant = { λ v. IsVolume (record { layout = v.layout; session = v.session; trees = v.keys; queue = v.queue.queue; pins = v.dirty.pins.numbers; marks = v.dirty.marks.numbers; space = v.pool; writer = v.writer; halted = v.halted; changes = v.changes }) };
+    ghost invariant = { λ v. IsVolume (record { layout = v.layout; session = v.session; trees = v.keys; queue = v.queue.queue; pins = v.dirty.pins.numbers; marks = v.dirty.marks.numbers; later = v.dirty.later.numbers; space = v.pool; writer = v.writer; work = v.nodes; emptied = v.emptied; halted = v.halted; changes = v.changes }) };
 }
 
 impl Volume {
@@ -53,6 +59,15 @@ impl Volume {
         ensures { result ≡ commits_of self.now }
     {
         self.queue.commits()
+    }
+
+    /// What its parts keep by themselves holds.
+    pub(crate) fn see_parts(&self)
+        ensures { KeepParts self.now }
+    {
+        let _ = self.queue.commits();
+        let _ = self.nodes.unfinished();
+        let _ = self.dirty.pin_of(0);
     }
 
     /// How many devices the volume has.
@@ -128,7 +143,43 @@ impl Volume {
         if self.queue.commits() != self.durable().commits {
             return true;
         }
+        if self.queue.after() < self.emptied {
+            return true;
+        }
         can_let_go(self.durable(), &self.dirty)
+    }
+
+    /// Whether no node is dirty, no bucket waits for an entry, and no node is frozen.
+    pub(crate) fn is_idle(&self) -> bool
+        ensures { result ≡ is_idle self.now }
+    {
+        if !self.dirty.is_clean() {
+            return false;
+        }
+        if !self.none_waits() {
+            return false;
+        }
+        self.nodes.is_idle()
+    }
+
+    // Whether no bucket waits for an entry.
+    fn none_waits(&self) -> bool
+        ensures { result ≡ none_waits self.now }
+    {
+        self.emptied <= self.durable().sequence
+    }
+
+    /// Whether no bucket waits for an entry, and all that was committed is durable, but for commits without keys.
+    pub(crate) fn is_exhausted(&self) -> bool
+        ensures { result ≡ is_exhausted self.now }
+    {
+        if !self.none_waits() {
+            return false;
+        }
+        if !flies_without_updates(&self.writer) {
+            return false;
+        }
+        waits_without_updates(&self.queue)
     }
 
     /// Says where the session stops writing. What it was told first stays.
@@ -151,6 +202,18 @@ impl Volume {
     }
 }
 
+/// The entry in flight, if there is one. Its changes fit an entry, and it has a sequence of its own.
+pub(crate) fn in_flight(writer: &EntryWriter) -> Option<&Pending>
+    ensures entry { option_copied result ≡ in_flight writer.now.flight }
+    ensures changes { IfSome result (λ entry. AreChanges writer.now.ring.mirrors entry.now.changes) }
+    ensures numbered { IfSome result (λ entry. entry.now.after + 1 < 2 ^ 64) }
+{
+    match writer.flight() {
+        None => None,
+        Some(flight) => Some(&flight.entry),
+    }
+}
+
 /// The parts of the position of each update have the widths of their types.
 pub(crate) fn see_widths(updates: &[Update])
     ensures { All (λ update. PosFits update.pos) updates.now }
@@ -158,6 +221,40 @@ pub(crate) fn see_widths(updates: &[Update])
     for update in updates {
         let _ = wide(&update.pos);
     }
+}
+
+// Whether no entry with updates is in flight.
+fn flies_without_updates(writer: &EntryWriter) -> bool
+    ensures { result ≡ list_all has_no_updates (option_to_list (in_flight writer.now.flight)) }
+{
+    match in_flight(writer) {
+        None => true,
+        Some(entry) => has_no_updates(entry),
+    }
+}
+
+// Whether no entry with updates waits.
+fn waits_without_updates(queue: &EntryQueue) -> bool
+    ensures { result ≡ list_all has_no_updates (waiting_entries queue.now.queue) }
+{
+    if queue.has_keys() {
+        return false;
+    }
+    are_without_updates(queue.closed())
+}
+
+// Whether none of the entries has updates.
+fn are_without_updates(entries: &[Pending]) -> bool
+    ensures { result ≡ list_all has_no_updates entries.now }
+{
+    entries.iter().all(has_no_updates)
+}
+
+// Whether an entry has no updates.
+fn has_no_updates(entry: &Pending) -> bool
+    ensures { result ≡ has_no_updates entry.now }
+{
+    entry.changes.updates.is_empty()
 }
 
 // Whether all updates are of leaves.

@@ -1,26 +1,32 @@
 -- The core stays safe where a commit's updates join the entries that wait.
-use Rattle.std.proofs.Common.{◌≡◌, ◌+◌, ℕ, Bool, true, false, List, [], ◌∷◌, ◌++◌, refl, sym, ap, subst}
+use Rattle.std.proofs.Common.{◌≡◌, ◌+◌, Bool, true, false, List, [], ◌∷◌, ◌++◌, refl, sym, ap, subst}
 use Rattle.std.proofs.lemmas.List.Elements.{All-append, All-cons, All-head, All-nil, All-tail}
+use Rattle.std.specs.Ordering.{nat_cmp}
 use Rattle.std.specs.Prelude.{All, if◌then◌else◌}
+use Rattle.birth_index.specs.Exchanges.{HaveOneNode}
 use Rattle.btree_map.specs.Trees.{Trees, keys_in}
+use Rattle.checkpoint_safety.specs.Steps.{ArePinnedMore, PinsAsMuch}
 use Rattle.commit_plan.specs.Dirty.{changed_nodes, paths_of, with_pins}
 use Rattle.core_memory.specs.Commits.{IsCommitted}
 use Rattle.core_memory.specs.Rulings.{entry_of}
-use Rattle.core_memory.specs.Volumes.{Volume, changes_in, is_below}
+use Rattle.core_memory.specs.Volumes.{IsVolume, Volume, changes_in}
 use Rattle.dev_model.specs.Devices.{DevicesState}
 use Rattle.entry_queue.specs.Changes.{LeadTo, changes_of, changes_then, no_changes}
 use Rattle.entry_queue.specs.Queues.{Queue, closed_changes, closes, follower_of, joined, waiting}
 use Rattle.entry_queue.specs.declared.changes.KeyChanges.{KeyChanges}
 use Rattle.entry_queue.specs.declared.changes.Pending.{Pending}
 use Rattle.image_view.specs.Found.{Found}
-use Rattle.pin_list.specs.Pins.{least_pin}
+use Rattle.node_work.specs.Due.{root_in}
+use Rattle.tree_nodes.specs.Levels.{Levels}
 use Rattle.vol_types.specs.KeyMaps.{KeyMap, with_updates}
+use Rattle.vol_types.specs.Maps.{value_at}
 use Rattle.vol_types.specs.declared.keys.Update.{Update}
 use Rattle.vol_core.specs.Entries.{AreInLeaves, IsInLeaf}
 use Rattle.vol_core.specs.Safety.{IsCoreSafe}
-use Rattle.vol_core.proofs.CoreLaws.{CoreLaws}
-use Rattle.vol_core.proofs.NeededEntries.{idle_falling}
-use Rattle.vol_core.proofs.Written.{flies_also, known_also}
+use Rattle.vol_core.specs.VolumeLeaves.{leaves_in}
+use Rattle.vol_core.specs.CoreLaws.{CoreLaws}
+use Rattle.vol_core.proofs.KnownParts.{flies_also, known_also}
+use Rattle.vol_core.proofs.PinnedLeaves.{PinAsMuch, fresh_count, fresh_more, with_pins-as_much}
 
 abbrev AllInLeaves : KeyChanges → Type 0
 AllInLeaves changes = All IsInLeaf changes.updates
@@ -51,19 +57,33 @@ joined_by false changes queue new are = last_leaves queue.closed queue.open_entr
 joined_leaves : (changes : KeyChanges) (counted : Bool) (queue : Queue) → AllInLeaves changes → AreInLeaves (waiting queue) → AreInLeaves (waiting (joined changes counted queue))
 joined_leaves changes counted queue new are = joined_by (closes changes.updates queue) changes queue new are
 
-module _ (laws : CoreLaws) (begun : Found) (start : DevicesState) (volume : Volume) (state : DevicesState) (kept : IsCoreSafe begun start state volume) (updates : List Update) (counted : Bool) (leaves : All IsInLeaf updates) where
+module _ (laws : CoreLaws) (begun : Found) (start : DevicesState) (volume : Volume) (is : IsVolume volume) (state : DevicesState) (kept : IsCoreSafe begun start state volume) (updates : List Update) (counted : Bool) (leaves : All IsInLeaf updates) where
   abbrev made_with : Trees → Volume
   made_with trees = record volume {
     trees = trees;
     queue = joined (changes_of updates (keys_in volume.trees)) counted volume.queue;
     pins = with_pins (entry_of volume updates) (changed_nodes volume.trees.nodes updates) volume.pins;
     marks = with_pins (entry_of volume updates) (paths_of volume.trees.nodes updates) volume.marks;
+    later = with_pins (entry_of volume updates) (changed_nodes volume.trees.nodes updates) volume.later;
     changes = volume.changes + 1;
   }
 
-  made_one : (trees : Trees) → keys_in trees ≡ with_updates updates (keys_in volume.trees) → trees.nodes ≡ volume.trees.nodes
-      → ((number : ℕ) → is_below number (least_pin (made_with trees).pins) ≡ true → is_below number (least_pin volume.pins) ≡ true) → IsCoreSafe begun start state (made_with trees)
-  made_one trees keys nodes falls = record {
+  -- Each root pins as much as before, and as much is noted of each frozen leaf.
+  pinned_more : (trees : Trees) → trees.nodes ≡ volume.trees.nodes → ArePinnedMore (leaves_in volume) (leaves_in (made_with trees))
+  pinned_more trees nodes = record {
+    root = λ btree. ap (λ (levels : List Levels). root_in levels btree) nodes;
+    space = refl;
+    pins = λ btree. subst (λ (levels : List Levels). PinsAsMuch (value_at nat_cmp (root_in volume.trees.nodes btree).birth volume.pins) (value_at nat_cmp (root_in levels btree).birth (made_with trees).pins)) (sym nodes)
+        (with_pins-as_much laws.pins (entry_of volume updates) (changed_nodes volume.trees.nodes updates) volume.pins (root_in volume.trees.nodes btree).birth);
+    count = fresh_count volume.later (made_with trees).later later_more volume.work;
+    fresh = fresh_more volume.later (made_with trees).later later_more volume.work;
+  }
+    where
+      later_more : PinAsMuch volume.later (made_with trees).later
+      later_more = with_pins-as_much laws.pins (entry_of volume updates) (changed_nodes volume.trees.nodes updates) volume.later
+
+  made_one : (trees : Trees) → keys_in trees ≡ with_updates updates (keys_in volume.trees) → trees.nodes ≡ volume.trees.nodes → IsCoreSafe begun start state (made_with trees)
+  made_one trees keys nodes = record {
     f = kept.f;
     image = kept.image;
     writing = kept.writing;
@@ -77,18 +97,17 @@ module _ (laws : CoreLaws) (begun : Found) (start : DevicesState) (volume : Volu
     past = kept.past;
     flushed = kept.flushed;
     flags = kept.flags;
-    known = known_also kept.f volume (made_with trees) kept.known refl refl refl nodes;
+    known = known_also kept.f volume (made_with trees) kept.known refl refl refl;
     starts = kept.starts;
     first = kept.first;
     lead = subst (λ (to : KeyMap). LeadTo (changes_in volume.writer.flight ++ waiting (joined (changes_of updates (keys_in volume.trees)) counted volume.queue)) kept.f.trees.keys to) (sym keys)
-        (laws.keys.joins (changes_in volume.writer.flight) volume.queue updates counted kept.f.trees.keys (keys_in volume.trees) kept.lead);
+        (laws.keys.joined (changes_in volume.writer.flight) volume.queue updates counted kept.f.trees.keys (keys_in volume.trees) kept.lead);
     leaves = joined_leaves (changes_of updates (keys_in volume.trees)) counted volume.queue leaves kept.leaves;
-    idle = idle_falling (least_pin volume.pins) (least_pin (made_with trees).pins) kept.f.last.entry.oldest kept.f.needed falls kept.idle;
-    flying = flies_also kept.f volume.writer.flight kept.writing kept.asked kept.written volume (made_with trees) kept.flying refl refl nodes;
+    one = subst HaveOneNode (sym nodes) kept.one;
+    kept = laws.entries.pins kept.f kept.writing state (leaves_in volume) (leaves_in (made_with trees)) kept.kept (pinned_more trees nodes);
+    flying = flies_also kept.f volume.writer.flight kept.writing kept.asked kept.written volume (made_with trees) kept.flying refl refl;
   }
 
-  -- A commit makes these updates, and no pin rises.
-  pub committed_on : (new : Volume) → IsCommitted updates counted volume new → ((number : ℕ) → is_below number (least_pin new.pins) ≡ true → is_below number (least_pin volume.pins) ≡ true) → IsCoreSafe begun start state new
-  committed_on new made falls =
-      subst (IsCoreSafe begun start state) (sym made.rest)
-      (made_one new.trees made.keys made.nodes (λ number below. falls number (subst (λ (pins : List (ℕ × ℕ)). is_below number (least_pin pins) ≡ true) (sym (ap (λ (v : Volume). v.pins) made.rest)) below)))
+  -- A commit makes these updates.
+  pub committed_on : (new : Volume) → IsCommitted updates counted volume new → IsCoreSafe begun start state new
+  committed_on new made = subst (IsCoreSafe begun start state) (sym made.rest) (made_one new.trees made.keys made.nodes)

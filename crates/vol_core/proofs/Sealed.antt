@@ -1,39 +1,47 @@
 -- The core stays safe where an entry is put in flight.
-use Rattle.std.proofs.Common.{◌≡◌, ◌≤◌, ◌<◌, ◌+◌, ◌-◌, ℕ, List, [], ◌∷◌, ◌++◌, take, length, min, Option, Some, None, refl, sym, ap, subst, ◌∙◌, arith}
+use Rattle.std.proofs.Common.{◌≡◌, ◌≤◌, ◌<◌, ◌+◌, ◌-◌, ℕ, List, [], ◌∷◌, ◌++◌, length, min, Option, Some, None, refl, sym, ap, subst, ◌∙◌, arith}
+use Rattle.std.proofs.lemmas.List.{length-map}
 use Rattle.std.proofs.lemmas.List.Elements.{All-cons, All-head, All-nil, All-tail}
 use Rattle.std.specs.Prelude.{All, IfSome, slice_get}
 use Rattle.btree_map.specs.Trees.{keys_in}
-use Rattle.core_memory.specs.Sealing.{IsFlown, oldest_needed, next_record, roots_in}
+use Rattle.checkpoint_safety.specs.Kept.{KeepsLeaves}
+use Rattle.checkpoint_safety.specs.Steps.{IsNamed}
+use Rattle.core_memory.specs.Sealing.{IsFlown, next_record, oldest_needed, roots_in}
 use Rattle.core_memory.specs.Volumes.{IsVolume, Volume, changes_in, last_sealed, needs_entry}
-use Rattle.dev_model.specs.Devices.{DevicesState}
+use Rattle.dev_model.specs.Devices.{DevicesState, now}
+use Rattle.dev_model.specs.Disk.{as_read}
 use Rattle.entry_queue.specs.Changes.{LeadTo, no_changes}
-use Rattle.entry_queue.specs.Queues.{Queue, closed_changes, first_of, left_by, oldest, waiting, without_oldest}
+use Rattle.entry_queue.specs.Queues.{Queue, closed_changes, first_of, left_by, oldest, record_of, waiting, without_oldest}
 use Rattle.entry_queue.specs.declared.changes.KeyChanges.{KeyChanges}
 use Rattle.entry_queue.specs.declared.changes.Pending.{Pending}
 use Rattle.entry_writer.specs.Writers.{IsSealed, Writer, with_entry}
 use Rattle.entry_writer.specs.declared.writer.Flight.{Flight}
-use Rattle.image_view.specs.EntryUpdates.{IsIdle}
 use Rattle.image_view.specs.Found.{Found}
 use Rattle.image_view.specs.NextEntries.{IsNext}
-use Rattle.image_view.specs.UpdatedTrees.{IsOfLeaf, with_key_updates}
+use Rattle.image_view.specs.UpdatedTrees.{IsOfLeaf}
 use Rattle.journal_ring.specs.EntryBlocks.{AreEntryBlocks, parts_of}
+use Rattle.journal_ring.specs.Rings.{flight_number}
 use Rattle.journal_ring.specs.declared.found.FoundEntry.{FoundEntry}
-use Rattle.journal_safety.specs.Safety.{IsJournalSafe}
-use Rattle.journal_safety.specs.Writings.{IsWriting, Writing, after}
+use Rattle.journal_safety.specs.NodeWritings.{IsSafeWithNodes}
+use Rattle.journal_safety.specs.Writings.{Writing, after}
+use Rattle.node_work.specs.Due.{root_in, root_of}
 use Rattle.pin_list.specs.Pins.{least_pin}
 use Rattle.record_codec.specs.Entries.{UpdateFits}
 use Rattle.record_codec.specs.declared.entries.EntryRecord.{EntryRecord}
 use Rattle.vol_types.specs.Btrees.{btree_code}
+use Rattle.vol_types.specs.KeyMaps.{with_updates}
 use Rattle.vol_types.specs.declared.keys.Update.{Update}
 use Rattle.vol_types.specs.declared.layout.Layout.{Layout}
 use Rattle.vol_types.specs.declared.pointers.NodePtr.{NodePtr}
 use Rattle.vol_core.specs.Entries.{AreInLeaves, AreStarts, FliesAs, IsInLeaf, entries_with}
-use Rattle.vol_core.specs.Safety.{IsCoreSafe}
+use Rattle.vol_core.specs.Safety.{IsCoreSafe, IsLed}
+use Rattle.vol_core.specs.VolumeLeaves.{leaves_in}
 use Rattle.vol_core.proofs.Chains.{chain_push, first_stays}
-use Rattle.vol_core.proofs.CoreLaws.{CoreLaws}
-use Rattle.vol_core.proofs.NeededEntries.{below_smaller, idle_front, smaller_within, starts_push}
+use Rattle.vol_core.specs.CoreLaws.{CoreLaws}
+use Rattle.vol_core.proofs.KnownParts.{known_also}
+use Rattle.vol_core.proofs.NamedRoots.{needed_within, nine_roots}
+use Rattle.vol_core.proofs.NeededEntries.{smaller_within, starts_push}
 use Rattle.vol_core.proofs.Stages.{sealing_is_free}
-use Rattle.vol_core.proofs.Written.{known_also}
 
 -- Updates in leaves that have their widths are of leaves.
 of_leaves : (updates : List Update) → All IsInLeaf updates → All UpdateFits updates → All IsOfLeaf updates
@@ -69,7 +77,7 @@ later_leaves [] queue are = All-cons AllInLeaves no_changes [] (All-nil IsInLeaf
 later_leaves (entry ∷ later) queue are = All-tail AllInLeaves entry.changes (closed_changes later ++ queue.open_entry.changes ∷ []) are
 
 module _ (laws : CoreLaws) (begun : Found) (start : DevicesState) (volume : Volume) (is : IsVolume volume) (state : DevicesState) (kept : IsCoreSafe begun start state volume) where
-  module _ (blocks : List (List ℕ)) (writer : Writer) (free : volume.writer.flight ≡ None) (safe : IsJournalSafe kept.f kept.image None 0 0 kept.bases kept.durable start.moment state) (starts : AreStarts volume.writer.starts kept.f.needed)
+  module _ (blocks : List (List ℕ)) (writer : Writer) (free : volume.writer.flight ≡ None) (safe : IsSafeWithNodes kept.f kept.image None 0 0 kept.bases kept.durable start.moment state) (leaves : KeepsLeaves kept.f None state (leaves_in volume)) (starts : AreStarts volume.writer.starts kept.f.needed)
       (end : kept.f.last.end ≡ volume.writer.ring.next) (sealed : IsSealed (oldest volume.queue) (oldest_needed volume) volume.session (roots_in volume.trees.nodes) volume.writer writer) (same : writer.ring.blocks ≡ blocks) (from : min volume.writer.durable.oldest volume.writer.durable.sequence ≤ oldest_needed volume) where
     abbrev f : Found
     f = kept.f
@@ -82,14 +90,6 @@ module _ (laws : CoreLaws) (begun : Found) (start : DevicesState) (volume : Volu
 
     abbrev next : FoundEntry
     next = record { number = volume.writer.ring.next; end = volume.writer.ring.next + parts_of entry; entry = entry }
-
-    abbrev w : Writing
-    w = record {
-      passed = oldest_needed volume - volume.writer.durable.oldest;
-      next = next;
-      trees = with_key_updates entry.updates f.trees;
-      blocks = blocks;
-    }
 
     in_leaves : All IsInLeaf entry.updates
     in_leaves = oldest_leaves volume.queue.closed volume.queue.open_entry kept.leaves
@@ -125,10 +125,6 @@ module _ (laws : CoreLaws) (begun : Found) (start : DevicesState) (volume : Volu
         let known = kept.known.oldest in
         omega (arith, most, count, here, known)
 
-    idle : All IsIdle (take (oldest_needed volume - volume.writer.durable.oldest) f.needed)
-    idle = idle_front (least_pin volume.pins) (oldest_needed volume - volume.writer.durable.oldest) f.last.entry.oldest (oldest_needed volume) f.needed kept.idle (omega (arith, passed_is))
-        (λ number low. below_smaller number ((oldest volume.queue).after + 1) (least_pin volume.pins) low)
-
     is_next : IsNext f (oldest_needed volume - volume.writer.durable.oldest) next
     is_next = record {
       entry = sealed.valid;
@@ -148,64 +144,83 @@ module _ (laws : CoreLaws) (begun : Found) (start : DevicesState) (volume : Volu
       levels = below_roots entry entry.updates in_leaves;
     }
 
-    is_writing : IsWriting f kept.image w
-    is_writing = record {
-      next = is_next;
+    abbrev passed : ℕ
+    passed = oldest_needed volume - volume.writer.durable.oldest
+
+    -- It names the roots as they are, and needs what a root pins.
+    is_named : IsNamed f passed next blocks (leaves_in volume)
+    is_named = record {
+      is_next = is_next;
       sealed = subst (λ (id : List ℕ). AreEntryBlocks id volume.writer.ring.next entry blocks) (is.ring.id ∙ ap (λ (layout : Layout). layout.id) (sym kept.known.layout)) are_blocks;
-      trees = laws.keys.found_with kept.image f (oldest_needed volume - volume.writer.durable.oldest) next safe.stands.finds idle (sym kept.known.roots) are_of_leaves;
-      nodes = refl;
-      ends = refl;
+      roots = let all = sealed.valid.in_range.all_roots in nine_roots volume.trees.nodes (sym (length-map volume.trees.nodes root_of) ∙ all);
+      of_leaves = are_of_leaves;
+      pins = λ btree p pinned. subst (λ (n : ℕ). n ≤ p) passed_is (needed_within ((oldest volume.queue).after + 1) (root_in volume.trees.nodes btree).birth p volume.pins pinned);
     }
 
     flown_one : IsCoreSafe begun start state after_it
-    flown_one = record {
-      f = f;
-      image = kept.image;
-      writing = Some w;
-      asked = 0;
-      written = 0;
-      bases = kept.bases ++ after w f ∷ [];
-      durable = kept.durable;
-      safe = laws.journal.seals f kept.image kept.bases kept.durable start.moment state w safe is_writing;
-      begins = first_stays kept.bases (after w f ∷ []) begun kept.begins;
-      chain = chain_push f (after w f) kept.bases kept.durable safe.bases_are kept.chain (record { w = w; is = refl; sequence = sequence; leaves = are_of_leaves; trees = refl });
-      past = kept.past;
-      flushed = kept.flushed;
-      flags = kept.flags;
-      known = known_also f volume after_it kept.known refl refl refl refl;
-      starts = starts_push volume.writer.starts f.needed volume.writer.ring.next next starts (omega arith);
-      first = kept.first;
-      lead = laws.keys.taken volume.queue f.trees.keys (keys_in volume.trees) (subst (λ (o : Option Flight). LeadTo (changes_in o ++ waiting volume.queue) f.trees.keys (keys_in volume.trees)) free kept.lead);
-      leaves = later_leaves volume.queue.closed volume.queue kept.leaves;
-      idle = kept.idle;
-      flying = record {
-        entry = refl;
-        number = omega arith;
-        end = ap (λ (n : ℕ). volume.writer.ring.next + n) (sym are_blocks.count);
-        blocks = refl;
-        written_is = refl;
-        some = let count = are_blocks.count in omega (arith, count, takes_a_block entry);
-        few = omega arith;
-        asked_for = omega arith;
-        leaves = are_of_leaves;
-        trees = refl;
-      };
-    }
+    flown_one = with_writing (laws.entries.seals f kept.image kept.bases kept.durable start.moment state passed next blocks (leaves_in volume) safe leaves is_named)
+      where
+        with_writing : (w : Writing) × (w.passed ≡ passed) × (w.next ≡ next) × (w.blocks ≡ blocks) × (w.trees.keys ≡ with_updates entry.updates f.trees.keys)
+            × IsSafeWithNodes f (as_read (now state)) (Some w) 0 0 (kept.bases ++ after w f ∷ []) kept.durable start.moment state × KeepsLeaves f (Some w) state (leaves_in volume) → IsCoreSafe begun start state after_it
+        with_writing made =
+            let w : Writing = made.0 in
+            let next_is : w.next ≡ next = made.2 in
+            let blocks_are : w.blocks ≡ blocks = made.3 in
+            let w_leaves : All IsOfLeaf w.next.entry.updates = subst (λ (n : FoundEntry). All IsOfLeaf n.entry.updates) (sym next_is) are_of_leaves in
+            let w_keys : w.trees.keys ≡ with_updates w.next.entry.updates f.trees.keys = subst (λ (n : FoundEntry). w.trees.keys ≡ with_updates n.entry.updates f.trees.keys) (sym next_is) made.4 in
+            let w_sequence : w.next.entry.sequence ≡ f.last.entry.sequence + 1 = subst (λ (n : FoundEntry). n.entry.sequence ≡ f.last.entry.sequence + 1) (sym next_is) sequence in
+            let led : IsLed f (after w f) = record { w = w; is = refl; sequence = w_sequence; leaves = w_leaves; keys = w_keys } in
+            let count : length blocks ≡ parts_of entry = are_blocks.count in
+            let same_count : length w.blocks ≡ length blocks = ap (λ (bs : List (List ℕ)). length bs) blocks_are in
+            record {
+              f = f;
+              image = as_read (now state);
+              writing = Some w;
+              asked = 0;
+              written = 0;
+              bases = kept.bases ++ after w f ∷ [];
+              durable = kept.durable;
+              safe = made.5;
+              begins = first_stays kept.bases (after w f ∷ []) begun kept.begins;
+              chain = chain_push f (after w f) kept.bases kept.durable safe.bases_are kept.chain led;
+              past = kept.past;
+              flushed = kept.flushed;
+              flags = kept.flags;
+              known = known_also f volume after_it kept.known refl refl refl;
+              starts = subst (λ (n : FoundEntry). AreStarts (volume.writer.starts ++ volume.writer.ring.next ∷ []) (f.needed ++ n ∷ [])) (sym next_is) (starts_push volume.writer.starts f.needed volume.writer.ring.next next starts (omega arith));
+              first = kept.first;
+              lead = laws.keys.taken volume.queue f.trees.keys (keys_in volume.trees) (subst (λ (o : Option Flight). LeadTo (changes_in o ++ waiting volume.queue) f.trees.keys (keys_in volume.trees)) free kept.lead);
+              leaves = later_leaves volume.queue.closed volume.queue kept.leaves;
+              one = kept.one;
+              kept = made.6;
+              flying = record {
+                entry = subst (λ (n : FoundEntry). n.entry ≡ record_of (oldest_needed volume) volume.session n.entry.roots (oldest volume.queue)) (sym next_is) refl;
+                number = subst (λ (n : FoundEntry). flight_number after_it.writer.ring ≡ n.number) (sym next_is) (omega arith);
+                end = subst (λ (n : FoundEntry). n.end ≡ after_it.writer.ring.next) (sym next_is) (ap (λ (n : ℕ). volume.writer.ring.next + n) (sym are_blocks.count));
+                blocks = sym blocks_are;
+                written_is = refl;
+                some = omega (arith, count, same_count, takes_a_block entry);
+                few = omega arith;
+                asked_for = omega arith;
+                leaves = w_leaves;
+                keys = w_keys;
+              };
+            }
 
   -- The oldest entry that waits is put in flight. It needs the last durable one's oldest or later ones.
   pub flown_on : (new : Volume) → IsFlown volume new → min volume.writer.durable.oldest volume.writer.durable.sequence ≤ oldest_needed volume → IsCoreSafe begun start state new
-  flown_on new flown order = subst (IsCoreSafe begun start state) (sym new_is) (by volume.writer.flight kept.writing refl (sealing_is_free volume.writer volume.writer.flight (needs_entry volume) flown.stage.stage_is) kept.asked kept.written kept.safe kept.starts kept.flying)
+  flown_on new flown order = subst (IsCoreSafe begun start state) (sym new_is) (by volume.writer.flight kept.writing refl (sealing_is_free volume.writer volume.writer.flight (needs_entry volume) flown.stage.stage_is) kept.asked kept.written kept.safe kept.kept kept.starts kept.flying)
     where
       new_is : new ≡ record volume { queue = without_oldest volume.queue; writer = with_entry new.writer.ring.blocks (oldest volume.queue) (oldest_needed volume) volume.writer }
       new_is = flown.rest ∙ ap (λ (writer : Writer). record volume { queue = without_oldest volume.queue; writer = writer }) flown.sealed.is
 
-      by : (flight : Option Flight) (writing : Option Writing) → volume.writer.flight ≡ flight → flight ≡ None → (asked written : ℕ) → IsJournalSafe kept.f kept.image writing asked written kept.bases kept.durable start.moment state
+      by : (flight : Option Flight) (writing : Option Writing) → volume.writer.flight ≡ flight → flight ≡ None → (asked written : ℕ) → IsSafeWithNodes kept.f kept.image writing asked written kept.bases kept.durable start.moment state → KeepsLeaves kept.f writing state (leaves_in volume)
           → AreStarts volume.writer.starts (entries_with writing kept.f.needed) → FliesAs kept.f flight writing asked written volume
           → IsCoreSafe begun start state (record volume { queue = without_oldest volume.queue; writer = with_entry new.writer.ring.blocks (oldest volume.queue) (oldest_needed volume) volume.writer })
-      by (Some flight) writing flies free asked written safe starts flying = absurd cc
-      by None (Some w) flies free asked written safe starts flying = absurd flying
-      by None None flies free asked written safe starts flying =
-          let at_rest : IsJournalSafe kept.f kept.image None 0 0 kept.bases kept.durable start.moment state =
-          subst (λ (n : ℕ). IsJournalSafe kept.f kept.image None 0 n kept.bases kept.durable start.moment state) flying.unwritten
-          (subst (λ (n : ℕ). IsJournalSafe kept.f kept.image None n written kept.bases kept.durable start.moment state) flying.unasked safe) in
-          flown_one new.writer.ring.blocks new.writer flies at_rest starts flying.end flown.sealed refl order
+      by (Some flight) writing flies free asked written safe leaves starts flying = absurd cc
+      by None (Some w) flies free asked written safe leaves starts flying = absurd flying
+      by None None flies free asked written safe leaves starts flying =
+          let at_rest : IsSafeWithNodes kept.f kept.image None 0 0 kept.bases kept.durable start.moment state =
+          subst (λ (n : ℕ). IsSafeWithNodes kept.f kept.image None 0 n kept.bases kept.durable start.moment state) flying.unwritten
+          (subst (λ (n : ℕ). IsSafeWithNodes kept.f kept.image None n written kept.bases kept.durable start.moment state) flying.unasked safe) in
+          flown_one new.writer.ring.blocks new.writer flies at_rest leaves starts flying.end flown.sealed refl order

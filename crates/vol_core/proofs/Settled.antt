@@ -1,33 +1,35 @@
 -- The core stays safe where the entry in flight becomes the last durable one.
-use Rattle.std.proofs.Common.{◌≡◌, ◌≤◌, ◌+◌, ℕ, zero, suc, true, List, [], ◌∷◌, ◌++◌, drop, take, length, Option, Some, None, refl, sym, ap, subst, ◌∙◌, arith}
+use Rattle.std.proofs.Common.{◌≡◌, ◌≤◌, ◌+◌, ℕ, zero, suc, List, [], ◌∷◌, ◌++◌, drop, take, length, Option, Some, None, refl, sym, ap, subst, ◌∙◌, arith}
 use Rattle.std.proofs.lemmas.List.{drop-append-le, length-append, length-drop}
 use Rattle.std.proofs.lemmas.Option.{same_Some}
-use Rattle.std.specs.Prelude.{IfSome}
 use Rattle.btree_map.specs.Trees.{keys_in}
-use Rattle.core_memory.specs.Sealing.{with_writer}
-use Rattle.core_memory.specs.Volumes.{IsVolume, Volume, changes_in, is_below, needs_entry, stage_of}
+use Rattle.bucket_pool.specs.Space.{settled_space}
+use Rattle.checkpoint_safety.specs.Kept.{KeepsLeaves}
+use Rattle.checkpoint_safety.specs.Steps.{settled_leaves}
+use Rattle.core_memory.specs.Sealing.{settled_volume, with_writer}
+use Rattle.core_memory.specs.Volumes.{IsVolume, Volume, changes_in, needs_entry, stage_of}
 use Rattle.dev_model.specs.Devices.{DevicesState, now}
 use Rattle.dev_model.specs.Disk.{as_read}
 use Rattle.entry_queue.specs.Changes.{LeadTo}
 use Rattle.entry_queue.specs.Queues.{waiting}
-use Rattle.entry_writer.specs.Writers.{first_flag, passed, settled, settled_by, stage_by}
+use Rattle.entry_writer.specs.Writers.{first_flag, passed, settled_by, stage_by}
 use Rattle.entry_writer.specs.declared.stage.Stage.TheVariants.{Settle}
 use Rattle.entry_writer.specs.declared.writer.Flight.{Flight}
 use Rattle.image_view.specs.Found.{Found}
-use Rattle.image_view.specs.Trees.{TreesRead}
 use Rattle.journal_ring.specs.declared.found.FoundEntry.{FoundEntry}
 use Rattle.journal_safety.specs.Flushes.{AreSettled}
-use Rattle.journal_safety.specs.Safety.{IsJournalSafe}
-use Rattle.journal_safety.specs.Writings.{IsWriting, Writing, after}
-use Rattle.pin_list.specs.Pins.{least_pin}
+use Rattle.journal_safety.specs.NodeWritings.{IsSafeWithNodes, IsWritingWithNodes}
+use Rattle.journal_safety.specs.Writings.{Writing, after}
 use Rattle.record_codec.specs.declared.entries.EntryRecord.{EntryRecord}
 use Rattle.vol_types.specs.KeyMaps.{KeyMap, with_updates}
 use Rattle.vol_types.specs.declared.keys.Update.{Update}
 use Rattle.vol_types.specs.declared.layout.Layout.{Layout}
-use Rattle.vol_core.specs.Entries.{AreIdleBelow, AreStarts, FliesAs, IsInFlight, IsKnown, entries_with}
+use Rattle.vol_core.specs.Entries.{AreStarts, FliesAs, IsInFlight, IsKnown, entries_with}
 use Rattle.vol_core.specs.Safety.{AreUpTo, IsCoreSafe}
-use Rattle.vol_core.proofs.CoreLaws.{CoreLaws}
-use Rattle.vol_core.proofs.NeededEntries.{idle_drop, idle_push, starts_count, starts_drop, starts_first}
+use Rattle.vol_core.specs.VolumeLeaves.{leaves_in}
+use Rattle.vol_core.specs.CoreLaws.{CoreLaws}
+use Rattle.vol_core.proofs.HeldLeaves.{holds_back}
+use Rattle.vol_core.proofs.NeededEntries.{starts_count, starts_drop, starts_first}
 use Rattle.vol_core.proofs.Stages.{clear_is_unset, flags_clear, resting_settles_nothing, settling_is_whole}
 
 -- This moment isn't after itself, and the others aren't.
@@ -37,22 +39,21 @@ past_push [] moment past (suc k) m there = absurd cc
 past_push (first ∷ moments) moment past zero m there = past 0 m there
 past_push (first ∷ moments) moment past (suc k) m there = past_push moments moment (λ k. past (suc k)) k m there
 
--- An entry in flight that has updates isn't below the least pin.
-abbrev pub IsFlightHeldBack : Volume → Type 0
-IsFlightHeldBack volume = IfSome volume.writer.flight (λ flight. is_below (flight.entry.after + 1) (least_pin volume.pins) ≡ true → flight.entry.changes.updates ≡ [])
+-- the volume where this entry in flight, if there is one, is the last durable one
+abbrev settled_with : Option Flight → Volume → Volume
+settled_with flight volume = record (with_writer (settled_by flight volume.writer) volume) { space = settled_space (settled_by flight volume.writer).durable.sequence volume.space }
 
 module _ (laws : CoreLaws) (begun : Found) (start : DevicesState) (volume : Volume) (is : IsVolume volume) (state : DevicesState) (kept : IsCoreSafe begun start state volume) where
-  module _ (flight : Flight) (w : Writing) (flies : volume.writer.flight ≡ Some flight) (safe : IsJournalSafe kept.f kept.image (Some w) kept.asked kept.written kept.bases kept.durable start.moment state)
-      (starts : AreStarts volume.writer.starts (kept.f.needed ++ w.next ∷ [])) (flying : IsInFlight kept.f w kept.asked kept.written flight volume) (stage : stage_by (Some flight) (needs_entry volume) volume.writer ≡ Settle)
-      (held : is_below (flight.entry.after + 1) (least_pin volume.pins) ≡ true → flight.entry.changes.updates ≡ []) where
+  module _ (flight : Flight) (w : Writing) (flies : volume.writer.flight ≡ Some flight) (safe : IsSafeWithNodes kept.f kept.image (Some w) kept.asked kept.written kept.bases kept.durable start.moment state) (keeps : KeepsLeaves kept.f (Some w) state (leaves_in volume))
+      (starts : AreStarts volume.writer.starts (kept.f.needed ++ w.next ∷ [])) (flying : IsInFlight kept.f w kept.asked kept.written flight volume) (stage : stage_by (Some flight) (needs_entry volume) volume.writer ≡ Settle) where
     abbrev f : Found
     f = kept.f
 
-    abbrev writing_is : IsWriting f kept.image w
+    abbrev writing_is : IsWritingWithNodes f kept.image w
     writing_is = safe.stands.is
 
     abbrev after_it : Volume
-    after_it = with_writer (settled_by (Some flight) volume.writer) volume
+    after_it = settled_with (Some flight) volume
 
     oldest_is : w.next.entry.oldest ≡ flight.oldest
     oldest_is = ap (λ (entry : EntryRecord). entry.oldest) flying.entry
@@ -109,28 +110,19 @@ module _ (laws : CoreLaws) (begun : Found) (start : DevicesState) (volume : Volu
           let new = new_oldest in
           let most = within in
           omega (arith, length-append (drop w.passed f.needed) (w.next ∷ []), length-drop w.passed f.needed, old_count, sequence, new, most);
-      nodes = writing_is.nodes ∙ kept.known.nodes;
-      roots = ap (λ (entry : EntryRecord). entry.roots) flying.entry;
     }
 
     new_lead : LeadTo (waiting volume.queue) w.trees.keys (keys_in volume.trees)
     new_lead =
         let lead : LeadTo (flight.entry.changes ∷ waiting volume.queue) f.trees.keys (keys_in volume.trees) = subst (λ (o : Option Flight). LeadTo (changes_in o ++ waiting volume.queue) f.trees.keys (keys_in volume.trees)) flies kept.lead in
-        let keys : w.trees.keys ≡ with_updates flight.entry.changes.updates f.trees.keys = ap (λ (read : TreesRead). read.keys) flying.trees ∙ ap (λ (updates : List Update). with_updates updates f.trees.keys) updates_are in
-        subst (λ (from : KeyMap). LeadTo (waiting volume.queue) from (keys_in volume.trees)) (sym keys) (laws.keys.settles flight.entry.changes (waiting volume.queue) f.trees.keys (keys_in volume.trees) lead)
+        let keys : w.trees.keys ≡ with_updates flight.entry.changes.updates f.trees.keys = flying.keys ∙ ap (λ (updates : List Update). with_updates updates f.trees.keys) updates_are in
+        subst (λ (from : KeyMap). LeadTo (waiting volume.queue) from (keys_in volume.trees)) (sym keys) (laws.keys.settled flight.entry.changes (waiting volume.queue) f.trees.keys (keys_in volume.trees) lead)
 
-    new_idle : AreIdleBelow (least_pin volume.pins) w.next.entry.oldest (drop w.passed f.needed ++ w.next ∷ [])
-    new_idle =
-        let place : flight.entry.after + 1 ≡ w.next.entry.oldest + length (drop w.passed f.needed) =
-        let old_count = kept.known.count in
-        let sequence = writing_is.next.sequence in
-        let here = sequence_is in
-        let new = new_oldest in
-        let most = within in
-        omega (arith, length-drop w.passed f.needed, old_count, sequence, here, new, most) in
-        idle_push (least_pin volume.pins) w.next.entry.oldest (flight.entry.after + 1) (drop w.passed f.needed) w.next place
-        (idle_drop (least_pin volume.pins) w.passed f.last.entry.oldest w.next.entry.oldest f.needed new_oldest kept.idle)
-        (λ below. updates_are ∙ held below)
+    -- The leaves hold back what the entry needs, and it.
+    new_leaves : KeepsLeaves (after w f) None state (leaves_in after_it)
+    new_leaves =
+        subst (λ (n : ℕ). KeepsLeaves (after w f) None state (settled_leaves n (leaves_in volume))) sequence_is
+        (laws.entries.settles f w state (leaves_in volume) keeps (holds_back volume is kept.one flight flies f w (sym new_oldest ∙ oldest_is) sequence_is updates_are) within new_oldest writing_is.next.sequence kept.known.count flying.keys flying.leaves)
 
     pub settled_one : IsCoreSafe begun start state after_it
     settled_one = record {
@@ -152,17 +144,17 @@ module _ (laws : CoreLaws) (begun : Found) (start : DevicesState) (volume : Volu
       first = starts_first (drop (passed flight.oldest volume.writer) volume.writer.starts) (drop w.passed f.needed ++ w.next ∷ []) w.next new_starts;
       lead = new_lead;
       leaves = kept.leaves;
-      idle = new_idle;
+      one = kept.one;
+      kept = new_leaves;
       flying = record { end = flying.end; unasked = refl; unwritten = refl };
     }
 
   -- The entry in flight is the last durable one.
-  pub settled_on : stage_of volume ≡ Settle → IsFlightHeldBack volume → IsCoreSafe begun start state (with_writer (settled volume.writer) volume)
-  settled_on stage held = by volume.writer.flight kept.writing refl kept.safe kept.starts kept.flying stage held
+  pub settled_on : stage_of volume ≡ Settle → IsCoreSafe begun start state (settled_volume volume)
+  settled_on stage = by volume.writer.flight kept.writing refl kept.safe kept.kept kept.starts kept.flying stage
     where
-      by : (flight : Option Flight) (writing : Option Writing) → volume.writer.flight ≡ flight → IsJournalSafe kept.f kept.image writing kept.asked kept.written kept.bases kept.durable start.moment state
-          → AreStarts volume.writer.starts (entries_with writing kept.f.needed) → FliesAs kept.f flight writing kept.asked kept.written volume → stage_by flight (needs_entry volume) volume.writer ≡ Settle
-          → IfSome flight (λ flight. is_below (flight.entry.after + 1) (least_pin volume.pins) ≡ true → flight.entry.changes.updates ≡ []) → IsCoreSafe begun start state (with_writer (settled_by flight volume.writer) volume)
-      by None writing flies safe starts flying stage held = absurd (resting_settles_nothing (needs_entry volume) volume.writer stage)
-      by (Some flight) None flies safe starts flying stage held = absurd flying
-      by (Some flight) (Some w) flies safe starts flying stage held = settled_one flight w flies safe starts flying stage held
+      by : (flight : Option Flight) (writing : Option Writing) → volume.writer.flight ≡ flight → IsSafeWithNodes kept.f kept.image writing kept.asked kept.written kept.bases kept.durable start.moment state → KeepsLeaves kept.f writing state (leaves_in volume)
+          → AreStarts volume.writer.starts (entries_with writing kept.f.needed) → FliesAs kept.f flight writing kept.asked kept.written volume → stage_by flight (needs_entry volume) volume.writer ≡ Settle → IsCoreSafe begun start state (settled_with flight volume)
+      by None writing flies safe keeps starts flying stage = absurd (resting_settles_nothing (needs_entry volume) volume.writer stage)
+      by (Some flight) None flies safe keeps starts flying stage = absurd flying
+      by (Some flight) (Some w) flies safe keeps starts flying stage = settled_one flight w flies safe keeps starts flying stage

@@ -3,9 +3,9 @@ use Rattle.std.proofs.Common.{◌<◌, ℕ, List, Option, length, slice_index_or
 use Rattle.core_memory.specs.Volumes.{Volume}
 use Rattle.dev_model.specs.Devices.{DevicesState, now}
 use Rattle.dev_model.specs.Disk.{Image, IsCrashImage}
-use Rattle.journal_safety.specs.Safety.{IsJournalSafe}
-use Rattle.journal_safety.specs.Writings.{Writing}
 use Rattle.image_view.specs.Found.{Found}
+use Rattle.journal_safety.specs.NodeWritings.{IsSafeWithNodes}
+use Rattle.journal_safety.specs.Writings.{Writing}
 use Rattle.replay.specs.Mending.{IsUntorn, StandsOnAll}
 use Rattle.vol_types.specs.declared.layout.Layout.{Layout}
 use Rattle.vol_core.specs.Safety.{IsCoreSafe, Survives}
@@ -14,7 +14,7 @@ use Rattle.vol_core.proofs.Chains.{last_durable}
 -- whatever a crash leaves now of a safe journal, each entry that the last durable one needs stands on every metadata device
 abbrev pub StandsWhole : Type 0
 StandsWhole =
-    (f : Found) (image : Image) (writing : Option Writing) (asked written : ℕ) (bases : List Found) (durable : List ℕ) (first : ℕ) (state : DevicesState) → IsJournalSafe f image writing asked written bases durable first state
+    (f : Found) (image : Image) (writing : Option Writing) (asked written : ℕ) (bases : List Found) (durable : List ℕ) (first : ℕ) (state : DevicesState) → IsSafeWithNodes f image writing asked written bases durable first state
     → (other : Image) → IsCrashImage (now state) other → (index : ℕ) → index < length f.needed → StandsOnAll f.layout other (slice_index_or f.needed index f.last)
 
 pub survives : StandsWhole → (begun : Found) (start state : DevicesState) (volume : Volume) → IsCoreSafe begun start state volume → Survives begun start state volume

@@ -3,63 +3,27 @@
 use Rattle.std.proofs.Common.{◌≡◌, ◌≤◌, ◌<◌, ◌+◌, ℕ, Bool, true, false, List, drop, length, replicate, Option, Some, None, refl, sym, ap, subst, ◌∙◌, arith}
 use Rattle.std.proofs.lemmas.List.{length-append, length-drop, length-replicate, length-set}
 use Rattle.std.specs.Prelude.{All}
-use Rattle.core_memory.specs.Sealing.{roots_in, with_writer}
+use Rattle.checkpoint_safety.specs.Kept.{KeepsLeaves}
+use Rattle.core_memory.specs.Sealing.{with_writer}
 use Rattle.core_memory.specs.Volumes.{IsVolume, Volume, halted_at, needs_entry, stage_of}
 use Rattle.core_memory.specs.declared.answer.Halt.{Halt}
 use Rattle.dev_model.specs.Devices.{DevicesState, now}
 use Rattle.dev_model.specs.Disk.{IsDisk}
-use Rattle.entry_queue.specs.Queues.{record_of}
-use Rattle.journal_ring.specs.Rings.{RingState, flight_number}
-use Rattle.entry_writer.specs.declared.durable.Durable.{Durable}
 use Rattle.entry_writer.specs.Writers.{Writer, stage_by, unsettled_by, with_flags}
 use Rattle.entry_writer.specs.declared.stage.Stage.TheVariants.{WriteEntry}
 use Rattle.entry_writer.specs.declared.writer.Flight.{Flight}
 use Rattle.image_view.specs.Found.{Found}
 use Rattle.journal_safety.specs.Flushes.{AreFlushed, Flushes, flags_by}
 use Rattle.journal_safety.specs.Parts.{IsPartWritten, IsRingOf, standing_by}
-use Rattle.journal_safety.specs.Safety.{IsJournalSafe}
+use Rattle.journal_safety.specs.NodeWritings.{IsSafeWithNodes}
 use Rattle.journal_safety.specs.Standing.{AreSteady}
 use Rattle.journal_safety.specs.Writings.{Writing}
-use Rattle.vol_core.specs.Entries.{AreStarts, FliesAs, IsKnown, entries_with}
+use Rattle.vol_core.specs.Entries.{AreStarts, FliesAs, entries_with}
 use Rattle.vol_core.specs.Safety.{AreUpTo, IsCoreSafe}
-use Rattle.vol_core.proofs.CoreLaws.{CoreLaws}
+use Rattle.vol_core.specs.VolumeLeaves.{leaves_in}
+use Rattle.vol_core.specs.CoreLaws.{CoreLaws}
+use Rattle.vol_core.proofs.KnownParts.{flies_also, known_also}
 use Rattle.vol_core.proofs.Stages.{resting_writes_nothing, writing_is_left}
-
--- What is known of the last durable entry hangs on these parts of a volume alone.
-pub known_also : (f : Found) (one other : Volume) → IsKnown f one → other.layout ≡ one.layout → other.session ≡ one.session → other.writer.durable ≡ one.writer.durable → other.trees.nodes ≡ one.trees.nodes → IsKnown f other
-known_also f one other known layout session durable nodes = record {
-  layout = known.layout ∙ sym layout;
-  session = known.session ∙ sym session;
-  sequence = known.sequence ∙ ap (λ (d : Durable). d.sequence) (sym durable);
-  commits = known.commits ∙ ap (λ (d : Durable). d.commits) (sym durable);
-  oldest = known.oldest ∙ ap (λ (d : Durable). d.oldest) (sym durable);
-  some = known.some;
-  count = known.count;
-  nodes = known.nodes ∙ sym nodes;
-  roots = known.roots ∙ ap roots_in (sym nodes);
-}
-
--- What is known of the entry in flight hangs on these.
-pub flies_also : (f : Found) (flight : Option Flight) (writing : Option Writing) (asked written : ℕ) (one other : Volume) → FliesAs f flight writing asked written one → other.session ≡ one.session → other.writer.ring ≡ one.writer.ring → other.trees.nodes ≡ one.trees.nodes → FliesAs f flight writing asked written other
-flies_also f None None asked written one other flies session ring nodes = record {
-  end = flies.end ∙ ap (λ (r : RingState). r.next) (sym ring);
-  unasked = flies.unasked;
-  unwritten = flies.unwritten;
-}
-flies_also f None (Some w) asked written one other flies session ring nodes = flies
-flies_also f (Some flight) None asked written one other flies session ring nodes = flies
-flies_also f (Some flight) (Some w) asked written one other flies session ring nodes = record {
-  entry = flies.entry ∙ (λ i. record_of flight.oldest (sym session i) (roots_in (sym nodes i)) flight.entry);
-  number = ap flight_number ring ∙ flies.number;
-  end = flies.end ∙ ap (λ (r : RingState). r.next) (sym ring);
-  blocks = ap (λ (r : RingState). r.blocks) ring ∙ flies.blocks;
-  written_is = ap (λ (r : RingState). r.written) ring ∙ flies.written_is;
-  some = flies.some;
-  few = flies.few;
-  asked_for = flies.asked_for;
-  leaves = flies.leaves;
-  trees = flies.trees;
-}
 
 -- The core stays safe where its session stops writing.
 pub halted_on : (begun : Found) (start state : DevicesState) (volume : Volume) (halt : Halt) → IsCoreSafe begun start state volume → IsCoreSafe begun start state (halted_at halt volume)
@@ -77,13 +41,14 @@ halted_on begun start state volume halt kept = record {
   past = kept.past;
   flushed = kept.flushed;
   flags = kept.flags;
-  known = known_also kept.f volume (halted_at halt volume) kept.known refl refl refl refl;
+  known = known_also kept.f volume (halted_at halt volume) kept.known refl refl refl;
   starts = kept.starts;
   first = kept.first;
   lead = kept.lead;
   leaves = kept.leaves;
-  idle = kept.idle;
-  flying = flies_also kept.f volume.writer.flight kept.writing kept.asked kept.written volume (halted_at halt volume) kept.flying refl refl refl;
+  one = kept.one;
+  kept = kept.kept;
+  flying = flies_also kept.f volume.writer.flight kept.writing kept.asked kept.written volume (halted_at halt volume) kept.flying refl refl;
 }
 
 -- One more part was asked for than stand, at most.
@@ -105,23 +70,23 @@ abbrev pub written_by : Option ℕ → Volume → Volume
 written_by failed volume = with_writer (written_to (standing_by failed volume.writer.ring.written) volume.writer) volume
 
 -- Moments that aren't after one are not after a later one.
-past_later : (moments : List ℕ) (old new : ℕ) → old ≤ new → AreUpTo old moments → AreUpTo new moments
+pub past_later : (moments : List ℕ) (old new : ℕ) → old ≤ new → AreUpTo old moments → AreUpTo new moments
 past_later moments old new later past k m there = let before = past k m there in omega (arith, before, later)
 
 -- No flag is lost where the first ones are set.
-flags_stay : (count : ℕ) (flags : List Bool) → length flags ≤ length (with_flags count flags)
+pub flags_stay : (count : ℕ) (flags : List Bool) → length flags ≤ length (with_flags count flags)
 flags_stay count flags = omega (arith, length-append (replicate count true) (drop count flags), length-replicate count true, length-drop count flags)
 
 module _ (laws : CoreLaws) (begun : Found) (start : DevicesState) (volume : Volume) (is : IsVolume volume) (old new : DevicesState) (kept : IsCoreSafe begun start old volume) (disks : All IsDisk (now new)) (steady : AreSteady new) where
   -- A part is written, or a device failed.
   pub written_on : (failed : Option ℕ) → stage_of volume ≡ WriteEntry → IsPartWritten volume.writer.ring failed old new → IsCoreSafe begun start new (written_by failed volume)
-  written_on failed stage part = by volume.writer.flight kept.writing refl kept.safe kept.starts kept.flying stage
+  written_on failed stage part = by volume.writer.flight kept.writing refl kept.safe kept.starts kept.kept kept.flying stage
     where
-      by : (flight : Option Flight) (writing : Option Writing) → volume.writer.flight ≡ flight → IsJournalSafe kept.f kept.image writing kept.asked kept.written kept.bases kept.durable start.moment old
-          → AreStarts volume.writer.starts (entries_with writing kept.f.needed) → FliesAs kept.f flight writing kept.asked kept.written volume → stage_by flight (needs_entry volume) volume.writer ≡ WriteEntry → IsCoreSafe begun start new (written_by failed volume)
-      by None writing none safe starts flying stage = absurd (resting_writes_nothing (needs_entry volume) volume.writer stage)
-      by (Some flight) None flies safe starts flying stage = absurd flying
-      by (Some flight) (Some w) flies safe starts flying stage =
+      by : (flight : Option Flight) (writing : Option Writing) → volume.writer.flight ≡ flight → IsSafeWithNodes kept.f kept.image writing kept.asked kept.written kept.bases kept.durable start.moment old
+          → AreStarts volume.writer.starts (entries_with writing kept.f.needed) → KeepsLeaves kept.f writing old (leaves_in volume) → FliesAs kept.f flight writing kept.asked kept.written volume → stage_by flight (needs_entry volume) volume.writer ≡ WriteEntry → IsCoreSafe begun start new (written_by failed volume)
+      by None writing none safe starts leaves flying stage = absurd (resting_writes_nothing (needs_entry volume) volume.writer stage)
+      by (Some flight) None flies safe starts leaves flying stage = absurd flying
+      by (Some flight) (Some w) flies safe starts leaves flying stage =
           let blocks : length volume.writer.ring.blocks ≡ length w.blocks = ap (λ bs. length bs) flying.blocks in
           let count : volume.writer.ring.written ≡ kept.written = flying.written_is in
           let some = flying.some in
@@ -151,12 +116,13 @@ module _ (laws : CoreLaws) (begun : Found) (start : DevicesState) (volume : Volu
             past = past_later kept.durable old.moment new.moment part.at.crashes.later kept.past;
             flushed = subst (λ (m : ℕ). AreFlushed volume.layout.metadata_replicas (with_flags m volume.writer.unsettled) (now new)) (sym is.ring.mirrors) (laws.flags.writes volume.layout.metadata_replicas volume.writer.unsettled (now new));
             flags = let some_flags = kept.flags in let stay = flags_stay volume.writer.ring.mirrors volume.writer.unsettled in omega (arith, some_flags, stay);
-            known = known_also kept.f volume (written_by failed volume) kept.known refl refl refl refl;
+            known = known_also kept.f volume (written_by failed volume) kept.known refl refl refl;
             starts = starts;
             first = kept.first;
             lead = kept.lead;
             leaves = kept.leaves;
-            idle = kept.idle;
+            one = kept.one;
+            kept = laws.entries.parts kept.image kept.f w old new (leaves_in volume) kept.written volume.writer.ring failed safe.stands.finds leaves ring part;
             flying = subst (λ (flight : Option Flight). FliesAs kept.f flight (Some w) (kept.written + 1) (standing_by failed kept.written) (written_by failed volume)) (sym flies) (record {
               entry = flying.entry;
               number = flying.number;
@@ -167,7 +133,7 @@ module _ (laws : CoreLaws) (begun : Found) (start : DevicesState) (volume : Volu
               few = most.0;
               asked_for = most.1;
               leaves = flying.leaves;
-              trees = flying.trees;
+              keys = flying.keys;
             });
           }
 
@@ -189,11 +155,12 @@ module _ (laws : CoreLaws) (begun : Found) (start : DevicesState) (volume : Volu
         past = past_later kept.durable old.moment new.moment flush.later kept.past;
         flushed = laws.flags.flushes volume.layout.metadata_replicas volume.writer.unsettled dev done old new kept.flushed kept.safe.stands.disks flush;
         flags = let some_flags = kept.flags in let stay = flags_kept dev done volume.writer.unsettled in omega (arith, some_flags, stay);
-        known = known_also kept.f volume after_it kept.known refl refl refl refl;
+        known = known_also kept.f volume after_it kept.known refl refl refl;
         starts = kept.starts;
         first = kept.first;
         lead = kept.lead;
         leaves = kept.leaves;
-        idle = kept.idle;
-        flying = flies_also kept.f volume.writer.flight kept.writing kept.asked kept.written volume after_it kept.flying refl refl refl;
+        one = kept.one;
+        kept = laws.entries.flushes kept.f kept.writing old new (leaves_in volume) dev done kept.kept kept.safe.stands.disks flush;
+        flying = flies_also kept.f volume.writer.flight kept.writing kept.asked kept.written volume after_it kept.flying refl refl;
       }

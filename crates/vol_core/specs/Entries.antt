@@ -1,19 +1,17 @@
 -- The entries of the journal as they are known in memory: those that the last durable one needs, the one that is written, and those that
 -- wait.
-use Rattle.std.specs.Prelude.{◌≡◌, ◌≤◌, ◌<◌, ◌+◌, ℕ, suc, true, Option, Some, None, List, [], ◌∷◌, ◌++◌, All, IsSome, length, ⊤}
-use Rattle.commit_plan.specs.Dirty.{birth_at}
-use Rattle.core_memory.specs.Sealing.{roots_in}
-use Rattle.core_memory.specs.Volumes.{Volume, is_below}
+use Rattle.std.specs.Prelude.{◌≡◌, ◌≤◌, ◌<◌, ◌+◌, ℕ, Option, Some, None, List, [], ◌∷◌, ◌++◌, All, length, ⊤}
+use Rattle.core_memory.specs.Volumes.{Volume}
 use Rattle.entry_queue.specs.Queues.{record_of}
 use Rattle.entry_queue.specs.declared.changes.KeyChanges.{KeyChanges}
 use Rattle.entry_writer.specs.declared.writer.Flight.{Flight}
-use Rattle.image_view.specs.EntryUpdates.{IsIdle}
 use Rattle.image_view.specs.Found.{Found}
-use Rattle.image_view.specs.UpdatedTrees.{IsOfLeaf, with_key_updates}
+use Rattle.image_view.specs.UpdatedTrees.{IsOfLeaf}
 use Rattle.journal_ring.specs.Rings.{flight_number}
 use Rattle.journal_ring.specs.declared.found.FoundEntry.{FoundEntry}
 use Rattle.journal_safety.specs.Writings.{Writing}
 use Rattle.replay.specs.NodeUpdates.{EachUpdate, IsBelowRoot}
+use Rattle.vol_types.specs.KeyMaps.{with_updates}
 use Rattle.vol_types.specs.declared.keys.Update.{Update}
 
 -- the entries that the last durable one needs, and the one that is written, if one is
@@ -28,11 +26,6 @@ AreStarts [] (entry ∷ entries) = ⊥
 AreStarts (start ∷ starts) [] = ⊥
 AreStarts (start ∷ starts) (entry ∷ entries) = (start ≤ entry.number) × AreStarts starts entries
 
--- Each of the entries, of which the first one has this sequence, has no updates where its sequence is below the least pin.
-abbrev pub AreIdleBelow : Option ℕ → ℕ → List FoundEntry → Type 0
-AreIdleBelow pin sequence [] = ⊤
-AreIdleBelow pin sequence (entry ∷ entries) = (is_below sequence pin ≡ true → IsIdle entry) × AreIdleBelow pin (suc sequence) entries
-
 -- The update is of a key in a leaf.
 abbrev pub IsInLeaf : Update → Type 0
 IsInLeaf update = update.level ≡ 0
@@ -41,7 +34,7 @@ IsInLeaf update = update.level ≡ 0
 abbrev pub AreInLeaves : List KeyChanges → Type 0
 AreInLeaves changes = All (λ (some : KeyChanges). All IsInLeaf some.updates) changes
 
--- What is in memory of the last durable entry, with which this is found: the layout and the session, its numbers, and the nodes.
+-- What is in memory of the last durable entry, with which this is found: the layout and the session, and its numbers.
 pub record IsKnown (f : Found) (volume : Volume) : Type 0 where
   pub layout : f.layout ≡ volume.layout
   pub session : f.session ≡ volume.session
@@ -50,13 +43,11 @@ pub record IsKnown (f : Found) (volume : Volume) : Type 0 where
   pub oldest : f.last.entry.oldest ≡ volume.writer.durable.oldest
   pub some : 0 < length f.needed
   pub count : f.last.entry.oldest + length f.needed ≡ f.last.entry.sequence + 1
-  pub nodes : f.trees.nodes ≡ volume.trees.nodes
-  pub roots : f.last.entry.roots ≡ roots_in volume.trees.nodes
 
 -- The entry in flight is the one that is written: so many of its parts were asked for, and so many stand. Its updates are of keys in leaves,
--- and the btrees with it are those that were found, with its updates.
+-- and what it leads to has the keys that were found, with its updates.
 pub record IsInFlight (f : Found) (w : Writing) (asked written : ℕ) (flight : Flight) (volume : Volume) : Type 0 where
-  pub entry : w.next.entry ≡ record_of flight.oldest volume.session (roots_in volume.trees.nodes) flight.entry
+  pub entry : w.next.entry ≡ record_of flight.oldest volume.session w.next.entry.roots flight.entry
   pub number : flight_number volume.writer.ring ≡ w.next.number
   pub end : w.next.end ≡ volume.writer.ring.next
   pub blocks : volume.writer.ring.blocks ≡ w.blocks
@@ -65,7 +56,7 @@ pub record IsInFlight (f : Found) (w : Writing) (asked written : ℕ) (flight : 
   pub few : written ≤ length w.blocks
   pub asked_for : asked ≤ written + 1
   pub leaves : All IsOfLeaf w.next.entry.updates
-  pub trees : w.trees ≡ with_key_updates w.next.entry.updates f.trees
+  pub keys : w.trees.keys ≡ with_updates w.next.entry.updates f.trees.keys
 
 -- No entry is written, and the next one begins where the newest one ends.
 pub record IsAtRest (f : Found) (asked written : ℕ) (volume : Volume) : Type 0 where
@@ -79,10 +70,6 @@ FliesAs f None None asked written volume = IsAtRest f asked written volume
 FliesAs f None (Some w) asked written volume = ⊥
 FliesAs f (Some flight) None asked written volume = ⊥
 FliesAs f (Some flight) (Some w) asked written volume = IsInFlight f w asked written flight volume
-
--- Each update of the needed entries changes a node of the btrees that were found.
-abbrev pub ChangeNodes : Found → Type 0
-ChangeNodes f = All (λ (found : FoundEntry). All (λ (update : Update). IsSome (birth_at f.trees.nodes update.btree update.level update.pos)) found.entry.updates) f.needed
 
 -- No update of the needed entries is above the root of its btree that the newest entry names.
 abbrev pub AreBelowRoots : Found → Type 0

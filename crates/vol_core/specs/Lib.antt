@@ -1,3 +1,6 @@
 pub mod Cores
 pub mod Entries
 pub mod Safety
+pub mod VolumeLeaves
+pub mod CoreLaws
+pub mod Rested

@@ -1,22 +1,26 @@
 -- What a session keeps of its volume on the devices: whatever a crash has left since it began means what some entry led to, and what is in
 -- memory is what the last durable one means, with the changes that aren't durable yet.
 use Rattle.std.specs.Prelude.{◌≡◌, ◌<◌, ◌≤◌, ◌+◌, ℕ, Option, Some, List, [], ◌∷◌, ◌++◌, All, length, slice_get, slice_index_or, ⊤}
+use Rattle.birth_index.specs.Exchanges.{HaveOneNode}
 use Rattle.btree_map.specs.Trees.{keys_in}
+use Rattle.checkpoint_safety.specs.Kept.{KeepsLeaves}
 use Rattle.core_memory.specs.Volumes.{Volume, changes_in}
 use Rattle.dev_model.specs.Devices.{DevicesState, now}
 use Rattle.dev_model.specs.Disk.{Disk, Image, IsCrashImage}
 use Rattle.entry_queue.specs.Changes.{LeadTo}
 use Rattle.entry_queue.specs.Queues.{waiting}
 use Rattle.image_view.specs.Found.{Found}
-use Rattle.image_view.specs.UpdatedTrees.{IsOfLeaf, with_key_updates}
+use Rattle.image_view.specs.UpdatedTrees.{IsOfLeaf}
 use Rattle.journal_safety.specs.Flushes.{AreFlushed}
-use Rattle.journal_safety.specs.Safety.{IsJournalSafe, MeansOneOf}
+use Rattle.journal_safety.specs.NodeWritings.{IsSafeWithNodes}
+use Rattle.journal_safety.specs.Safety.{MeansOneOf}
 use Rattle.journal_safety.specs.Writings.{Writing, after}
 use Rattle.plain_reader.specs.Volumes.{no_entry}
-use Rattle.vol_types.specs.KeyMaps.{key_map}
-use Rattle.pin_list.specs.Pins.{least_pin}
+use Rattle.vol_types.specs.KeyMaps.{key_map, with_updates}
+use Rattle.vol_types.specs.declared.pointers.NodePtr.{NodePtr}
 use Rattle.replay.specs.Mending.{IsReady, IsUntorn, StandsOnAll}
-use Rattle.vol_core.specs.Entries.{AreBelowRoots, AreIdleBelow, AreInLeaves, AreStarts, FliesAs, IsKnown, entries_with}
+use Rattle.vol_core.specs.VolumeLeaves.{leaves_in}
+use Rattle.vol_core.specs.Entries.{AreBelowRoots, AreInLeaves, AreStarts, FliesAs, IsKnown, entries_with}
 
 -- what is found where there is nothing
 abbrev pub nothing_found : Found
@@ -28,14 +32,14 @@ nothing_found = record {
   trees = record { keys = key_map (λ _. []); nodes = []; ends = [] };
 }
 
--- The second of two bases is the first one with the next entry, whose updates are of keys in leaves: it has the keys of the first one
--- with these updates.
+-- The second of two bases is what the next entry leads to: it has the keys of the first one, with the entry's updates, which are of keys in
+-- leaves.
 pub record IsLed (one other : Found) : Type 0 where
   pub w : Writing
   pub is : other ≡ after w one
   pub sequence : w.next.entry.sequence ≡ one.last.entry.sequence + 1
   pub leaves : All IsOfLeaf w.next.entry.updates
-  pub trees : w.trees ≡ with_key_updates w.next.entry.updates one.trees
+  pub keys : w.trees.keys ≡ with_updates w.next.entry.updates one.trees.keys
 
 -- An entry leads from each of these bases to the one behind it.
 abbrev pub AreLed : List Found → Type 0
@@ -48,9 +52,9 @@ abbrev pub AreUpTo : ℕ → List ℕ → Type 0
 AreUpTo moment moments = (k m : ℕ) → slice_get moments k ≡ Some m → m ≤ moment
 
 -- The session began with what was found then, when the devices showed this. The bases are what was found, and what each entry that was put
--- in flight since led to. Of the last durable one is known what is in memory: its numbers, its nodes, where its needed entries begin, and
--- its keys, from which the changes that aren't durable lead to those in memory. No device is held for flushed to which something was
--- written since.
+-- in flight since led to. Of the last durable one is known what is in memory: its numbers, where its needed entries begin, and its
+-- keys, from which the changes that aren't durable lead to those in memory. Each btree is one leaf: what is kept of leaves holds of the roots in memory,
+-- and of the leaves that are frozen. No device is held for flushed to which something was written since.
 pub record IsCoreSafe (begun : Found) (start state : DevicesState) (volume : Volume) : Type 0 where
   pub f : Found
   pub image : Image
@@ -59,7 +63,7 @@ pub record IsCoreSafe (begun : Found) (start state : DevicesState) (volume : Vol
   pub written : ℕ
   pub bases : List Found
   pub durable : List ℕ
-  pub safe : IsJournalSafe f image writing asked written bases durable start.moment state
+  pub safe : IsSafeWithNodes f image writing asked written bases durable start.moment state
   pub begins : slice_get bases 0 ≡ Some begun
   pub chain : AreLed bases
   pub past : AreUpTo state.moment durable
@@ -70,13 +74,15 @@ pub record IsCoreSafe (begun : Found) (start state : DevicesState) (volume : Vol
   pub first : volume.writer.ring.first ≤ (slice_index_or f.needed 0 f.last).number
   pub lead : LeadTo (changes_in volume.writer.flight ++ waiting volume.queue) f.trees.keys (keys_in volume.trees)
   pub leaves : AreInLeaves (waiting volume.queue)
-  pub idle : AreIdleBelow (least_pin volume.pins) f.last.entry.oldest f.needed
+  pub one : HaveOneNode volume.trees.nodes
+  pub kept : KeepsLeaves f writing state (leaves_in volume)
   pub flying : FliesAs f volume.writer.flight writing asked written volume
 
--- The session may begin with what was found on these disks: it is in order, the journal is mended, and none of it is of this session; and no
--- update of its needed entries is above the root that the newest one names.
+-- The session may begin with what was found on these disks: it is in order, the journal is mended, and none of it is of this session; each
+-- btree is one leaf, and no update of its needed entries is above the root that the newest one names.
 pub record MayBegin (begun : Found) (disks : List Disk) : Type 0 where
   pub ready : IsReady begun disks
+  pub roots : All (λ (root : NodePtr). root.level ≡ 0) begun.last.entry.roots
   pub updates : AreBelowRoots begun
 
 -- Where the devices tell what they hold, and the session may begin so, the volume is safe on them.

@@ -7,16 +7,16 @@ ghost use Rattle.image_view.specs.Found.{node_places};
 ghost use Rattle.replay.specs.Volumes.{found_in};
 ghost use Rattle.dev_model.specs.Devices.{now};
 ghost use Rattle.vol_core.specs.Cores.{StepGives};
+ghost use Rattle.vol_core.specs.Rested.{HasRoomAfterCheckpoint, IsRested};
 ghost use Rattle.vol_core.specs.Safety.{KeepsSafe, MayBegin, Survives};
 ghost use Rattle.vol_types.specs.Layouts.{is_layout};
 
+use crate::laws::{found_volumes_have_laws, open_volumes_have_laws};
 use crate::opening::Opening;
 use core_memory::{Answer, Event, Memory, node_places};
 use dev_model::Devices;
-use entry_queue::waiting_changes_lead_from_durable_keys;
-use image_view::{needed_entries_are_counted, updates_of_leaves_join_the_keys};
-use journal_safety::{entries_are_written_safely, flushed_devices_are_settled};
-use replay::{Loaded, updates_change_nodes};
+use journal_safety::entries_with_new_nodes_are_written_safely;
+use replay::Loaded;
 use std::alloc::{AllocError, Global};
 use std::marker::{Model, PhantomData};
 
@@ -59,12 +59,8 @@ impl<D: Devices, O: Opening> Core<D, O> {
         ensures devices { IfOk result (λ core. core.devices ≡ devices) }
         ensures err { IfErr result (λ unopened. unopened.devices ≡ devices) }
     {
-        entries_are_written_safely();
-        flushed_devices_are_settled();
-        updates_of_leaves_join_the_keys();
-        needed_entries_are_counted();
-        updates_change_nodes();
-        waiting_changes_lead_from_durable_keys();
+        open_volumes_have_laws();
+        found_volumes_have_laws();
         match memory_of(alloc, loaded) {
             Ok(memory) => Ok(Core {
                 memory,
@@ -75,10 +71,15 @@ impl<D: Devices, O: Opening> Core<D, O> {
         }
     }
 
-    /// What is in memory.
+    /// What is in memory. Where the session may begin with what was found, a volume at rest has room: where neither the journal nor the
+    /// nodes have a next step, as once a checkpoint is done, no node is dirty, neither the last durable entry nor the next one needs an older
+    /// one, and no commit that may be intended meets a full ring.
     pub fn memory(&self) -> &Memory
-        ensures { result.now ≡ self.now.memory }
+        ensures memory { result.now ≡ self.now.memory }
+        ensures rested { D.tells → MayBegin O.found (now O.start) → IsRested self.now.memory.volume
+            → HasRoomAfterCheckpoint self.now.memory.volume }
     {
+        self.memory.see_kept();
         &self.memory
     }
 
@@ -91,7 +92,7 @@ impl<D: Devices, O: Opening> Core<D, O> {
         ensures survives { D.tells → MayBegin O.found (now O.start)
             → Survives O.found O.start (D.state result.now) self.now.memory.volume }
     {
-        entries_are_written_safely();
+        entries_with_new_nodes_are_written_safely();
         &self.devices
     }
 
@@ -117,10 +118,7 @@ impl<D: Devices, O: Opening> Core<D, O> {
         ensures others { (other : ℕ) → other ≢ actor → mine self.new.memory other
             ≡ mine self.old.memory other }
     {
-        entries_are_written_safely();
-        flushed_devices_are_settled();
-        updates_of_leaves_join_the_keys();
-        waiting_changes_lead_from_durable_keys();
+        open_volumes_have_laws();
         self.memory.see_kept();
         make(&mut self.memory, &mut self.devices, actor, event)
     }
@@ -138,6 +136,7 @@ fn make<D: Devices>(memory: &mut Memory, devices: &mut D, actor: u8, event: Even
     match event {
         Event::WriteEntry => memory.write_entry(devices, actor),
         Event::Flush(dev) => memory.flush_device(devices, actor, dev),
+        Event::WriteSet(node) => memory.write_set(devices, actor, node),
         event => memory.step(actor, event),
     }
 }

@@ -1,6 +1,6 @@
 use Rattle.std.proofs.Common.{◌≡◌, map, take}
 use Rattle.std.specs.Prelude.{All}
-use Rattle.core_memory.specs.Sealing.{root_of}
+use Rattle.node_work.specs.Due.{root_of}
 use Rattle.vol_types.specs.Ranges.{IsNode}
 use Rattle.core_memory.proofs.roots.roots_of.Given as goal
 

@@ -1,9 +1,10 @@
 use Rattle.std.proofs.Common.{◌≡◌, ◌∙◌, ◌+◌, Option, List, ℕ, ap, sym, subst}
-use Rattle.birth_index.specs.Births.{BirthsDiffer}
+use Rattle.birth_index.specs.Births.{BirthsDiffer, levels_of}
 use Rattle.btree_map.specs.Trees.{IsTrees, Trees, keys_in}
 use Rattle.commit_plan.specs.Dirty.{changed_nodes, paths_of, with_pins}
-use Rattle.entry_queue.specs.Changes.{changes_of}
 use Rattle.entry_queue.specs.Queues.{Queue, joined, readied}
+use Rattle.tree_nodes.specs.Levels.{IsTree}
+use Rattle.vol_types.specs.declared.positions.Btree.{Btree}
 use Rattle.vol_types.specs.Widths.{PosFits}
 use Rattle.vol_types.specs.declared.keys.Update.{Update}
 use Rattle.std.specs.Prelude.{All}
@@ -11,7 +12,6 @@ use Rattle.vol_types.specs.declared.values.Value.{Value}
 use Rattle.btree_map.specs.Applied.{values_before}
 use Rattle.core_memory.specs.Volumes.{Volume, changes_in}
 use Rattle.core_memory.proofs.Committed.{made-kept}
-use Rattle.core_memory.proofs.HeldBack.{joined-held}
 use Rattle.core_memory.proofs.volume.Volume.make.Goals as goal
 
 pub invariant_of-self-in-Ok : goal.invariant_of-self-in-Ok
@@ -22,6 +22,9 @@ invariant_of-self-in-Ok c =
     let changed : c.args.paths.now.changed.items ≡ changed_nodes inside.keys.nodes updates = subst (λ (v : Volume). c.args.paths.now.changed.items ≡ changed_nodes v.trees.nodes updates) (sym c.self.view_is) c.requires.changed in
     let over : c.args.paths.now.over.items ≡ paths_of inside.keys.nodes updates = subst (λ (v : Volume). c.args.paths.now.over.items ≡ paths_of v.trees.nodes updates) (sym c.self.view_is) c.requires.over in
     let seq : c.entry_of-seq.result ≡ (readied updates inside.queue.queue).open_entry.after + 1 = c.entry_of-seq.ensures ∙ ap (λ (us : List Update). (readied us inside.queue.queue).open_entry.after + 1) c.as_slice-2.ensures in
+    let differ : BirthsDiffer inside.keys.nodes = subst (λ (t : Trees). BirthsDiffer t.nodes) c.map.ensures c.node_of.ensures.differ in
+    let trees : (btree : Btree) → IsTree (levels_of inside.keys.nodes btree) = λ btree. ((subst IsTrees c.map-2.ensures c.height.ensures.sound).each btree).nodes in
+    let fit : All (λ (update : Update). PosFits update.pos) updates = subst (All (λ (update : Update). PosFits update.pos)) c.as_slice.ensures c.see_widths.ensures in
     made-kept (record {
       layout = inside.layout;
       session = inside.session;
@@ -29,11 +32,14 @@ invariant_of-self-in-Ok c =
       queue = inside.queue.queue;
       pins = inside.dirty.pins.numbers;
       marks = inside.dirty.marks.numbers;
+      later = inside.dirty.later.numbers;
       space = inside.pool;
       writer = inside.writer;
+      work = inside.nodes;
+      emptied = inside.emptied;
       halted = inside.halted;
       changes = inside.changes;
-    }) c.self.invariant updates c.args.counted c.apply.new.self c.join.new.self.queue c.dirty.new.self.pins.numbers c.dirty.new.self.marks.numbers
+    }) c.self.invariant updates c.args.counted c.apply.new.self c.join.new.self.queue c.dirty.new.self.pins.numbers c.dirty.new.self.marks.numbers c.dirty.new.self.later.numbers
     c.in-Ok.ensures.keys c.in-Ok.ensures.nodes
     (c.join.ensures.joined
     ∙ ap (λ (q : Queue). joined (record { updates = updates; before = c.in-Ok.before }) c.args.counted q) c.reserve.ensures.queue
@@ -44,12 +50,12 @@ invariant_of-self-in-Ok c =
     (c.dirty.ensures.marks ∙ ap (with_pins c.entry_of-seq.result c.args.paths.now.over.items) c.reserve.ensures.marks
     ∙ ap (λ (births : List ℕ). with_pins c.entry_of-seq.result births inside.dirty.marks.numbers) over
     ∙ ap (λ (seq : ℕ). with_pins seq (paths_of inside.keys.nodes updates) inside.dirty.marks.numbers) seq)
-    (c.dirty_nodes_are_marked.ensures.more inside.keys.nodes inside.dirty.pins.numbers inside.dirty.marks.numbers updates _ (subst (λ (t : Trees). BirthsDiffer t.nodes) c.map.ensures c.node_of.ensures.differ) (λ btree. ((subst IsTrees c.map-2.ensures c.height.ensures.sound).each btree).nodes) (subst (All (λ (update : Update). PosFits update.pos)) c.as_slice.ensures c.see_widths.ensures) c.self.invariant.marked)
-    (λ held turn. joined-held inside.writer inside.queue.queue inside.dirty.pins.numbers inside.keys.nodes (changes_of updates keys) c.args.counted held turn c.commits.ensures.sound.followed (record {
-      trees = λ btree. ((subst IsTrees c.map-2.ensures c.height.ensures.sound).each btree).nodes;
-      fit = subst (All (λ (update : Update). PosFits update.pos)) c.as_slice.ensures c.see_widths.ensures;
-      leaves = c.requires.intended.leaves;
-    }))
+    (c.dirty.ensures.later ∙ ap (with_pins c.entry_of-seq.result c.args.paths.now.changed.items) c.reserve.ensures.later
+    ∙ ap (λ (births : List ℕ). with_pins c.entry_of-seq.result births inside.dirty.later.numbers) changed
+    ∙ ap (λ (seq : ℕ). with_pins seq (changed_nodes inside.keys.nodes updates) inside.dirty.later.numbers) seq)
+    (c.dirty_nodes_are_marked.ensures.more inside.keys.nodes inside.dirty.pins.numbers inside.dirty.marks.numbers updates _ differ trees fit c.self.invariant.marked)
+    c.commits.ensures.sound.followed
+    (λ btree root numbers alone. c.changed_pins_are_known.ensures.root inside.keys.nodes btree root updates ((readied updates inside.queue.queue).open_entry.after + 1) numbers differ trees alone fit)
     (c.commits_leave_queues.ensures.oldest (record { updates = updates; before = values_before updates keys }) c.args.counted inside.queue.queue).0
     (λ durable keys lead. c.waiting_changes_lead_from_durable_keys.ensures.joined (changes_in inside.writer.flight) inside.queue.queue updates c.args.counted durable keys lead)
 

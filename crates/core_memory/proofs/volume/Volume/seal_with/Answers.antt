@@ -13,7 +13,7 @@ invariant_of-self c =
     let inside = c.self.inside in
     let laws = c.entries_leave_in_turn.ensures in
     let queue = inside.queue.queue in
-    let old : Volume = record { layout = inside.layout; session = inside.session; trees = inside.keys; queue = queue; pins = inside.dirty.pins.numbers; marks = inside.dirty.marks.numbers; space = inside.pool; writer = inside.writer; halted = inside.halted; changes = inside.changes } in
+    let old : Volume = record { layout = inside.layout; session = inside.session; trees = inside.keys; queue = queue; pins = inside.dirty.pins.numbers; marks = inside.dirty.marks.numbers; later = inside.dirty.later.numbers; space = inside.pool; writer = inside.writer; work = inside.nodes; emptied = inside.emptied; halted = inside.halted; changes = inside.changes } in
     let none : inside.writer.flight ≡ None = ap (λ (v : Volume). v.writer.flight) c.self.view_is ∙ sealing_is_free c.args.self.now.writer.flight (needs_entry c.args.self.now) c.args.self.now.writer c.requires.stage.stage_is in
     let writer : Writer = c.seal.new.self in
     let needed : c.oldest_needed-oldest.result ≡ oldest_needed old =
@@ -28,7 +28,7 @@ pub invariant_of-self-in-Err : goal.invariant_of-self-in-Err
 invariant_of-self-in-Err c =
     let inside = c.self.inside in
     let queue = inside.queue.queue in
-    let old : Volume = record { layout = inside.layout; session = inside.session; trees = inside.keys; queue = queue; pins = inside.dirty.pins.numbers; marks = inside.dirty.marks.numbers; space = inside.pool; writer = inside.writer; halted = inside.halted; changes = inside.changes } in
+    let old : Volume = record { layout = inside.layout; session = inside.session; trees = inside.keys; queue = queue; pins = inside.dirty.pins.numbers; marks = inside.dirty.marks.numbers; later = inside.dirty.later.numbers; space = inside.pool; writer = inside.writer; work = inside.nodes; emptied = inside.emptied; halted = inside.halted; changes = inside.changes } in
     let back = c.put_back.ensures queue c.commits.ensures.sound (c.in-Err.ensures.kept ∙ c.take_oldest-entry.ensures.taken) c.take_oldest-entry.ensures.left in
     subst (λ (q : Queue). IsVolume (record old { queue = q; writer = c.seal.new.self })) (sym back)
     (subst (λ (w : Writer). IsVolume (record old { writer = w })) (sym c.in-Err.ensures.err) c.self.invariant)
@@ -38,9 +38,9 @@ returns-in-Err-clause-err c =
     let inside = c.self.inside in
     let queue = inside.queue.queue in
     let back = c.put_back.ensures queue c.commits.ensures.sound (c.in-Err.ensures.kept ∙ c.take_oldest-entry.ensures.taken) c.take_oldest-entry.ensures.left in
-    let same : record { layout = inside.layout; session = inside.session; trees = inside.keys; queue = c.put_back.new.self.queue; pins = inside.dirty.pins.numbers; marks = inside.dirty.marks.numbers; space = inside.pool; writer = c.seal.new.self; halted = inside.halted; changes = inside.changes }
-    ≡ record { layout = inside.layout; session = inside.session; trees = inside.keys; queue = queue; pins = inside.dirty.pins.numbers; marks = inside.dirty.marks.numbers; space = inside.pool; writer = inside.writer; halted = inside.halted; changes = inside.changes } =
-    λ i. record { layout = inside.layout; session = inside.session; trees = inside.keys; queue = back i; pins = inside.dirty.pins.numbers; marks = inside.dirty.marks.numbers; space = inside.pool; writer = c.in-Err.ensures.err i; halted = inside.halted; changes = inside.changes } in
+    let same : record { layout = inside.layout; session = inside.session; trees = inside.keys; queue = c.put_back.new.self.queue; pins = inside.dirty.pins.numbers; marks = inside.dirty.marks.numbers; later = inside.dirty.later.numbers; space = inside.pool; writer = c.seal.new.self; work = inside.nodes; emptied = inside.emptied; halted = inside.halted; changes = inside.changes }
+    ≡ record { layout = inside.layout; session = inside.session; trees = inside.keys; queue = queue; pins = inside.dirty.pins.numbers; marks = inside.dirty.marks.numbers; later = inside.dirty.later.numbers; space = inside.pool; writer = inside.writer; work = inside.nodes; emptied = inside.emptied; halted = inside.halted; changes = inside.changes } =
+    λ i. record { layout = inside.layout; session = inside.session; trees = inside.keys; queue = back i; pins = inside.dirty.pins.numbers; marks = inside.dirty.marks.numbers; later = inside.dirty.later.numbers; space = inside.pool; writer = c.in-Err.ensures.err i; work = inside.nodes; emptied = inside.emptied; halted = inside.halted; changes = inside.changes } in
     same ∙ c.self.view_is
 
 pub returns-in-Ok-clause-sound : goal.returns-in-Ok-clause-sound

@@ -8,4 +8,4 @@ pub returns-clause-survives : goal.returns-clause-survives
 returns-clause-survives g c = λ tells begins.
     let same : c.self.inside.memory.volume ≡ c.args.self.now.memory.volume = λ i. (c.self.view_is i).memory.volume in
     subst (λ (volume : Volume). Survives g.O.Opening.found g.O.Opening.start (g.D.Devices.state c.self.inside.devices) volume) same
-    (survives c.entries_are_written_safely.ensures.whole g.O.Opening.found g.O.Opening.start (g.D.Devices.state c.self.inside.devices) c.self.inside.memory.volume (c.self.invariant.safe tells begins))
+    (survives c.entries_with_new_nodes_are_written_safely.ensures.whole g.O.Opening.found g.O.Opening.start (g.D.Devices.state c.self.inside.devices) c.self.inside.memory.volume (c.self.invariant.safe tells begins))

@@ -1,0 +1,60 @@
+use Rattle.vol_core.proofs.laws.open_volumes_have_laws.Goals as goal
+
+pub returns : goal.returns
+returns c = record {
+  journal = record {
+    begins = c.entries_are_written_safely.ensures.begins;
+    same_nodes = c.entries_with_new_nodes_are_written_safely.ensures.same_nodes;
+    writes = c.entries_with_new_nodes_are_written_safely.ensures.writes;
+    flushes = c.entries_with_new_nodes_are_written_safely.ensures.flushes;
+    settles = c.entries_with_new_nodes_are_written_safely.ensures.settles;
+  };
+  flags = record {
+    begins = c.flushed_devices_are_settled.ensures.begins;
+    writes = c.flushed_devices_are_settled.ensures.writes;
+    flushes = c.flushed_devices_are_settled.ensures.flushes;
+    settled = c.flushed_devices_are_settled.ensures.settled;
+  };
+  keys = record {
+    empty = c.waiting_changes_lead_from_durable_keys.ensures.empty;
+    joined = c.waiting_changes_lead_from_durable_keys.ensures.joined;
+    taken = c.waiting_changes_lead_from_durable_keys.ensures.taken;
+    settled = c.waiting_changes_lead_from_durable_keys.ensures.settled;
+    durable = c.waiting_changes_lead_from_durable_keys.ensures.durable;
+  };
+  entries = record {
+    begins = c.entries_of_leaves_are_safe.ensures.begins;
+    same = c.entries_of_leaves_are_safe.ensures.same;
+    pins = c.entries_of_leaves_are_safe.ensures.pins;
+    seals = c.entries_of_leaves_are_safe.ensures.seals;
+    parts = c.entries_of_leaves_are_safe.ensures.parts;
+    flushes = c.entries_of_leaves_are_safe.ensures.flushes;
+    settles = c.entries_of_leaves_are_safe.ensures.settles;
+  };
+  leaves = record {
+    freezes = c.leaves_are_written_safely.ensures.freezes;
+    writes = c.leaves_are_written_safely.ensures.writes;
+    places = c.leaves_are_written_safely.ensures.places;
+    gives_up = c.leaves_are_written_safely.ensures.gives_up;
+  };
+  pins = record {
+    each = c.changed_pins_are_known.ensures.each;
+  };
+  places = record {
+    of_roots = c.leaves_are_put_in_place.ensures.of_roots;
+    leaves = c.leaves_are_put_in_place.ensures.leaves;
+    others = c.leaves_are_put_in_place.ensures.others;
+    pins = c.leaves_are_put_in_place.ensures.pins;
+    other_pins = c.leaves_are_put_in_place.ensures.other_pins;
+  };
+  buckets = record {
+    opened_fixed = c.nodes_keep_their_buckets.ensures.opened_fixed;
+    opened_hold = c.nodes_keep_their_buckets.ensures.opened_hold;
+  };
+  exchanges = record {
+    stay = c.exchanges_are_kept.ensures.stay;
+  };
+  merges = record {
+    whole = c.keys_are_merged.ensures.whole;
+  };
+}

@@ -1,0 +1,11 @@
+use Rattle.std.proofs.Common.{◌≡◌, subst}
+use Rattle.core_memory.specs.States.{State}
+use Rattle.vol_core.specs.Rested.{HasRoomAfterCheckpoint, IsRested}
+use Rattle.vol_core.proofs.Rested.{rested}
+use Rattle.vol_core.proofs.machine.Core.memory.Goals as goal
+
+pub returns-clause-rested : goal.returns-clause-rested
+returns-clause-rested g c = λ tells begins.
+    let same : c.self.inside.memory ≡ c.args.self.now.memory = λ i. (c.self.view_is i).memory in
+    subst (λ (memory : State). IsRested memory.volume → HasRoomAfterCheckpoint memory.volume) same
+    (rested g.O.Opening.found g.O.Opening.start (g.D.Devices.state c.self.inside.devices) c.self.inside.memory.volume c.see_kept.ensures.kept.volume (c.self.invariant.safe tells begins) (c.self.invariant.ring tells begins))

@@ -1,0 +1,77 @@
+-- A volume at rest after a checkpoint: no node is dirty, no older entry is needed, and the ring has room for any commit that may be intended. And what
+-- every event keeps of the ring, from which that follows.
+use Rattle.std.specs.Prelude.{◌≡◌, ℕ, ◌+◌, ◌-◌, ◌≤◌, ◌==◌, if◌then◌else◌, ⊤, Some, List, [], ◌∷◌, length, slice_index_or}
+use Rattle.std.specs.Ordering.{nat_cmp}
+use Rattle.core_memory.specs.Commits.{AreIntended}
+use Rattle.core_memory.specs.Rulings.{IsFull}
+use Rattle.core_memory.specs.Sealing.{oldest_needed}
+use Rattle.core_memory.specs.Volumes.{Volume, node_stage_of, stage_of}
+use Rattle.dev_model.specs.Devices.{DevicesState, now}
+use Rattle.entry_queue.specs.Queues.{Queue, first_of, last_of, oldest}
+use Rattle.entry_queue.specs.declared.changes.Pending.{Pending}
+use Rattle.entry_writer.specs.Writers.{first_of as first_start}
+use Rattle.entry_writer.specs.declared.stage.Stage.TheVariants.{Rest}
+use Rattle.image_view.specs.Found.{Found}
+use Rattle.node_work.specs.Due.{root_in}
+use Rattle.tree_nodes.specs.Levels.{Levels}
+use Rattle.vol_types.specs.Maps.{IsMap, value_at}
+use Rattle.vol_types.specs.declared.keys.Update.{Update}
+use Rattle.vol_types.specs.declared.positions.Btree.{Btree}
+use Rattle.vol_core.specs.Safety.{MayBegin}
+
+-- Nothing is left to be done, neither for the journal nor for the nodes.
+pub record IsRested (volume : Volume) : Type 0 where
+  pub journal : stage_of volume ≡ Rest
+  pub nodes : node_stage_of volume ≡ Rest
+
+-- The ring is free: no node is dirty, neither the last durable entry nor the next one needs an older one, and the journal has room for each commit
+-- that may be intended.
+pub record HasRoomAfterCheckpoint (volume : Volume) : Type 0 where
+  pub clean : volume.pins ≡ []
+  pub durable : volume.writer.durable.sequence ≤ volume.writer.durable.oldest
+  pub next : oldest_needed volume ≡ (oldest volume.queue).after + 1
+  pub room : (updates : List Update) → AreIntended volume.layout.metadata_replicas updates → ¬ IsFull volume updates
+
+-- the sequence of the newest entry that may have updates: the open one where it has some, and else the one before it
+abbrev pub newest_changed : Queue → ℕ
+newest_changed queue = if length queue.open_entry.changes.updates == 0 then queue.open_entry.after else queue.open_entry.after + 1
+
+-- No node is noted with an entry newer than the one of this sequence.
+abbrev pub ArePinnedTo : ℕ → List (ℕ × ℕ) → Type 0
+ArePinnedTo newest numbers = (birth number : ℕ) → value_at nat_cmp birth numbers ≡ Some number → number ≤ newest
+
+-- Each pinned node is the root of a btree.
+abbrev pub ArePinnedRoots : List Levels → List (ℕ × ℕ) → Type 0
+ArePinnedRoots nodes pins = (birth number : ℕ) → value_at nat_cmp birth pins ≡ Some number → (btree : Btree) × ((root_in nodes btree).birth ≡ birth)
+
+-- The second entry has the sequence and the blocks behind those of the first one.
+pub record IsNextTo (mirrors : ℕ) (first second : Pending) : Type 0 where
+  pub sequence : second.after ≡ first.after + 1
+  pub blocks : second.behind ≡ last_of mirrors first
+
+-- Each of the closed entries is next to the one before it, and the open one to the last of them.
+abbrev pub AreInARow : ℕ → List Pending → Pending → Type 0
+AreInARow mirrors [] open_entry = ⊤
+AreInARow mirrors (entry ∷ later) open_entry = IsNextTo mirrors entry (first_of later open_entry) × AreInARow mirrors later open_entry
+
+-- the last of some numbers
+abbrev pub last_start : List ℕ → ℕ
+last_start starts = slice_index_or starts (length starts - 1) 0
+
+-- What is kept of the ring: only roots are pinned, and nothing is noted of an entry that has no updates; the entries that wait are in a row, and
+-- their blocks begin no later than the next one of the ring; and the newest entry in the ring, which begins at the last of the starts, takes at most
+-- 64 blocks.
+pub record KeepsRing (volume : Volume) : Type 0 where
+  pub rises : IsMap nat_cmp volume.pins
+  pub later_rises : IsMap nat_cmp volume.later
+  pub nodes : ArePinnedRoots volume.trees.nodes volume.pins
+  pub pins : ArePinnedTo (newest_changed volume.queue) volume.pins
+  pub later : ArePinnedTo (newest_changed volume.queue) volume.later
+  pub row : AreInARow volume.queue.mirrors volume.queue.closed volume.queue.open_entry
+  pub behind : (oldest volume.queue).behind ≤ volume.writer.ring.next
+  pub first : volume.writer.durable.first ≡ first_start volume.writer.starts
+  pub few : volume.writer.ring.next ≤ last_start volume.writer.starts + 64
+
+-- Where the devices tell what they hold, and the session may begin so, this is kept.
+abbrev pub KeepsRingIf : Type 0 → Found → DevicesState → Volume → Type 0
+KeepsRingIf tells begun start volume = tells → MayBegin begun (now start) → KeepsRing volume
