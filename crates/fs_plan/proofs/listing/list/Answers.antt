@@ -1,0 +1,10 @@
+-- What is given where the tree was told is seen with it.
+use Rattle.std.proofs.Common.{◌∙◌, ap, sym, Some}
+use Rattle.fs_plan.proofs.Looks.{carried, given_is_seen}
+use Rattle.fs_plan.proofs.listing.list.Goals as goal
+
+pub returns-clause-reply : goal.returns-clause-reply
+returns-clause-reply g c = carried c.list_in.result _ _
+    (λ reply holds keys read given leaves joined. holds keys read
+    (given_is_seen keys (g.V.View.made c.list_in.new.view) (g.V.View.told c.list_in.new.view) c.deref.result.now (c.list_in.ensures.ids ∙ c.in_ok-tree.ensures.ok ∙ ap Some (sym c.deref.ensures)) given) leaves joined)
+    c.list_in.ensures.reply

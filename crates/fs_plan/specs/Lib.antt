@@ -1,0 +1,4 @@
+pub mod Looking
+pub mod Listing
+pub mod Plans
+pub mod Making

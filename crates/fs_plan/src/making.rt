@@ -1,0 +1,188 @@
+ghost use Rattle.std.specs.Prelude.{◌≡◌, ◌<◌, ◌++◌, All, List, Some, IfErr, IfOk, IfSome};
+ghost use Rattle.fs_plan.specs.Making.{IfMade, IsMadeAt, file_made, new_inode, numbered_file, spent_file};
+ghost use Rattle.fs_plan.specs.Plans.{IsGiven};
+ghost use Rattle.key_meaning.specs.Checks.{IsSound};
+ghost use Rattle.key_meaning.specs.Tidy.{IsTidy};
+ghost use Rattle.key_meaning.specs.Visible.{visible};
+ghost use Rattle.key_view.specs.Holds.{IsCause};
+ghost use Rattle.key_view.specs.Seen.{GoesOn, IsSeen};
+ghost use Rattle.vol_digest.specs.Digests.{slot_of};
+ghost use Rattle.vol_types.specs.KeyMaps.{KeyMap};
+ghost use Rattle.vol_types.specs.Ranges.{IsKeyValue, IsName};
+ghost use Rattle.vol_types.specs.Standing.{IsUpdate};
+ghost use Rattle.vol_types.specs.declared.layout.Layout.{Layout};
+ghost use Rattle.vol_types.specs.declared.pointers.Place.{Place};
+ghost use Rattle.vol_types.specs.declared.positions.Btree.TheVariants.{Dirents};
+
+use crate::walking::directory_along;
+use dirent_keys::{NameStep, add, sound_names_are_refused_alike};
+use forest_ops::Cause;
+use inode_keys::{
+    Draw, drawn_inodes_want_names, draws_are_counted, draws_are_new, next_number, set,
+};
+use key_meaning::sound_ids_are_apart;
+use key_view::{Hold, View};
+use plain_forest::Path;
+use snap_tree::SnapTree;
+use std::alloc::{AllocError, Global};
+use vol_types::{Bytes, FileKind, Inode, Updates};
+
+/// The updates after which there is an empty file at a path, or why the forest refuses it.
+pub(crate) fn make_file<V: View>(
+    alloc: Global,
+    view: &mut V,
+    client: u8,
+    path: &Path,
+) -> Result<Result<Updates, Cause>, Hold>
+    requires { client < 16 }
+    ensures made { IfOk result (λ made. (keys : KeyMap) (nodes : List Place) (layout : Layout)
+        → IsGiven keys (V.made view.new) (V.told view.new) → IsSound keys nodes layout → IsTidy keys
+        → IsMadeAt keys nodes layout client path.now made) }
+    ensures looks { GoesOn (V.made view.old) (V.made view.new) }
+    ensures ids { IfSome (V.told view.old) (λ tree. V.told view.new ≡ Some tree) }
+    ensures cause { IfErr result (IsCause (V.held view.new)) }
+{
+    let tree = view.tree()?;
+    make_in(alloc, view, &tree, client, path)
+}
+
+// The updates after which there is an empty file at a path, where the ids are those of this tree.
+fn make_in<V: View>(
+    alloc: Global,
+    view: &mut V,
+    tree: &SnapTree,
+    client: u8,
+    path: &Path,
+) -> Result<Result<Updates, Cause>, Hold>
+    requires { client < 16 }
+    ensures made { IfOk result (λ made. (keys : KeyMap) (nodes : List Place) (layout : Layout)
+        → IsSeen keys (V.made view.new) tree.now → IsSound keys nodes layout → IsTidy keys
+        → IsMadeAt keys nodes layout client path.now made) }
+    ensures looks { GoesOn (V.made view.old) (V.made view.new) }
+    ensures ids { V.told view.new ≡ V.told view.old }
+    ensures cause { IfErr result (IsCause (V.held view.new)) }
+{
+    tree.ids_fit();
+    sound_ids_are_apart();
+    sound_names_are_refused_alike();
+    draws_are_new();
+    draws_are_counted();
+    drawn_inodes_want_names();
+    let spot = match directory_along(view, tree, path, path.parents())? {
+        Ok(spot) => spot,
+        Err(cause) => return Ok(Err(cause)),
+    };
+    if spot.sub.read_only {
+        return Ok(Err(Cause::ReadOnly));
+    }
+    let Some(name) = path.last() else {
+        return Ok(Err(Cause::Exists));
+    };
+    new_file(alloc, view, tree, client, spot.sub.id, spot.number, name)
+}
+
+// The updates after which a directory has a new file under a name in an id.
+fn new_file<V: View>(
+    alloc: Global,
+    view: &mut V,
+    tree: &SnapTree,
+    client: u8,
+    id: u32,
+    directory: u64,
+    name: &Bytes,
+) -> Result<Result<Updates, Cause>, Hold>
+    requires { client < 16 }
+    ensures made { IfOk result (λ made. (keys : KeyMap) → IsSeen keys (V.made view.new) tree.now
+        → made ≡ file_made keys client id directory name.now) }
+    ensures fits { IfOk result (λ made. IfMade made (λ updates. IsName name.now
+        → (keys : KeyMap) → IsSeen keys (V.made view.new) tree.now
+        → IsKeyValue (visible keys Dirents directory (slot_of name.now) id)
+        → All IsUpdate updates)) }
+    ensures looks { GoesOn (V.made view.old) (V.made view.new) }
+    ensures ids { V.told view.new ≡ V.told view.old }
+    ensures cause { IfErr result (IsCause (V.held view.new)) }
+{
+    match next_number(alloc, view, client)? {
+        Draw::Drawn { number, updates } => {
+            numbered_file(alloc, view, tree, id, directory, name, number, updates)
+        }
+        Draw::Spent => {
+            let step = add(alloc, view, tree, id, directory, name, 0, FileKind::File)?;
+            Ok(spent(step))
+        }
+    }
+}
+
+// The updates after which a directory has a new file of this number, which was drawn by some updates.
+fn numbered_file<V: View>(
+    alloc: Global,
+    view: &mut V,
+    tree: &SnapTree,
+    id: u32,
+    directory: u64,
+    name: &Bytes,
+    number: u64,
+    counted: Updates,
+) -> Result<Result<Updates, Cause>, Hold>
+    ensures made { IfOk result (λ made. (keys : KeyMap) → IsSeen keys (V.made view.new) tree.now
+        → made ≡ numbered_file keys id directory name.now number counted) }
+    ensures fits { All IsUpdate counted → IfOk result (λ made. IfMade made (λ updates.
+        IsName name.now → (keys : KeyMap) → IsSeen keys (V.made view.new) tree.now
+        → IsKeyValue (visible keys Dirents directory (slot_of name.now) id)
+        → All IsUpdate updates)) }
+    ensures looks { GoesOn (V.made view.old) (V.made view.new) }
+    ensures ids { V.told view.new ≡ V.told view.old }
+    ensures cause { IfErr result (IsCause (V.held view.new)) }
+{
+    match add(
+        alloc,
+        view,
+        tree,
+        id,
+        directory,
+        name,
+        number,
+        FileKind::File,
+    )? {
+        NameStep::Done(named) => {
+            let inode = set(alloc, view, tree, id, number, Some(new_inode()))?;
+            Ok(Ok(joined(counted, inode, named)?))
+        }
+        NameStep::Exists => Ok(Err(Cause::Exists)),
+        NameStep::Crowded => Ok(Err(Cause::Crowded)),
+    }
+}
+
+// The inode of an empty file that has one name.
+fn new_inode() -> Inode
+    ensures { result ≡ new_inode }
+{
+    Inode {
+        kind: FileKind::File,
+        links: 1,
+        size: 0,
+    }
+}
+
+// The updates one after the other.
+fn joined(first: Updates, second: Updates, third: Updates) -> Result<Updates, AllocError>
+    ensures { IfOk result (λ all. all ≡ first ++ (second ++ third)) }
+{
+    let mut all = first;
+    let mut middle = second;
+    let mut last = third;
+    all.append(&mut middle)?;
+    all.append(&mut last)?;
+    Ok(all)
+}
+
+// Why a name isn't added for which there is no number.
+fn spent(step: NameStep) -> Result<Updates, Cause>
+    ensures { result ≡ spent_file step }
+{
+    match step {
+        NameStep::Done(_) => Err(Cause::IdsSpent),
+        NameStep::Exists => Err(Cause::Exists),
+        NameStep::Crowded => Err(Cause::Crowded),
+    }
+}

@@ -1,0 +1,12 @@
+use forest_ops::{Op, Reply};
+use vol_types::Updates;
+
+/// What becomes of an operation: its updates, to be made at once, and its reply.
+#[derive(Debug, PartialEq, Eq, Drop)]
+pub struct Plan {
+    pub op: Op,
+    /// None where the operation is refused or changes nothing.
+    pub updates: Updates,
+    /// 0 stands for the number of a sync, which no forest knows.
+    pub reply: Reply,
+}
