@@ -53,7 +53,8 @@ with_ids actor = record actor { has_ids = true }
 abbrev pub with_intent : Option (List Update) → Actor → Actor
 with_intent updates actor = record actor { intended = updates }
 
--- what a refusal says with which an operation may end; a split or a checkpoint answers the others
+-- what a refusal says with which an operation may end; a split or a checkpoint answers the others of a commit; a
+-- `Seal` or a `Freeze` is refused so only over an image that another program wrote
 abbrev pub failure_of : Refusal → Option Failure
 failure_of (refusals.Halted halt) = Some (failures.Halted halt.dev halt.tick)
 failure_of refusals.Spent = Some failures.Spent

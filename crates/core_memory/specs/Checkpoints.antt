@@ -45,8 +45,8 @@ abbrev pub durable_in : Volume → Btree → Entries
 durable_in volume btree = durable_entries (in_flight volume.writer.flight) volume.queue volume.trees btree
 
 -- The leaf of this birth is frozen: it is the only one of its btree, and what the btree has by durable entries alone is what is written of it, into
--- the first free bucket of each metadata device, under the next birth of the session. Nothing else has changed, but that the first entry is
--- noted that changes it.
+-- the first free bucket of each metadata device, under the next birth of the session. Nothing else has changed, but that the first entry
+-- that isn't durable and changes it is noted.
 pub record IsLeafFrozen (node : ℕ) (old new : Volume) : Type 0 where
   pub stage : IsNodeStage (stages.Freeze node) old
   pub btree : Btree
@@ -67,8 +67,8 @@ given_up volume =
     let durable = volume.writer.durable.sequence in
     record volume { later = []; space = settled_space durable (emptied_all (fresh_places volume.work.finished) durable volume.space); work = no_work volume.work.born }
 
--- Why the leaf of this birth isn't frozen, where it is to be: no birth is left in the session, it is too large, or a metadata device has no free
--- bucket.
+-- Why the leaf of this birth isn't frozen: the session has stopped writing; or, where it is to be, no birth is left in the session or a node has the
+-- next one, it is too large, or a metadata device has no free bucket.
 abbrev pub IsFreezeRefused : ℕ → Volume → Refusal → Type 0
 IsFreezeRefused node volume (refusals.Halted halt) = volume.halted ≡ Some halt
 IsFreezeRefused node volume refusals.Spent = IsNodeStage (stages.Freeze node) volume × (¬ HasBirth volume.session volume.work.born volume.trees.nodes)
@@ -104,7 +104,7 @@ pub record HasPlacingNumbers (volume : Volume) : Type 0 where
   pub sequence : volume.queue.open_entry.after + 1 < 2 ^ 64
   pub changes : volume.changes + 1 < 2 ^ 64
 
--- The frozen leaves are in place: each pins the first entry that changed it since it was frozen, or none, and the buckets of those that they
+-- The frozen leaves are in place: each pins the first entry that changed it and whose keys it lacks, or none, and the buckets of those that they
 -- replaced wait for the open entry. Nothing else has changed.
 pub record AreInPlace (old new : Volume) : Type 0 where
   pub stage : IsNodeStage stages.CommitNodes old
@@ -122,7 +122,7 @@ pub record AreInPlace (old new : Volume) : Type 0 where
     changes = old.changes + 1;
   }
 
--- Why frozen leaves aren't put in place, where they are to be: a number isn't left.
+-- Why frozen leaves aren't put in place: the session has stopped writing; or, where they are to be, a number isn't left.
 abbrev pub IsPlacingRefused : Volume → Refusal → Type 0
 IsPlacingRefused volume (refusals.Halted halt) = volume.halted ≡ Some halt
 IsPlacingRefused volume refusals.Spent = IsNodeStage stages.CommitNodes volume × (¬ HasPlacingNumbers volume)

@@ -36,8 +36,8 @@ use Rattle.entry_queue.specs.declared.changes.KeyChanges.{KeyChanges}
 use Rattle.entry_queue.specs.declared.changes.Pending.{Pending}
 use Rattle.journal_ring.specs.Rings.{RingState}
 
--- How the volume lies on its devices; its session; its keys and nodes; the entries that wait to be written; the dirty nodes and the marked ones, each with the entry that it pins; the nodes that were changed since they
--- were frozen, each with the oldest entry that did; the buckets of each device; the entry that is being written, and the last durable one; the nodes that are frozen; the sequence of the newest entry that emptied
+-- How the volume lies on its devices; its session; its keys and nodes; the entries that wait to be written; the dirty nodes and the marked ones, each with the entry that it pins; the nodes that were changed, each with
+-- the oldest entry that did and whose keys a frozen one lacks, which says nothing of a node that isn't frozen; the buckets of each device; the entry that is being written, and the last durable one; the nodes that are frozen; the sequence of the newest entry that emptied
 -- buckets wait for, or 0; where the session stopped writing, if it did; and how many commits of updates and of nodes there were in it.
 pub record Volume : Type 0 where
   pub layout : Layout
@@ -94,7 +94,7 @@ is_idle volume = (length volume.pins == 0) && (none_waits volume && (length (fro
 abbrev pub has_no_updates : Pending → Bool
 has_no_updates entry = length entry.changes.updates == 0
 
--- whether no bucket waits, and nodes are dirty with keys of durable entries alone
+-- whether no bucket waits, and no entry with updates isn't durable, so that a checkpoint begun anew would end alike
 abbrev pub is_exhausted : Volume → Bool
 is_exhausted volume = none_waits volume && list_all has_no_updates (undurable_in volume)
 
@@ -230,7 +230,7 @@ abbrev pub StandInLeaves : KeyMap → Type 0
 StandInLeaves keys = (btree : Btree) → All (MayStand btree 0) (values_of (entries_of keys btree))
 
 -- What is kept of a volume. The marked nodes are exactly those that are dirty or have a dirty node
--- under them; the changes that aren't durable lead from some key map, which the durable entries mean, to the one in memory.
+-- under them; the changes that aren't durable lead from some key map, taken for what the durable entries mean, to the one in memory.
 pub record IsVolume (volume : Volume) : Type 0 where
   pub placed : is_layout volume.layout ≡ true
   pub mirrors : volume.queue.mirrors ≡ volume.layout.metadata_replicas

@@ -18,7 +18,7 @@ pub struct NoSpace {
     /// For each device its free buckets and those that are held back; it needs 0, since it is no extent that lacks a place.
     pub short: Short,
     /// A checkpoint would free none. Of a commit: no node is dirty, no bucket waits for an entry, and no node is frozen. Where a leaf is to
-    /// be frozen: no bucket waits, and all that is committed is durable.
+    /// be frozen: no bucket waits, and no entry with keys isn't durable, so that this work, begun anew, would end here again.
     pub idle: bool,
     /// How many commits of updates and of nodes there were in this session.
     pub changes: u64,

@@ -65,7 +65,8 @@ impl Volume {
     }
 
     /// Freezes the leaf of this birth. It goes over the updates that aren't durable, and takes memory for a copy of the leaf and its bytes. An
-    /// `Err` for want of free buckets ends the work on nodes; any other changes nothing.
+    /// `Err` says that no birth is left, that the leaf is too large, that a metadata device has no free bucket, which ends the work on nodes, or
+    /// that there is no memory. But for the third it changes nothing.
     pub(crate) fn freeze(&mut self, alloc: Global, node: u64) -> Result<(), Why>
         requires { IsNodeStage (Freeze node) self.old }
         ensures frozen { OnOk result (IsLeafFrozen node self.old self.new) }
@@ -143,7 +144,8 @@ impl Volume {
         Why::Refused(Refusal::NoSpace(none))
     }
 
-    /// Writes the next block of the leaf that isn't finished on every metadata device. It takes no memory.
+    /// Writes the next block of the leaf that isn't finished on every metadata device. It takes no memory. An `Err` names a device that failed: the
+    /// block is still the next one, and the metadata devices are to be flushed.
     pub(crate) fn write_node<D: Devices>(&mut self, devices: &mut D) -> Result<(), NodeFault>
         requires some { IsSome self.old.work.unfinished }
         requires layout { is_layout_of (D.state devices.old).sizes self.old.layout ≡ true }
@@ -164,7 +166,7 @@ impl Volume {
     }
 
     /// Puts all frozen leaves in place, all or none: the leaves that they replace wait for the open entry. It takes memory for their pointers,
-    /// and costs a few logarithms for each. An `Err` changes nothing.
+    /// and costs a few logarithms for each. An `Err` says that a number isn't left, or that there is no memory, and changes nothing.
     pub(crate) fn commit_nodes(&mut self, alloc: Global) -> Result<(), Why>
         requires { IsNodeStage CommitNodes self.old }
         ensures placed { OnOk result (AreInPlace self.old self.new) }

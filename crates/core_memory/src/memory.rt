@@ -103,10 +103,11 @@ impl Memory {
 
     /// Makes an event of an actor. Looks take a logarithm, and what they find, twice; a commit some logarithms for each update, and
     /// a logarithm of the dirty nodes for each node that it makes dirty. A `LookIds` shares the trees of ids, which it makes anew,
-    /// going over all ids, where a commit couldn't change them in place.
+    /// going over all ids, at first and where a commit couldn't change them in place.
     ///
     /// A `Freeze` goes over the updates that aren't durable, and costs what the bytes of its leaf do; a `CommitNodes` costs a few logarithms for
-    /// each of at most nine leaves.
+    /// each of at most nine leaves, and a step for each node that was changed since the one before. A `Settle`, and a `Freeze` that finds no
+    /// bucket, go over the groups of buckets in which one waits.
     ///
     /// `Begin`, `Intend`, `Finish`, `Drop`, `Next` and `Settle` take no memory; a `Seal` and a `Freeze` take that of the bytes.
     pub fn step(&mut self, actor: u8, event: Event) -> Answer

@@ -44,7 +44,7 @@ pub record IsTooLarge (birth : ℕ) (entries : Entries) (need : NeedSplit) : Typ
   pub size : need.size ≡ size_of entries
   pub middle : middle_of entries ≡ Some need.at
 
--- Why the leaf of this birth, with these entries, isn't frozen: no birth is left in the session, it is too large, or a metadata device has no
+-- Why the leaf of this birth, with these entries, isn't frozen: no birth is left in the session, or a node has the next one; it is too large, or a metadata device has no
 -- free bucket; want of memory has no cause.
 abbrev pub IsFreezeFault : (session born birth mirrors : ℕ) → List Levels → Entries → Space → FreezeFault → Type 0
 IsFreezeFault session born birth mirrors nodes entries space Spent = ¬ HasBirth session born nodes

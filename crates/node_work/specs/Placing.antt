@@ -48,7 +48,7 @@ places_of changes = flat_map (λ (change : Exchange). change.pointer.places) cha
 abbrev pub fresh_places : List FrozenNode → List Place
 fresh_places frozen = flat_map (λ (node : FrozenNode). node.fresh.places) frozen
 
--- pins, once frozen nodes have the births that they were written with: each pins the oldest entry that changed it since it was frozen, or none
+-- pins, once frozen nodes have the births that they were written with: each pins the oldest entry that changed it and whose keys it lacks, or none
 abbrev pub moved_pins : List FrozenNode → List (ℕ × ℕ) → List (ℕ × ℕ) → List (ℕ × ℕ)
 moved_pins [] later pins = pins
 moved_pins (node ∷ frozen) later pins = moved_pins frozen later (moved_pin node.birth node.fresh.birth (value_at nat_cmp node.birth later) pins)

@@ -35,7 +35,7 @@ pub fn frozen_leaves_are_kept()
 {}
 
 /// Frozen leaves may be put in place, and what is so then: each btree of theirs is the leaf that was written, and any other is as it was; such a leaf pins the
-/// oldest entry that changed it since it was frozen, or none, and any other node what it did; exactly those nodes are marked that are
+/// oldest entry that changed it and whose keys it lacks, or none, and any other node what it did; exactly those nodes are marked that are
 /// dirty or have a dirty node under them; and no node pins an older entry than one, where none did.
 pub fn leaves_are_put_in_place()
     ensures exchanges { (nodes : List Levels) (pins : List (ℕ × ℕ)) (frozen : List AFrozen)

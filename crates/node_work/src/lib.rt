@@ -2,8 +2,8 @@
 //! becomes of btrees, pins and buckets once all frozen nodes are written, or are given up.
 //!
 //! It works on btrees that are one leaf each, and leaves others alone. A leaf is frozen with its keys of durable entries: what later
-//! entries changed is taken back in a copy of it. Commits go on meanwhile, and what changes the leaf once it is frozen is noted, so that in
-//! its new place it pins the oldest entry whose keys it lacks.
+//! entries changed is taken back in a copy of it. Commits go on meanwhile, and the oldest entry is noted that changed the leaf and whose keys
+//! it lacks then, so that it pins that one in its new place.
 #![tactic(auto)]
 
 mod due;

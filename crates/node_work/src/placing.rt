@@ -24,9 +24,9 @@ pub fn exchanges_of(alloc: Global, frozen: &[FrozenNode]) -> Result<Vec<Exchange
     Ok(changes)
 }
 
-/// Puts pins and buckets right once frozen leaves are in place: each pins the oldest entry that changed it since it was frozen, or none, and
-/// the buckets of the leaves that they came in place of wait for the entry of this sequence. It takes no memory, and costs a
-/// logarithm of the marked nodes for each.
+/// Puts pins and buckets right once frozen leaves are in place: each pins the oldest entry that changed it and whose keys it lacks, or none,
+/// and the buckets of the leaves that they came in place of wait for the entry of this sequence. It takes no memory, and costs a
+/// logarithm of the marked nodes for each, and a step for each node that was changed since leaves were put in place before.
 pub fn put_in_place(
     frozen: &[FrozenNode],
     replaced: &[Exchange],
@@ -47,8 +47,9 @@ pub fn put_in_place(
     empty_replaced(replaced, pool, sequence);
 }
 
-/// Gives frozen leaves up, which no entry names: what changed them since they were frozen is forgotten, and their buckets are free again.
-/// `durable` is the sequence of the last durable entry. It takes no memory.
+/// Gives frozen leaves up, which no entry names: what was noted of changed nodes is forgotten, and their buckets are free again.
+/// `durable` is the sequence of the last durable entry. It takes no memory. It costs a step for each node that was changed, and goes over the
+/// buckets of the groups in which one waits or is open.
 pub fn give_up(frozen: &[FrozenNode], dirty: &mut DirtyNodes, pool: &mut Pool, durable: u64)
     ensures pins { dirty.new.pins ≡ dirty.old.pins }
     ensures marks { dirty.new.marks ≡ dirty.old.marks }
