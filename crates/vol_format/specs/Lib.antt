@@ -1,0 +1,4 @@
+pub mod Fresh
+pub mod Formatting
+pub mod Laws
+pub mod Steps
