@@ -13,6 +13,7 @@ use Rattle.entry_writer.specs.Writers.{unsettled_by, with_flags}
 use Rattle.journal_safety.specs.Flushes.{AreFlushed}
 use Rattle.journal_safety.specs.NodeWritings.{IsSafeWithNodes}
 use Rattle.journal_safety.specs.Parts.{standing_by}
+use Rattle.journal_safety.specs.Safety.{IsSafe}
 use Rattle.image_view.specs.Found.{Found}
 use Rattle.node_safety.specs.NodeParts.{IsNodePartWritten}
 use Rattle.node_writer.specs.NodeWork.{IsUnfinished, NodeWork, advanced, with_part}
@@ -74,6 +75,10 @@ module _ (laws : CoreLaws) (begun : Found) (start : DevicesState) (volume : Volu
 
     same : AreSameLeaves (with_last before last (standing_by failed unfinished.written) (leaves_in volume)) (leaves_in (with_block_by failed volume))
     same = record { root = λ btree. refl; pin = λ btree. refl; fresh = leaves_after volume.later volume.work unfinished failed left; space = refl }
+
+    -- Whatever a crash leaves then means one of the bases from before.
+    pub block_safe : IsSafe kept.f.layout kept.bases kept.durable start.moment new
+    block_safe = written.0.safe
 
     -- A block is written, or a device failed.
     pub block_written_on : IsCoreSafe begun start new (with_block_by failed volume)

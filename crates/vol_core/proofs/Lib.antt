@@ -4,6 +4,7 @@ pub mod Frozen
 pub mod GivenUp
 pub mod HeldLeaves
 pub mod Joined
+pub mod KeptDurable
 pub mod KnownParts
 pub mod NamedRoots
 pub mod NeededEntries

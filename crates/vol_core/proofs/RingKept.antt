@@ -23,7 +23,7 @@ use Rattle.core_memory.specs.Checkpoints.{AreInPlace, IsLeafFrozen, after_refuse
 use Rattle.core_memory.specs.Commits.{IsCommitted}
 use Rattle.core_memory.specs.Rulings.{entry_of}
 use Rattle.core_memory.specs.Sealing.{IsFlown, next_record, oldest_needed, roots_in, settled_volume, with_writer}
-use Rattle.core_memory.specs.Volumes.{IsVolume, Volume, birth_due, halted_at, in_flight, last_sealed, node_stage_by, undurable_in}
+use Rattle.core_memory.specs.Volumes.{IsVolume, Volume, birth_due, halted_at, in_flight, last_sealed, needs_entry, node_stage_by, undurable_in}
 use Rattle.core_memory.specs.declared.answer.Halt.{Halt}
 use Rattle.core_memory.specs.declared.answer.Refusal.{Refusal}
 use Rattle.core_memory.specs.declared.answer.Refusal.TheVariants as refusals
@@ -59,11 +59,12 @@ use Rattle.vol_types.specs.declared.pointers.Place.{Place}
 use Rattle.vol_types.specs.declared.positions.Btree.{Btree}
 use Rattle.vol_types.specs.declared.positions.Pos.{Pos}
 use Rattle.vol_core.specs.Entries.{AreStarts, entries_with}
-use Rattle.vol_core.specs.Rested.{AreInARow, ArePinnedRoots, ArePinnedTo, IsNextTo, KeepsRing, last_start, newest_changed}
+use Rattle.vol_core.specs.Rested.{AreInARow, ArePinnedRoots, ArePinnedTo, DoCommitsRise, IsNextTo, KeepsRing, last_start, newest_changed}
 use Rattle.vol_core.specs.Safety.{IsCoreSafe}
 use Rattle.vol_core.specs.CoreLaws.{PlaceLaws}
 use Rattle.vol_core.proofs.NamedRoots.{nine_roots}
 use Rattle.vol_core.proofs.NeededEntries.{starts_count}
+use Rattle.vol_core.proofs.Stages.{sealing_is_free}
 
 -- ---- nodes that are pinned
 
@@ -182,10 +183,10 @@ newest_here false changes counted queue some =
     newest_some (length (queue.open_entry.changes.updates ++ changes.updates)) queue.open_entry.after (omega (arith, all, some))
 
 -- The open entry is another one in its place.
-row_open : (mirrors : ℕ) (closed : List Pending) (one other : Pending) → other.after ≡ one.after → other.behind ≡ one.behind → AreInARow mirrors closed one → AreInARow mirrors closed other
-row_open mirrors [] one other after behind row = tt
-row_open mirrors (entry ∷ []) one other after behind row = (record { sequence = after ∙ row.0.sequence; blocks = behind ∙ row.0.blocks }, tt)
-row_open mirrors (entry ∷ next ∷ later) one other after behind row = (row.0, row_open mirrors (next ∷ later) one other after behind row.1)
+row_open : (mirrors : ℕ) (closed : List Pending) (one other : Pending) → other.after ≡ one.after → other.behind ≡ one.behind → one.commits ≤ other.commits → AreInARow mirrors closed one → AreInARow mirrors closed other
+row_open mirrors [] one other after behind more row = tt
+row_open mirrors (entry ∷ []) one other after behind more row = (record { sequence = after ∙ row.0.sequence; blocks = behind ∙ row.0.blocks; commits = let before = row.0.commits in omega (arith, before, more) }, tt)
+row_open mirrors (entry ∷ next ∷ later) one other after behind more row = (row.0, row_open mirrors (next ∷ later) one other after behind more row.1)
 
 -- The open entry is closed, and another one follows it.
 row_push : (mirrors : ℕ) (closed : List Pending) (entry new : Pending) → IsNextTo mirrors entry new → AreInARow mirrors closed entry → AreInARow mirrors (closed ++ entry ∷ []) new
@@ -195,8 +196,8 @@ row_push mirrors (one ∷ two ∷ closed) entry new next row = (row.0, row_push 
 
 row_joined : (close : Bool) (changes : KeyChanges) (counted : Bool) (queue : Queue) → AreInARow queue.mirrors queue.closed queue.open_entry
     → AreInARow (joined_by close changes counted queue).mirrors (joined_by close changes counted queue).closed (joined_by close changes counted queue).open_entry
-row_joined true changes counted queue row = row_push queue.mirrors queue.closed queue.open_entry (with_commit changes counted (follower_of queue.mirrors queue.open_entry)) (record { sequence = refl; blocks = refl }) row
-row_joined false changes counted queue row = row_open queue.mirrors queue.closed queue.open_entry (with_commit changes counted queue.open_entry) refl refl row
+row_joined true changes counted queue row = row_push queue.mirrors queue.closed queue.open_entry (with_commit changes counted (follower_of queue.mirrors queue.open_entry)) (record { sequence = refl; blocks = refl; commits = omega arith }) row
+row_joined false changes counted queue row = row_open queue.mirrors queue.closed queue.open_entry (with_commit changes counted queue.open_entry) refl refl (omega arith) row
 
 first_push : (closed : List Pending) (entry new : Pending) → first_of (closed ++ entry ∷ []) new ≡ first_of closed entry
 first_push [] entry new = refl
@@ -209,6 +210,21 @@ first_open (entry ∷ closed) one other same = refl
 oldest_joined : (close : Bool) (changes : KeyChanges) (counted : Bool) (queue : Queue) → (oldest (joined_by close changes counted queue)).behind ≡ (oldest queue).behind
 oldest_joined true changes counted queue = ap (λ (entry : Pending). entry.behind) (first_push queue.closed queue.open_entry (with_commit changes counted (follower_of queue.mirrors queue.open_entry)))
 oldest_joined false changes counted queue = first_open queue.closed queue.open_entry (with_commit changes counted queue.open_entry) refl
+
+first_more : (closed : List Pending) (one other : Pending) → one.commits ≤ other.commits → (first_of closed one).commits ≤ (first_of closed other).commits
+first_more [] one other more = more
+first_more (entry ∷ closed) one other more = omega arith
+
+-- The next entry has no fewer commits after a commit.
+commits_joined : (close : Bool) (changes : KeyChanges) (counted : Bool) (queue : Queue) → (oldest queue).commits ≤ (oldest (joined_by close changes counted queue)).commits
+commits_joined true changes counted queue =
+    subst (λ (n : ℕ). (oldest queue).commits ≤ n) (ap (λ (entry : Pending). entry.commits) (sym (first_push queue.closed queue.open_entry (with_commit changes counted (follower_of queue.mirrors queue.open_entry))))) (omega arith)
+commits_joined false changes counted queue = first_more queue.closed queue.open_entry (with_commit changes counted queue.open_entry) (omega arith)
+
+-- Commits still rise where the next entry has more.
+rise_more : (flight : Option Flight) (durable next later : ℕ) → next ≤ later → DoCommitsRise flight durable next → DoCommitsRise flight durable later
+rise_more None durable next later more rise = omega (arith, more, rise)
+rise_more (Some flight) durable next later more rise = (rise.0, let before = rise.1 in omega (arith, more, before))
 
 -- ---- a commit
 
@@ -249,6 +265,9 @@ module _ (volume : Volume) (ring : KeepsRing volume) (one : HaveOneNode volume.t
     later = joined_to volume.later ring.later;
     row = row_joined (closes updates volume.queue) (changes_of updates (keys_in volume.trees)) counted volume.queue ring.row;
     behind = subst (λ (n : ℕ). n ≤ volume.writer.ring.next) (sym (oldest_joined (closes updates volume.queue) (changes_of updates (keys_in volume.trees)) counted volume.queue)) ring.behind;
+    commits =
+        rise_more volume.writer.flight volume.writer.durable.commits (oldest volume.queue).commits (oldest (joined (changes_of updates (keys_in volume.trees)) counted volume.queue)).commits
+        (commits_joined (closes updates volume.queue) (changes_of updates (keys_in volume.trees)) counted volume.queue) ring.commits;
     first = ring.first;
     few = ring.few;
   }
@@ -271,11 +290,11 @@ passed_within oldest writer = omega arith
 
 -- The entry in flight becomes the last durable one.
 pub ring_settled : (volume : Volume) → KeepsRing volume → KeepsRing (settled_volume volume)
-ring_settled volume ring = by volume.writer.flight
+ring_settled volume ring = by volume.writer.flight ring.commits
   where
-    by : (flight : Option Flight) → KeepsRing (record (with_writer (settled_by flight volume.writer) volume) { space = (settled_volume volume).space })
-    by None = record { rises = ring.rises; later_rises = ring.later_rises; nodes = ring.nodes; pins = ring.pins; later = ring.later; row = ring.row; behind = ring.behind; first = ring.first; few = ring.few }
-    by (Some flight) = record {
+    by : (flight : Option Flight) → DoCommitsRise flight volume.writer.durable.commits (oldest volume.queue).commits → KeepsRing (record (with_writer (settled_by flight volume.writer) volume) { space = (settled_volume volume).space })
+    by None rise = record { rises = ring.rises; later_rises = ring.later_rises; nodes = ring.nodes; pins = ring.pins; later = ring.later; row = ring.row; behind = ring.behind; commits = ring.commits; first = ring.first; few = ring.few }
+    by (Some flight) rise = record {
       rises = ring.rises;
       later_rises = ring.later_rises;
       nodes = ring.nodes;
@@ -283,6 +302,7 @@ ring_settled volume ring = by volume.writer.flight
       later = ring.later;
       row = ring.row;
       behind = ring.behind;
+      commits = rise.1;
       first = refl;
       few = subst (λ (n : ℕ). volume.writer.ring.next ≤ n + 64) (sym (last_stays (passed flight.oldest volume.writer) volume.writer.starts (passed_within flight.oldest volume.writer))) ring.few;
     }
@@ -315,6 +335,11 @@ row_left (entry ∷ later) queue row = row.1
 oldest_left : (closed : List Pending) (queue : Queue) → AreInARow queue.mirrors closed queue.open_entry → (oldest (left_by closed queue)).behind ≡ last_of queue.mirrors (first_of closed queue.open_entry)
 oldest_left [] queue row = refl
 oldest_left (entry ∷ later) queue row = row.0.blocks
+
+-- And it has no fewer commits.
+commits_left : (closed : List Pending) (queue : Queue) → AreInARow queue.mirrors closed queue.open_entry → (first_of closed queue.open_entry).commits ≤ (oldest (left_by closed queue)).commits
+commits_left [] queue row = omega arith
+commits_left (entry ∷ later) queue row = row.0.commits
 
 first_stays : (starts more : List ℕ) → 0 < length starts → first_start (starts ++ more) ≡ first_start starts
 first_stays starts more some = get_or_append_left starts more 0 0 some
@@ -359,6 +384,10 @@ module _ (begun : Found) (start state : DevicesState) (volume : Volume) (is : Is
           let parts = parts_are in
           let before = ring.behind in
           omega (arith, next, count, parts, before);
+      commits = (
+        subst (λ (flight : Option Flight). DoCommitsRise flight volume.writer.durable.commits (oldest volume.queue).commits) (sealing_is_free volume.writer volume.writer.flight (needs_entry volume) flown.stage.stage_is) ring.commits,
+        commits_left volume.queue.closed volume.queue ring.row,
+      );
       first = ring.first ∙ sym (first_stays volume.writer.starts (volume.writer.ring.next ∷ []) (some_start safe.writing volume.writer.starts safe.f.needed safe.starts safe.known.some));
       few =
           let count : length new.writer.ring.blocks ≡ parts_of (next_record volume) = flown.sealed.blocks.count in
@@ -435,6 +464,7 @@ ring_frozen volume is ring node new frozen = subst KeepsRing (sym frozen.rest) (
   later = λ birth number at. by birth number (is_at (nat_cmp node) birth) (sym (value_at-put_at nat_cmp_total node (first_with frozen.btree (undurable_in volume)) birth volume.later ring.later_rises) ∙ at);
   row = ring.row;
   behind = ring.behind;
+  commits = ring.commits;
   first = ring.first;
   few = ring.few;
 })
@@ -551,6 +581,7 @@ module _ (places : PlaceLaws) (volume : Volume) (is : IsVolume volume) (ring : K
     later = λ birth number at. absurd (none-some number at);
     row = ring.row;
     behind = ring.behind;
+    commits = ring.commits;
     first = ring.first;
     few = ring.few;
   })
@@ -566,6 +597,7 @@ ring_given_up volume ring = record {
   later = λ birth number at. absurd (none-some number at);
   row = ring.row;
   behind = ring.behind;
+  commits = ring.commits;
   first = ring.first;
   few = ring.few;
 }
@@ -581,8 +613,8 @@ ring_refused (refusals.NoSpace none) volume ring = ring_given_up volume ring
 -- ---- parts and blocks that are written, devices that are flushed, and a session that stops writing
 
 -- The ring is kept where of the writer only what is written and what isn't settled has changed.
-ring_with : (volume : Volume) (writer : Writer) → writer.ring.next ≡ volume.writer.ring.next → writer.starts ≡ volume.writer.starts → writer.durable ≡ volume.writer.durable → KeepsRing volume → KeepsRing (with_writer writer volume)
-ring_with volume writer next starts durable ring = record {
+ring_with : (volume : Volume) (writer : Writer) → writer.ring.next ≡ volume.writer.ring.next → writer.starts ≡ volume.writer.starts → writer.durable ≡ volume.writer.durable → writer.flight ≡ volume.writer.flight → KeepsRing volume → KeepsRing (with_writer writer volume)
+ring_with volume writer next starts durable flight ring = record {
   rises = ring.rises;
   later_rises = ring.later_rises;
   nodes = ring.nodes;
@@ -590,21 +622,24 @@ ring_with volume writer next starts durable ring = record {
   later = ring.later;
   row = ring.row;
   behind = subst (λ (n : ℕ). (oldest volume.queue).behind ≤ n) (sym next) ring.behind;
+  commits =
+      subst (λ (o : Option Flight). DoCommitsRise o writer.durable.commits (oldest volume.queue).commits) (sym flight)
+      (subst (λ (d : Durable). DoCommitsRise volume.writer.flight d.commits (oldest volume.queue).commits) (sym durable) ring.commits);
   first = ap (λ (d : Durable). d.first) durable ∙ ring.first ∙ ap first_start (sym starts);
   few = subst (λ (n : ℕ). n ≤ last_start writer.starts + 64) (sym next) (subst (λ (s : List ℕ). volume.writer.ring.next ≤ last_start s + 64) (sym starts) ring.few);
 }
 
 pub ring_part : (volume : Volume) → KeepsRing volume → KeepsRing (with_writer (with_next_part volume.writer) volume)
-ring_part volume ring = ring_with volume (with_next_part volume.writer) refl refl refl ring
+ring_part volume ring = ring_with volume (with_next_part volume.writer) refl refl refl refl ring
 
 pub ring_unsettled : (volume : Volume) → KeepsRing volume → KeepsRing (with_writer (unsettled_by volume.writer) volume)
-ring_unsettled volume ring = ring_with volume (unsettled_by volume.writer) refl refl refl ring
+ring_unsettled volume ring = ring_with volume (unsettled_by volume.writer) refl refl refl refl ring
 
 pub ring_flushed : (volume : Volume) (dev : ℕ) → KeepsRing volume → KeepsRing (with_writer (with_flushed dev volume.writer) volume)
-ring_flushed volume dev ring = ring_with volume (with_flushed dev volume.writer) refl refl refl ring
+ring_flushed volume dev ring = ring_with volume (with_flushed dev volume.writer) refl refl refl refl ring
 
 pub ring_halted : (volume : Volume) (halt : Halt) → KeepsRing volume → KeepsRing (halted_at halt volume)
-ring_halted volume halt ring = record { rises = ring.rises; later_rises = ring.later_rises; nodes = ring.nodes; pins = ring.pins; later = ring.later; row = ring.row; behind = ring.behind; first = ring.first; few = ring.few }
+ring_halted volume halt ring = record { rises = ring.rises; later_rises = ring.later_rises; nodes = ring.nodes; pins = ring.pins; later = ring.later; row = ring.row; behind = ring.behind; commits = ring.commits; first = ring.first; few = ring.few }
 
 pub ring_block : (volume : Volume) → KeepsRing volume → KeepsRing (with_block volume)
-ring_block volume ring = record { rises = ring.rises; later_rises = ring.later_rises; nodes = ring.nodes; pins = ring.pins; later = ring.later; row = ring.row; behind = ring.behind; first = ring.first; few = ring.few }
+ring_block volume ring = record { rises = ring.rises; later_rises = ring.later_rises; nodes = ring.nodes; pins = ring.pins; later = ring.later; row = ring.row; behind = ring.behind; commits = ring.commits; first = ring.first; few = ring.few }

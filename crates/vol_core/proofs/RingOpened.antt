@@ -94,6 +94,7 @@ module _ (layout : Layout) (session : ℕ) (trees : Trees) (needed : List FoundE
     later = λ birth number at. absurd (none-some number at);
     row = tt;
     behind = omega arith;
+    commits = omega arith;
     first = refl;
     few = let start = last_begins entry.end needed entry last in omega (arith, start, few);
   }

@@ -34,6 +34,7 @@ use Rattle.vol_types.specs.declared.keys.Update.{Update}
 use Rattle.vol_types.specs.declared.layout.Layout.{Layout}
 use Rattle.vol_types.specs.declared.pointers.NodePtr.{NodePtr}
 use Rattle.vol_core.specs.Entries.{AreInLeaves, AreStarts, FliesAs, IsInLeaf, entries_with}
+use Rattle.vol_core.specs.Rested.{DoCommitsRise}
 use Rattle.vol_core.specs.Safety.{IsCoreSafe, IsLed}
 use Rattle.vol_core.specs.VolumeLeaves.{leaves_in}
 use Rattle.vol_core.proofs.Chains.{chain_push, first_stays}
@@ -78,7 +79,8 @@ later_leaves (entry ∷ later) queue are = All-tail AllInLeaves entry.changes (c
 
 module _ (laws : CoreLaws) (begun : Found) (start : DevicesState) (volume : Volume) (is : IsVolume volume) (state : DevicesState) (kept : IsCoreSafe begun start state volume) where
   module _ (blocks : List (List ℕ)) (writer : Writer) (free : volume.writer.flight ≡ None) (safe : IsSafeWithNodes kept.f kept.image None 0 0 kept.bases kept.durable start.moment state) (leaves : KeepsLeaves kept.f None state (leaves_in volume)) (starts : AreStarts volume.writer.starts kept.f.needed)
-      (end : kept.f.last.end ≡ volume.writer.ring.next) (sealed : IsSealed (oldest volume.queue) (oldest_needed volume) volume.session (roots_in volume.trees.nodes) volume.writer writer) (same : writer.ring.blocks ≡ blocks) (from : min volume.writer.durable.oldest volume.writer.durable.sequence ≤ oldest_needed volume) where
+      (end : kept.f.last.end ≡ volume.writer.ring.next) (sealed : IsSealed (oldest volume.queue) (oldest_needed volume) volume.session (roots_in volume.trees.nodes) volume.writer writer) (same : writer.ring.blocks ≡ blocks) (from : min volume.writer.durable.oldest volume.writer.durable.sequence ≤ oldest_needed volume)
+      (rises : volume.writer.durable.commits ≤ (oldest volume.queue).commits) where
     abbrev f : Found
     f = kept.f
 
@@ -169,7 +171,8 @@ module _ (laws : CoreLaws) (begun : Found) (start : DevicesState) (volume : Volu
             let w_leaves : All IsOfLeaf w.next.entry.updates = subst (λ (n : FoundEntry). All IsOfLeaf n.entry.updates) (sym next_is) are_of_leaves in
             let w_keys : w.trees.keys ≡ with_updates w.next.entry.updates f.trees.keys = subst (λ (n : FoundEntry). w.trees.keys ≡ with_updates n.entry.updates f.trees.keys) (sym next_is) made.4 in
             let w_sequence : w.next.entry.sequence ≡ f.last.entry.sequence + 1 = subst (λ (n : FoundEntry). n.entry.sequence ≡ f.last.entry.sequence + 1) (sym next_is) sequence in
-            let led : IsLed f (after w f) = record { w = w; is = refl; sequence = w_sequence; leaves = w_leaves; keys = w_keys } in
+            let w_commits : f.last.entry.commits ≤ w.next.entry.commits = subst (λ (n : FoundEntry). f.last.entry.commits ≤ n.entry.commits) (sym next_is) (let known = kept.known.commits in omega (arith, known, rises)) in
+            let led : IsLed f (after w f) = record { w = w; is = refl; sequence = w_sequence; commits = w_commits; leaves = w_leaves; keys = w_keys } in
             let count : length blocks ≡ parts_of entry = are_blocks.count in
             let same_count : length w.blocks ≡ length blocks = ap (λ (bs : List (List ℕ)). length bs) blocks_are in
             record {
@@ -207,9 +210,9 @@ module _ (laws : CoreLaws) (begun : Found) (start : DevicesState) (volume : Volu
               };
             }
 
-  -- The oldest entry that waits is put in flight. It needs the last durable one's oldest or later ones.
-  pub flown_on : (new : Volume) → IsFlown volume new → min volume.writer.durable.oldest volume.writer.durable.sequence ≤ oldest_needed volume → IsCoreSafe begun start state new
-  flown_on new flown order = subst (IsCoreSafe begun start state) (sym new_is) (by volume.writer.flight kept.writing refl (sealing_is_free volume.writer volume.writer.flight (needs_entry volume) flown.stage.stage_is) kept.asked kept.written kept.safe kept.kept kept.starts kept.flying)
+  -- The oldest entry that waits is put in flight. It needs the last durable one's oldest or later ones, and has no fewer commits.
+  pub flown_on : (new : Volume) → IsFlown volume new → min volume.writer.durable.oldest volume.writer.durable.sequence ≤ oldest_needed volume → DoCommitsRise volume.writer.flight volume.writer.durable.commits (oldest volume.queue).commits → IsCoreSafe begun start state new
+  flown_on new flown order rise = subst (IsCoreSafe begun start state) (sym new_is) (by volume.writer.flight kept.writing refl (sealing_is_free volume.writer volume.writer.flight (needs_entry volume) flown.stage.stage_is) kept.asked kept.written kept.safe kept.kept kept.starts kept.flying)
     where
       new_is : new ≡ record volume { queue = without_oldest volume.queue; writer = with_entry new.writer.ring.blocks (oldest volume.queue) (oldest_needed volume) volume.writer }
       new_is = flown.rest ∙ ap (λ (writer : Writer). record volume { queue = without_oldest volume.queue; writer = writer }) flown.sealed.is
@@ -224,3 +227,4 @@ module _ (laws : CoreLaws) (begun : Found) (start : DevicesState) (volume : Volu
           subst (λ (n : ℕ). IsSafeWithNodes kept.f kept.image None 0 n kept.bases kept.durable start.moment state) flying.unwritten
           (subst (λ (n : ℕ). IsSafeWithNodes kept.f kept.image None n written kept.bases kept.durable start.moment state) flying.unasked safe) in
           flown_one new.writer.ring.blocks new.writer flies at_rest leaves starts flying.end flown.sealed refl order
+          (subst (λ (flight : Option Flight). DoCommitsRise flight volume.writer.durable.commits (oldest volume.queue).commits) flies rise)

@@ -31,6 +31,7 @@ use Rattle.node_writer.specs.declared.node.UnfinishedNode.{UnfinishedNode}
 use Rattle.vol_types.specs.declared.keys.Update.{Update}
 use Rattle.vol_core.specs.Cores.{CoreState, StepGives}
 use Rattle.vol_core.specs.Entries.{IsInLeaf}
+use Rattle.vol_core.specs.Rested.{KeepsRing}
 use Rattle.vol_core.specs.Safety.{IsCoreSafe}
 use Rattle.vol_core.proofs.BlockWritten.{block_written_on, with_block_by}
 use Rattle.vol_core.specs.CoreLaws.{CoreLaws}
@@ -45,14 +46,14 @@ use Rattle.vol_core.proofs.Settled.{settled_on}
 use Rattle.vol_core.proofs.Written.{flushed_on, halted_on, written_on}
 
 -- Devices that tell had a part written.
-part_written : (tells : Type 0) → tells → (ring : RingState) (failed : Option ℕ) (old new : DevicesState) → WritesPart tells ring failed old new → IsPartWritten ring failed old new
+pub part_written : (tells : Type 0) → tells → (ring : RingState) (failed : Option ℕ) (old new : DevicesState) → WritesPart tells ring failed old new → IsPartWritten ring failed old new
 part_written tells told ring failed old new part = record {
   at = record { crashes = part.crashes told; elsewhere = part.elsewhere told; asks = part.asks told };
   held = λ stand none. part.held told stand none;
 }
 
 -- Devices that tell had a block of a node written.
-block_part : (tells : Type 0) → tells → (blocked : Blocked) (part : ℕ) (failed : Option ℕ) (old new : DevicesState) → WritesNodePart tells blocked part failed old new → IsNodePartWritten blocked part failed old new
+pub block_part : (tells : Type 0) → tells → (blocked : Blocked) (part : ℕ) (failed : Option ℕ) (old new : DevicesState) → WritesNodePart tells blocked part failed old new → IsNodePartWritten blocked part failed old new
 block_part tells told blocked part failed old new calls = record {
   at = record { crashes = calls.crashes told; elsewhere = calls.elsewhere told; asks = calls.asks told };
   lengths = calls.lengths told;
@@ -60,18 +61,18 @@ block_part tells told blocked part failed old new calls = record {
 }
 
 -- Where the answer is a stage, or a refusal, no device was called.
-block_told : (tells : Type 0) (unfinished : Option UnfinishedNode) (stage : Stage) (durable : Bool) (old new : DevicesState) → WritesNode tells unfinished (answers.At stage durable) old new → new ≡ old
+pub block_told : (tells : Type 0) (unfinished : Option UnfinishedNode) (stage : Stage) (durable : Bool) (old new : DevicesState) → WritesNode tells unfinished (answers.At stage durable) old new → new ≡ old
 block_told tells None stage durable old new calls = calls
 block_told tells (Some unfinished) stage durable old new calls = calls
 
-block_refused : (tells : Type 0) (unfinished : Option UnfinishedNode) (refusal : Refusal) (old new : DevicesState) → WritesNode tells unfinished (answers.Refused refusal) old new → new ≡ old
+pub block_refused : (tells : Type 0) (unfinished : Option UnfinishedNode) (refusal : Refusal) (old new : DevicesState) → WritesNode tells unfinished (answers.Refused refusal) old new → new ≡ old
 block_refused tells None refusal old new calls = calls
 block_refused tells (Some unfinished) refusal old new calls = calls
 
-abbrev flush_done : Result (Unit {0}) (Unit {0})
+abbrev pub flush_done : Result (Unit {0}) (Unit {0})
 flush_done = Ok tt
 
-abbrev flush_failed : Result (Unit {0}) (Unit {0})
+abbrev pub flush_failed : Result (Unit {0}) (Unit {0})
 flush_failed = Err tt
 
 -- Where an actor waits for another one, nothing changes.
@@ -84,7 +85,7 @@ intended_leaves : (mirrors : ℕ) (intended : Option (List Update)) → IfSome i
 intended_leaves mirrors None are = All-nil IsInLeaf
 intended_leaves mirrors (Some updates) are = are.leaves
 
-module _ (laws : CoreLaws) (begun : Found) (start : DevicesState) (old new : DevicesState) (memory : State) (is : IsState memory) (parts : KeepParts memory.volume) (kept : IsCoreSafe begun start old memory.volume) where
+module _ (laws : CoreLaws) (begun : Found) (start : DevicesState) (old new : DevicesState) (memory : State) (is : IsState memory) (parts : KeepParts memory.volume) (ring : KeepsRing memory.volume) (kept : IsCoreSafe begun start old memory.volume) where
   -- Nothing of the volume changes, and no device is called.
   same_on : (after : State) → new ≡ old → after.volume ≡ memory.volume → IsCoreSafe begun start new after.volume
   same_on after stays same = subst (λ (state : DevicesState). IsCoreSafe begun start state after.volume) (sym stays) (subst (IsCoreSafe begun start old) (sym same) kept)
@@ -120,7 +121,7 @@ module _ (laws : CoreLaws) (begun : Found) (start : DevicesState) (old new : Dev
   remembered_on actor (events.Commit counted) (answers.Wait holder) after stays own gives = absurd gives
   remembered_on actor (events.Commit counted) (answers.DeviceFault dev) after stays own gives = absurd gives
   remembered_on actor events.Seal answers.Done after stays own gives =
-      subst (λ (s : DevicesState). IsCoreSafe begun start s after.volume) (sym stays) (flown_on laws begun start memory.volume is.volume old kept after.volume gives.0 (needed-between memory.volume is.volume).0)
+      subst (λ (s : DevicesState). IsCoreSafe begun start s after.volume) (sym stays) (flown_on laws begun start memory.volume is.volume old kept after.volume gives.0 (needed-between memory.volume is.volume).0 ring.commits)
   remembered_on actor events.Seal (answers.At stage durable) after stays own gives = at_same after _ stays gives.1.1 refl
   remembered_on actor events.Seal (answers.Refused refusal) after stays own gives = at_same after _ stays gives.1 refl
   remembered_on actor events.Seal answers.NoMemory after stays own gives = at_same after _ stays gives refl
@@ -213,15 +214,15 @@ module _ (laws : CoreLaws) (begun : Found) (start : DevicesState) (old new : Dev
     block_any node tick actor (answers.Wait holder) after gives calls = absurd gives
 
 module _ {D : Type 0} (laws : CoreLaws) (begun : Found) (start : DevicesState) (tells : Type 0) (told : tells) (state : D → DevicesState) (old new : CoreState D) (is : IsState old.memory) (parts : KeepParts old.memory.volume)
-    (kept : IsCoreSafe begun start (state old.devices) old.memory.volume) (disks : All IsDisk (now (state new.devices))) (steady : AreSteady (state new.devices)) where
+    (ring : KeepsRing old.memory.volume) (kept : IsCoreSafe begun start (state old.devices) old.memory.volume) (disks : All IsDisk (now (state new.devices))) (steady : AreSteady (state new.devices)) where
   remembered : (actor : ℕ) (event : Event) (answer : Answer) → IsOfMemory event → EventGives old.memory actor event answer new.memory × (new.devices ≡ old.devices) → IsCoreSafe begun start (state new.devices) new.memory.volume
-  remembered actor event answer own gives = remembered_on laws begun start (state old.devices) (state new.devices) old.memory is parts kept actor event answer new.memory (ap state gives.1) own gives.0
+  remembered actor event answer own gives = remembered_on laws begun start (state old.devices) (state new.devices) old.memory is parts ring kept actor event answer new.memory (ap state gives.1) own gives.0
 
   -- The core stays safe whatever event an actor makes.
   pub stepped : (actor : ℕ) (event : Event) (answer : Answer) → StepGives tells state old actor event answer new → IsCoreSafe begun start (state new.devices) new.memory.volume
-  stepped actor events.WriteEntry answer gives = written_any laws begun start (state old.devices) (state new.devices) old.memory is parts kept tells told disks steady (state new.devices).moment actor answer new.memory gives.0 gives.1
-  stepped actor (events.Flush dev) answer gives = flushed_any laws begun start (state old.devices) (state new.devices) old.memory is parts kept tells told disks steady dev (state new.devices).moment actor answer new.memory gives.0 gives.1
-  stepped actor (events.WriteSet node) answer gives = block_any laws begun start (state old.devices) (state new.devices) old.memory is parts kept tells told disks steady node (state new.devices).moment actor answer new.memory gives.0 gives.1
+  stepped actor events.WriteEntry answer gives = written_any laws begun start (state old.devices) (state new.devices) old.memory is parts ring kept tells told disks steady (state new.devices).moment actor answer new.memory gives.0 gives.1
+  stepped actor (events.Flush dev) answer gives = flushed_any laws begun start (state old.devices) (state new.devices) old.memory is parts ring kept tells told disks steady dev (state new.devices).moment actor answer new.memory gives.0 gives.1
+  stepped actor (events.WriteSet node) answer gives = block_any laws begun start (state old.devices) (state new.devices) old.memory is parts ring kept tells told disks steady node (state new.devices).moment actor answer new.memory gives.0 gives.1
   stepped actor (events.Begin first) answer gives = remembered actor (events.Begin first) answer tt gives
   stepped actor (events.Look query) answer gives = remembered actor (events.Look query) answer tt gives
   stepped actor events.LookIds answer gives = remembered actor events.LookIds answer tt gives

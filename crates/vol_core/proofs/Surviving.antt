@@ -27,7 +27,9 @@ survives stands begun start state volume kept = record {
   past = kept.past;
   last = kept.f;
   last_is = last_durable kept.f kept.writing kept.bases kept.durable kept.safe.bases_are;
+  sequence = kept.known.sequence;
   commits = kept.known.commits;
+  lead = kept.lead;
   whole = λ image may index within.
       subst (λ (layout : Layout). StandsOnAll layout image (slice_index_or kept.f.needed index kept.f.last)) kept.known.layout
       (stands kept.f kept.image kept.writing kept.asked kept.written kept.bases kept.durable start.moment state kept.safe image may index within);

@@ -16,6 +16,7 @@ use Rattle.image_view.specs.Found.{Found}
 use Rattle.journal_safety.specs.Flushes.{AreFlushed, Flushes, flags_by}
 use Rattle.journal_safety.specs.Parts.{IsPartWritten, IsRingOf, standing_by}
 use Rattle.journal_safety.specs.NodeWritings.{IsSafeWithNodes}
+use Rattle.journal_safety.specs.Safety.{IsSafe}
 use Rattle.journal_safety.specs.Standing.{AreSteady}
 use Rattle.journal_safety.specs.Writings.{Writing}
 use Rattle.vol_core.specs.Entries.{AreStarts, FliesAs, entries_with}
@@ -78,12 +79,15 @@ pub flags_stay : (count : ℕ) (flags : List Bool) → length flags ≤ length (
 flags_stay count flags = omega (arith, length-append (replicate count true) (drop count flags), length-replicate count true, length-drop count flags)
 
 module _ (laws : CoreLaws) (begun : Found) (start : DevicesState) (volume : Volume) (is : IsVolume volume) (old new : DevicesState) (kept : IsCoreSafe begun start old volume) (disks : All IsDisk (now new)) (steady : AreSteady new) where
-  -- A part is written, or a device failed.
-  pub written_on : (failed : Option ℕ) → stage_of volume ≡ WriteEntry → IsPartWritten volume.writer.ring failed old new → IsCoreSafe begun start new (written_by failed volume)
-  written_on failed stage part = by volume.writer.flight kept.writing refl kept.safe kept.starts kept.kept kept.flying stage
+  -- whatever a crash has left means one of the bases from before, and the core is safe
+  abbrev BothSafe : Volume → Type 0
+  BothSafe after_it = IsSafe kept.f.layout kept.bases kept.durable start.moment new × IsCoreSafe begun start new after_it
+
+  both_written : (failed : Option ℕ) → stage_of volume ≡ WriteEntry → IsPartWritten volume.writer.ring failed old new → BothSafe (written_by failed volume)
+  both_written failed stage part = by volume.writer.flight kept.writing refl kept.safe kept.starts kept.kept kept.flying stage
     where
       by : (flight : Option Flight) (writing : Option Writing) → volume.writer.flight ≡ flight → IsSafeWithNodes kept.f kept.image writing kept.asked kept.written kept.bases kept.durable start.moment old
-          → AreStarts volume.writer.starts (entries_with writing kept.f.needed) → KeepsLeaves kept.f writing old (leaves_in volume) → FliesAs kept.f flight writing kept.asked kept.written volume → stage_by flight (needs_entry volume) volume.writer ≡ WriteEntry → IsCoreSafe begun start new (written_by failed volume)
+          → AreStarts volume.writer.starts (entries_with writing kept.f.needed) → KeepsLeaves kept.f writing old (leaves_in volume) → FliesAs kept.f flight writing kept.asked kept.written volume → stage_by flight (needs_entry volume) volume.writer ≡ WriteEntry → BothSafe (written_by failed volume)
       by None writing none safe starts leaves flying stage = absurd (resting_writes_nothing (needs_entry volume) volume.writer stage)
       by (Some flight) None flies safe starts leaves flying stage = absurd flying
       by (Some flight) (Some w) flies safe starts leaves flying stage =
@@ -102,40 +106,56 @@ module _ (laws : CoreLaws) (begun : Found) (start : DevicesState) (volume : Volu
           } in
           let standing : standing_by failed volume.writer.ring.written ≡ standing_by failed kept.written = ap (standing_by failed) count in
           let most = bounds failed kept.written (length w.blocks) left_here in
-          record {
-            f = kept.f;
-            image = kept.image;
-            writing = Some w;
-            asked = kept.written + 1;
-            written = standing_by failed kept.written;
-            bases = kept.bases;
-            durable = kept.durable;
-            safe = laws.journal.writes kept.f kept.image w kept.asked kept.written kept.bases kept.durable start.moment old new volume.writer.ring failed safe flying.asked_for left_here ring part disks steady;
-            begins = kept.begins;
-            chain = kept.chain;
-            past = past_later kept.durable old.moment new.moment part.at.crashes.later kept.past;
-            flushed = subst (λ (m : ℕ). AreFlushed volume.layout.metadata_replicas (with_flags m volume.writer.unsettled) (now new)) (sym is.ring.mirrors) (laws.flags.writes volume.layout.metadata_replicas volume.writer.unsettled (now new));
-            flags = let some_flags = kept.flags in let stay = flags_stay volume.writer.ring.mirrors volume.writer.unsettled in omega (arith, some_flags, stay);
-            known = known_also kept.f volume (written_by failed volume) kept.known refl refl refl;
-            starts = starts;
-            first = kept.first;
-            lead = kept.lead;
-            leaves = kept.leaves;
-            one = kept.one;
-            kept = laws.entries.parts kept.image kept.f w old new (leaves_in volume) kept.written volume.writer.ring failed safe.stands.finds leaves ring part;
-            flying = subst (λ (flight : Option Flight). FliesAs kept.f flight (Some w) (kept.written + 1) (standing_by failed kept.written) (written_by failed volume)) (sym flies) (record {
-              entry = flying.entry;
-              number = flying.number;
-              end = flying.end;
-              blocks = flying.blocks;
-              written_is = standing;
-              some = flying.some;
-              few = most.0;
-              asked_for = most.1;
-              leaves = flying.leaves;
-              keys = flying.keys;
-            });
-          }
+          let stays : IsSafeWithNodes kept.f kept.image (Some w) (kept.written + 1) (standing_by failed kept.written) kept.bases kept.durable start.moment new =
+          laws.journal.writes kept.f kept.image w kept.asked kept.written kept.bases kept.durable start.moment old new volume.writer.ring failed safe flying.asked_for left_here ring part disks steady in (
+            stays.safe,
+            record {
+              f = kept.f;
+              image = kept.image;
+              writing = Some w;
+              asked = kept.written + 1;
+              written = standing_by failed kept.written;
+              bases = kept.bases;
+              durable = kept.durable;
+              safe = stays;
+              begins = kept.begins;
+              chain = kept.chain;
+              past = past_later kept.durable old.moment new.moment part.at.crashes.later kept.past;
+              flushed = subst (λ (m : ℕ). AreFlushed volume.layout.metadata_replicas (with_flags m volume.writer.unsettled) (now new)) (sym is.ring.mirrors) (laws.flags.writes volume.layout.metadata_replicas volume.writer.unsettled (now new));
+              flags = let some_flags = kept.flags in let stay = flags_stay volume.writer.ring.mirrors volume.writer.unsettled in omega (arith, some_flags, stay);
+              known = known_also kept.f volume (written_by failed volume) kept.known refl refl refl;
+              starts = starts;
+              first = kept.first;
+              lead = kept.lead;
+              leaves = kept.leaves;
+              one = kept.one;
+              kept = laws.entries.parts kept.image kept.f w old new (leaves_in volume) kept.written volume.writer.ring failed safe.stands.finds leaves ring part;
+              flying = subst (λ (flight : Option Flight). FliesAs kept.f flight (Some w) (kept.written + 1) (standing_by failed kept.written) (written_by failed volume)) (sym flies) (record {
+                entry = flying.entry;
+                number = flying.number;
+                end = flying.end;
+                blocks = flying.blocks;
+                written_is = standing;
+                some = flying.some;
+                few = most.0;
+                asked_for = most.1;
+                leaves = flying.leaves;
+                keys = flying.keys;
+              });
+            },
+          )
+
+  -- A part is written, or a device failed.
+  pub written_on : (failed : Option ℕ) → stage_of volume ≡ WriteEntry → IsPartWritten volume.writer.ring failed old new → IsCoreSafe begun start new (written_by failed volume)
+  written_on failed stage part = (both_written failed stage part).1
+
+  -- Whatever a crash leaves then means one of the bases from before.
+  pub written_safe : (failed : Option ℕ) → stage_of volume ≡ WriteEntry → IsPartWritten volume.writer.ring failed old new → IsSafe kept.f.layout kept.bases kept.durable start.moment new
+  written_safe failed stage part = (both_written failed stage part).0
+
+  -- The same holds where a device is flushed, or failed.
+  pub flushed_safe : (dev : ℕ) (done : Bool) → Flushes dev done old new → IsSafe kept.f.layout kept.bases kept.durable start.moment new
+  flushed_safe dev done flush = (laws.journal.flushes kept.f kept.image kept.writing kept.asked kept.written kept.bases kept.durable start.moment old new dev done kept.safe flush disks steady).safe
 
   -- A device is flushed, or it failed.
   pub flushed_on : (dev : ℕ) (done : Bool) → Flushes dev done old new → IsCoreSafe begun start new (with_writer (record volume.writer { unsettled = flags_by dev done volume.writer.unsettled }) volume)

@@ -1,6 +1,6 @@
 -- A volume at rest after a checkpoint: no node is dirty, no older entry is needed, and the ring has room for any commit that may be intended. And what
 -- every event keeps of the ring, from which that follows.
-use Rattle.std.specs.Prelude.{◌≡◌, ℕ, ◌+◌, ◌-◌, ◌≤◌, ◌==◌, if◌then◌else◌, ⊤, Some, List, [], ◌∷◌, length, slice_index_or}
+use Rattle.std.specs.Prelude.{◌≡◌, ℕ, ◌+◌, ◌-◌, ◌≤◌, ◌==◌, if◌then◌else◌, ⊤, Option, Some, None, List, [], ◌∷◌, length, slice_index_or}
 use Rattle.std.specs.Ordering.{nat_cmp}
 use Rattle.core_memory.specs.Commits.{AreIntended}
 use Rattle.core_memory.specs.Rulings.{IsFull}
@@ -11,6 +11,7 @@ use Rattle.entry_queue.specs.Queues.{Queue, first_of, last_of, oldest}
 use Rattle.entry_queue.specs.declared.changes.Pending.{Pending}
 use Rattle.entry_writer.specs.Writers.{first_of as first_start}
 use Rattle.entry_writer.specs.declared.stage.Stage.TheVariants.{Rest}
+use Rattle.entry_writer.specs.declared.writer.Flight.{Flight}
 use Rattle.image_view.specs.Found.{Found}
 use Rattle.node_work.specs.Due.{root_in}
 use Rattle.tree_nodes.specs.Levels.{Levels}
@@ -44,10 +45,11 @@ ArePinnedTo newest numbers = (birth number : ℕ) → value_at nat_cmp birth num
 abbrev pub ArePinnedRoots : List Levels → List (ℕ × ℕ) → Type 0
 ArePinnedRoots nodes pins = (birth number : ℕ) → value_at nat_cmp birth pins ≡ Some number → (btree : Btree) × ((root_in nodes btree).birth ≡ birth)
 
--- The second entry has the sequence and the blocks behind those of the first one.
+-- The second entry has the sequence and the blocks behind those of the first one, and no fewer commits.
 pub record IsNextTo (mirrors : ℕ) (first second : Pending) : Type 0 where
   pub sequence : second.after ≡ first.after + 1
   pub blocks : second.behind ≡ last_of mirrors first
+  pub commits : first.commits ≤ second.commits
 
 -- Each of the closed entries is next to the one before it, and the open one to the last of them.
 abbrev pub AreInARow : ℕ → List Pending → Pending → Type 0
@@ -58,9 +60,14 @@ AreInARow mirrors (entry ∷ later) open_entry = IsNextTo mirrors entry (first_o
 abbrev pub last_start : List ℕ → ℕ
 last_start starts = slice_index_or starts (length starts - 1) 0
 
+-- The entry in flight, if one is, has no fewer commits than are durable, and the next one has no fewer than that.
+abbrev pub DoCommitsRise : Option Flight → ℕ → ℕ → Type 0
+DoCommitsRise None durable next = durable ≤ next
+DoCommitsRise (Some flight) durable next = (durable ≤ flight.entry.commits) × (flight.entry.commits ≤ next)
+
 -- What is kept of the ring: only roots are pinned, and nothing is noted of an entry that has no updates; the entries that wait are in a row, and
--- their blocks begin no later than the next one of the ring; and the newest entry in the ring, which begins at the last of the starts, takes at most
--- 64 blocks.
+-- their blocks begin no later than the next one of the ring; none has fewer commits than are durable; and the newest entry in the ring, which begins at
+-- the last of the starts, takes at most 64 blocks.
 pub record KeepsRing (volume : Volume) : Type 0 where
   pub rises : IsMap nat_cmp volume.pins
   pub later_rises : IsMap nat_cmp volume.later
@@ -69,6 +76,7 @@ pub record KeepsRing (volume : Volume) : Type 0 where
   pub later : ArePinnedTo (newest_changed volume.queue) volume.later
   pub row : AreInARow volume.queue.mirrors volume.queue.closed volume.queue.open_entry
   pub behind : (oldest volume.queue).behind ≤ volume.writer.ring.next
+  pub commits : DoCommitsRise volume.writer.flight volume.writer.durable.commits (oldest volume.queue).commits
   pub first : volume.writer.durable.first ≡ first_start volume.writer.starts
   pub few : volume.writer.ring.next ≤ last_start volume.writer.starts + 64
 

@@ -1,6 +1,6 @@
 -- What a session keeps of its volume on the devices: whatever a crash has left since it began means what some entry led to, and what is in
 -- memory is what the last durable one means, with the changes that aren't durable yet.
-use Rattle.std.specs.Prelude.{◌≡◌, ◌<◌, ◌≤◌, ◌+◌, ℕ, Option, Some, List, [], ◌∷◌, ◌++◌, All, length, slice_get, slice_index_or, ⊤}
+use Rattle.std.specs.Prelude.{◌≡◌, ◌<◌, ◌≤◌, ◌+◌, ℕ, Option, Some, Ok, List, [], ◌∷◌, ◌++◌, All, length, slice_get, slice_index_or, ⊤}
 use Rattle.birth_index.specs.Exchanges.{HaveOneNode}
 use Rattle.btree_map.specs.Trees.{keys_in}
 use Rattle.checkpoint_safety.specs.Kept.{KeepsLeaves}
@@ -9,7 +9,7 @@ use Rattle.dev_model.specs.Devices.{DevicesState, now}
 use Rattle.dev_model.specs.Disk.{Disk, Image, IsCrashImage}
 use Rattle.entry_queue.specs.Changes.{LeadTo}
 use Rattle.entry_queue.specs.Queues.{waiting}
-use Rattle.image_view.specs.Found.{Found}
+use Rattle.image_view.specs.Found.{Found, found}
 use Rattle.image_view.specs.UpdatedTrees.{IsOfLeaf}
 use Rattle.journal_safety.specs.Flushes.{AreFlushed}
 use Rattle.journal_safety.specs.NodeWritings.{IsSafeWithNodes}
@@ -32,12 +32,13 @@ nothing_found = record {
   trees = record { keys = key_map (λ _. []); nodes = []; ends = [] };
 }
 
--- The second of two bases is what the next entry leads to: it has the keys of the first one, with the entry's updates, which are of keys in
--- leaves.
+-- The second of two bases is what the next entry leads to: it has no fewer commits than the first one, and its keys, with the entry's updates,
+-- which are of keys in leaves.
 pub record IsLed (one other : Found) : Type 0 where
   pub w : Writing
   pub is : other ≡ after w one
   pub sequence : w.next.entry.sequence ≡ one.last.entry.sequence + 1
+  pub commits : one.last.entry.commits ≤ w.next.entry.commits
   pub leaves : All IsOfLeaf w.next.entry.updates
   pub keys : w.trees.keys ≡ with_updates w.next.entry.updates one.trees.keys
 
@@ -91,8 +92,9 @@ KeepsSafe tells begun start state volume = tells → MayBegin begun (now start) 
 
 -- What a crash leaves: at each moment since the session began it means one of the bases, the first of which is what was found then, and none
 -- before those that were durable by that moment, where no torn block of the journal areas opens by chance. An entry led from each base to the
--- next one. The last durable one, which was durable by now, has as many commits as are told to be durable; and whatever a crash leaves
--- now, each entry that it needs stands whole on every metadata device.
+-- next one. The last durable one, which was durable by now, has the sequence and as many commits as are told to be durable, and from its keys the
+-- changes that aren't durable lead to those in memory; and whatever a crash leaves now, each entry that it needs stands whole on every metadata
+-- device.
 pub record Survives (begun : Found) (start state : DevicesState) (volume : Volume) : Type 0 where
   pub bases : List Found
   pub durable : List ℕ
@@ -102,5 +104,14 @@ pub record Survives (begun : Found) (start state : DevicesState) (volume : Volum
   pub past : AreUpTo state.moment durable
   pub last : Found
   pub last_is : slice_get bases (length durable) ≡ Some last
+  pub sequence : last.last.entry.sequence ≡ volume.writer.durable.sequence
   pub commits : last.last.entry.commits ≡ volume.writer.durable.commits
+  pub lead : LeadTo (changes_in volume.writer.flight ++ waiting volume.queue) last.trees.keys (keys_in volume.trees)
   pub whole : (image : Image) → IsCrashImage (now state) image → (index : ℕ) → index < length last.needed → StandsOnAll volume.layout image (slice_index_or last.needed index last.last)
+
+-- Whatever a crash leaves at a moment of an event means what an entry led to that is no earlier than the last one that was durable when the event
+-- began, and has no fewer commits, where no torn block of the journal areas opens by chance.
+abbrev pub KeepsDurable : DevicesState → DevicesState → DevicesState → Volume → Type 0
+KeepsDurable start old new volume =
+    (moment : ℕ) → old.moment ≤ moment → moment ≤ new.moment → (image : Image) → IsCrashImage (new.disks moment) image → IsUntorn volume.layout start.moment moment new image
+    → (base : Found) × (found image ≡ Ok base) × (volume.writer.durable.commits ≤ base.last.entry.commits) × (volume.writer.durable.sequence ≤ base.last.entry.sequence)

@@ -4,7 +4,8 @@
 //! and call no device. Others write the entries of the journal, in which what was committed is durable, and leaves of btrees anew, so that
 //! the journal can let entries go. Those that split nodes, and that reserve, write and read blocks of files, are to come.
 //!
-//! Whatever a crash leaves of the devices means what some entry led to, and none before the last that was durable by then.
+//! Where the devices tell what they hold, and what was found on them was in order with each btree one leaf, whatever a crash leaves of them
+//! means what some entry led to, and none before the last that was durable by then, as far as no torn block opens by chance.
 #![tactic(auto)]
 
 mod laws;

@@ -8,7 +8,7 @@ ghost use Rattle.replay.specs.Volumes.{found_in};
 ghost use Rattle.dev_model.specs.Devices.{now};
 ghost use Rattle.vol_core.specs.Cores.{StepGives};
 ghost use Rattle.vol_core.specs.Rested.{HasRoomAfterCheckpoint, IsRested};
-ghost use Rattle.vol_core.specs.Safety.{KeepsSafe, MayBegin, Survives};
+ghost use Rattle.vol_core.specs.Safety.{KeepsDurable, KeepsSafe, MayBegin, Survives};
 ghost use Rattle.vol_types.specs.Layouts.{is_layout};
 
 use crate::laws::{found_volumes_have_laws, open_volumes_have_laws};
@@ -22,8 +22,9 @@ use std::marker::{Model, PhantomData};
 
 /// An open volume. It may be sent to another thread.
 ///
-/// Its type keeps what the session promises: whatever a crash has left of the devices since the volume was opened means
-/// what some entry of the journal led to, and none before the last that was durable by then (`survives`).
+/// Its type keeps what the session promises, where the devices tell and the volume was found in order, each btree one leaf: whatever a crash
+/// has left of the devices since it was opened means what some entry of the journal led to, and none before the last that was durable by then
+/// (`survives`, and inside an event `keeps`), as far as no torn block opens by chance.
 #[derive(Drop)]
 pub struct Core<D: Devices, O: Opening> {
     memory: Memory,
@@ -49,7 +50,7 @@ impl<D: Devices, O: Opening> Model for Core<D, O> {
 
 impl<D: Devices, O: Opening> Core<D, O> {
     /// A volume that was loaded from devices, before any event. No device is called. It costs a logarithm for each node, some for
-    /// each update of the needed entries, and goes over all buckets and snapshot ids. An `Err` is out of memory.
+    /// each update of the needed entries, and goes over all buckets. An `Err` is out of memory.
     pub fn of(alloc: Global, loaded: Loaded, devices: D) -> Result<Core<D, O>, Unopened<D>>
         requires layout { is_layout_of (D.state devices).sizes loaded.layout ≡ true }
         requires opening { found_in loaded ≡ O.found }
@@ -71,7 +72,7 @@ impl<D: Devices, O: Opening> Core<D, O> {
         }
     }
 
-    /// What is in memory. Where the session may begin with what was found, a volume at rest has room: where neither the journal nor the
+    /// What is in memory. Where the devices tell and the session may begin with what was found, a volume at rest has room: where neither the journal nor the
     /// nodes have a next step, as once a checkpoint is done, no node is dirty, neither the last durable entry nor the next one needs an older
     /// one, and no commit that may be intended meets a full ring.
     pub fn memory(&self) -> &Memory
@@ -83,9 +84,9 @@ impl<D: Devices, O: Opening> Core<D, O> {
         &self.memory
     }
 
-    /// The devices on which it lies. Where they tell what they hold, and the volume was found in order with its journal mended,
-    /// whatever a crash has left of them since then means what some entry led to, and none before the last that was durable
-    /// by that moment.
+    /// The devices on which it lies. Where they tell what they hold, and the volume was found in order with its journal mended and each btree
+    /// one leaf, whatever a crash has left of them since then means what some entry led to, and none before the last that was durable
+    /// by that moment, as far as no torn block opens by chance.
     pub fn devices(&self) -> &D
         ensures devices { result.now ≡ self.now.devices }
         ensures safe { KeepsSafe D.tells O.found O.start (D.state result.now) self.now.memory.volume }
@@ -110,13 +111,17 @@ impl<D: Devices, O: Opening> Core<D, O> {
         self.memory.may(actor, event)
     }
 
-    /// Makes an event of an actor, and answers it. What other actors have under way stays. It costs what `Memory::step` does.
-    /// `Begin`, `Intend`, `Finish`, `Drop` and `Next` take no memory.
+    /// Makes an event of an actor, and answers it. What other actors have under way stays. Where the session may begin with what
+    /// was found, and no torn block of the journal areas opens by chance, whatever a crash leaves at a moment of the event means
+    /// what an entry led to that is no earlier than the last one that was durable when the event began, and has no fewer commits.
+    /// It costs what `Memory::step` does. `Begin`, `Intend`, `Finish`, `Drop` and `Next` take no memory.
     pub fn step(&mut self, actor: u8, event: Event) -> Answer
         requires { Fits self.old.memory actor event }
         ensures gives { StepGives D.tells D.state self.old actor event result self.new }
         ensures others { (other : ℕ) → other ≢ actor → mine self.new.memory other
             ≡ mine self.old.memory other }
+        ensures keeps { D.tells → MayBegin O.found (now O.start) → KeepsDurable O.start
+            (D.state self.old.devices) (D.state self.new.devices) self.old.memory.volume }
     {
         open_volumes_have_laws();
         self.memory.see_kept();
