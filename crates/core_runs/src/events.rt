@@ -94,10 +94,10 @@ fn ask<O: Opening>(
     Ok(())
 }
 
-// Counts the event of a stage, and gives it; none at rest.
+// Counts the event of a stage of the journal, and gives it; none at rest.
 fn next(sync: &mut Sync, stage: Stage) -> Option<Move> {
     match stage {
-        Stage::Rest => None,
+        Stage::Rest | Stage::Freeze(_) | Stage::WriteSet(_) | Stage::CommitNodes => None,
         Stage::Seal => {
             sync.seals = sync.seals.saturating_add(1);
             Some(Move::Seal)

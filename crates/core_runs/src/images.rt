@@ -96,14 +96,25 @@ fn head_of(kind: u8, owner: u64) -> Head {
     }
 }
 
-// A leaf that covers all positions, without keys.
-fn leaf_payload(alloc: Global, btree: u8) -> Result<Bytes, AllocError> {
+/// A leaf that covers all positions, with the offsets and values of counters, fewer than 256.
+pub fn leaf_payload(
+    alloc: Global,
+    birth: u64,
+    btree: u8,
+    counters: &[(u64, u64)],
+) -> Result<Bytes, AllocError> {
     let mut payload = Bytes::new(alloc);
-    payload.extend_from_slice(&BIRTH.wrapping_add(u64::from(btree)).to_le_bytes())?;
+    payload.extend_from_slice(&birth.to_le_bytes())?;
     payload.extend_from_slice(&[btree, 0, 0, 0])?;
     payload.extend_from_slice(&[0; 20])?;
     payload.extend_from_slice(&[255; 20])?;
-    payload.extend_from_slice(&[0; 4])?;
+    payload.extend_from_slice(&[(counters.len() & 255) as u8, 0, 0, 0])?;
+    for (offset, value) in counters {
+        payload.extend_from_slice(&[0; 8])?;
+        payload.extend_from_slice(&offset.to_le_bytes())?;
+        payload.extend_from_slice(&[0, 0, 0, 0, 11])?;
+        payload.extend_from_slice(&value.to_le_bytes())?;
+    }
     Ok(payload)
 }
 
@@ -160,8 +171,9 @@ fn put_super(alloc: Global, devices: &mut MemDevices, shape: Shape, dev: u8) -> 
 // Writes the leaves of a metadata device.
 fn put_leaves(alloc: Global, devices: &mut MemDevices, dev: u8) -> Result<(), Fail> {
     for btree in 0..9 {
-        let leaf = leaf_payload(alloc, btree)?;
-        let head = head_of(NODE_SET, BIRTH.wrapping_add(u64::from(btree)));
+        let birth = BIRTH.wrapping_add(u64::from(btree));
+        let leaf = leaf_payload(alloc, birth, btree, &[])?;
+        let head = head_of(NODE_SET, birth);
         put_record(
             alloc,
             devices,

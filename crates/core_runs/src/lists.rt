@@ -48,6 +48,7 @@ fn drawn_change(draw: &mut Draw) -> Change {
         key,
         value,
         is_long,
+        is_wide: false,
     }
 }
 

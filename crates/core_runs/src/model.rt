@@ -71,20 +71,24 @@ fn parts_of(mirrors: u8, bytes: u64) -> u64 {
     bytes.saturating_add(head).saturating_add(3967) / 3968
 }
 
-// How many bytes the updates of a change take: 31 for a value, and 23 for a key that is removed.
+// How many bytes the updates of a change take: 31 for a value, and 23 for a key that is removed or has no value.
 fn bytes_of(change: Change) -> u64 {
     let each = if change.value == 0 { 23 } else { 31 };
-    count_of(change).wrapping_mul(each)
+    let more = if change.is_wide { 23 } else { 0 };
+    count_of(change).wrapping_mul(each).saturating_add(more)
 }
 
-// The values after a change.
-fn changed(values: Values, change: Change) -> Values {
+/// The values after a change.
+pub fn changed(values: Values, change: Change) -> Values {
     let mut values = values;
     if let Some(value) = values.few.get_mut(usize::from(change.key)) {
         *value = change.value;
     }
     if change.is_long {
         values.many = change.value;
+    }
+    if change.is_wide {
+        values.gone = change.value != 0;
     }
     values
 }
@@ -97,6 +101,7 @@ impl Model {
             values: Values {
                 few: [0; 4],
                 many: 0,
+                gone: false,
             },
         };
         Model {
@@ -208,7 +213,7 @@ impl Model {
     /// The event that the stage names.
     pub fn due(&self) -> Move {
         match self.stage() {
-            Stage::Rest => Move::Next,
+            Stage::Rest | Stage::Freeze(_) | Stage::WriteSet(_) | Stage::CommitNodes => Move::Next,
             Stage::Seal => Move::Seal,
             Stage::WriteEntry => Move::WriteEntry,
             Stage::Flush(dev) => Move::Flush(dev),

@@ -14,21 +14,25 @@ const MANY: u64 = 100;
 // How many these are.
 const MANY_COUNT: u64 = 130;
 
-/// The values of counters; 0 stands for a key that isn't there.
+/// The values of counters, of which 0 stands for a key that isn't there, and whether another btree has its one key.
 #[derive(Clone, Copy, Debug, PartialEq, Eq)]
 pub struct Values {
     /// Those at the offsets 1 to 4.
     pub few: [u64; 4],
     /// The one value of those at the offsets 100 to 229.
     pub many: u64,
+    /// Whether the btree of deleted ids has its key.
+    pub gone: bool,
 }
 
-/// What a commit does: it puts a value at one of the offsets 1 to 4, and, where it is long, at those from 100 to 229.
+/// What a commit does: it puts a value at one of the offsets 1 to 4, and, where it is long, at those from 100 to 229; where it is wide, it
+/// puts the key of the btree of deleted ids too, or removes it for the value 0.
 #[derive(Clone, Copy, Debug, PartialEq, Eq)]
 pub struct Change {
     pub key: u8,
     pub value: u64,
     pub is_long: bool,
+    pub is_wide: bool,
 }
 
 /// An event.
@@ -61,6 +65,8 @@ pub enum Seen {
     /// The session has stopped writing, since this device failed.
     Halted(u8),
     DeviceFault(u8),
+    /// The journal has no room.
+    Full,
     /// Anything else.
     Other,
 }
@@ -99,6 +105,17 @@ pub fn push(updates: &mut Updates, offset: u64, value: u64) -> Result<(), AllocE
     Ok(())
 }
 
+// Adds an update that puts the key of the btree of deleted ids, or removes it.
+fn push_gone(updates: &mut Updates, is_put: bool) -> Result<(), AllocError> {
+    updates.push(Update {
+        btree: Btree::Deleted,
+        level: 0,
+        pos: at(1),
+        value: if is_put { Some(Value::Gone) } else { None },
+    })?;
+    Ok(())
+}
+
 /// The updates of a change.
 pub fn updates_of(alloc: Global, change: Change) -> Result<Updates, AllocError> {
     let mut updates = Updates::new(alloc);
@@ -108,10 +125,13 @@ pub fn updates_of(alloc: Global, change: Change) -> Result<Updates, AllocError> 
             push(&mut updates, offset, change.value)?;
         }
     }
+    if change.is_wide {
+        push_gone(&mut updates, change.value != 0)?;
+    }
     Ok(updates)
 }
 
-/// How many updates a change makes.
+/// How many counters a change puts or removes.
 pub fn count_of(change: Change) -> u64 {
     if change.is_long { 1 + MANY_COUNT } else { 1 }
 }
@@ -178,6 +198,7 @@ fn seen_of(answer: &Answer) -> Seen {
         Answer::At { stage, durable } => Seen::At(*stage, *durable),
         Answer::Wait { holder } => Seen::Wait(*holder),
         Answer::Refused(Refusal::Halted(halt)) => Seen::Halted(halt.dev),
+        Answer::Refused(Refusal::RingFull(_)) => Seen::Full,
         Answer::DeviceFault(dev) => Seen::DeviceFault(*dev),
         Answer::Refused(_) | Answer::Ids(_) | Answer::NoMemory => Seen::Other,
     }

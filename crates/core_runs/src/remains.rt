@@ -8,7 +8,7 @@ use dev_model::MemDevices;
 use plain_reader::{FoundBtree, FoundVolume, read_plain};
 use std::alloc::{AllocError, Global};
 use std::test::Fail;
-use vol_types::{Pos, Value};
+use vol_types::{NodePtr, Pos, Value};
 
 // Whether a key is this counter.
 fn is_counter(pos: &Pos, value: &Value, counter: (u64, u64)) -> bool {
@@ -37,12 +37,32 @@ fn has_counters(btree: &FoundBtree, counters: &[(u64, u64)]) -> bool {
     rest.next().is_none()
 }
 
-// Whether the last of nine btrees has these counters, and no other one has a key.
-fn have_counters(found: &FoundVolume, counters: &[(u64, u64)]) -> bool {
+// Whether a btree has the key of a deleted id and nothing else, or nothing.
+fn has_gone(btree: &FoundBtree, gone: bool) -> bool {
+    let mut count: u64 = 0;
+    for (pos, value) in btree.entries.as_slice() {
+        if pos.inode != 0 || pos.offset != 1 || pos.snapshot != 0 || *value != Value::Gone {
+            return false;
+        }
+        count = count.saturating_add(1);
+    }
+    count == u64::from(gone)
+}
+
+// Whether a btree of this number has what it should.
+fn has_its_keys(btree: &FoundBtree, code: u8, counters: &[(u64, u64)], gone: bool) -> bool {
+    match code {
+        7 => has_gone(btree, gone),
+        8 => has_counters(btree, counters),
+        _ => has_gone(btree, false),
+    }
+}
+
+// Whether the last two of nine btrees have these keys, and no other one has a key.
+fn have_keys(found: &FoundVolume, counters: &[(u64, u64)], gone: bool) -> bool {
     let mut code: u8 = 0;
     for btree in found.btrees.as_slice() {
-        let expected = if code == 8 { counters } else { &[] };
-        if !has_counters(btree, expected) {
+        if !has_its_keys(btree, code, counters, gone) {
             return false;
         }
         code = code.saturating_add(1);
@@ -50,8 +70,12 @@ fn have_counters(found: &FoundVolume, counters: &[(u64, u64)]) -> bool {
     code == 9
 }
 
-// Whether this version is found.
-fn is_version(alloc: Global, found: &FoundVolume, version: Version) -> Result<bool, AllocError> {
+/// Whether this version is found.
+pub fn is_version(
+    alloc: Global,
+    found: &FoundVolume,
+    version: Version,
+) -> Result<bool, AllocError> {
     match found.needed.last() {
         None => return Ok(false),
         Some(newest) => {
@@ -61,7 +85,43 @@ fn is_version(alloc: Global, found: &FoundVolume, version: Version) -> Result<bo
         }
     }
     let counters = counters_of(alloc, version.values)?;
-    Ok(have_counters(found, counters.as_slice()))
+    Ok(have_keys(found, counters.as_slice(), version.values.gone))
+}
+
+/// What the newest entry says: its sequence and that of the oldest entry that it needs, and the birth of the root of the counters with its
+/// block, which is the same on each metadata device.
+#[derive(Clone, Copy, Debug, PartialEq, Eq)]
+pub struct Newest {
+    pub sequence: u64,
+    pub oldest: u64,
+    pub birth: u64,
+    pub block: u32,
+}
+
+// The block of a node, if it is the same on each of the first devices.
+fn block_of_node(node: &NodePtr) -> Option<u32> {
+    let mut same = None;
+    let mut dev: u8 = 0;
+    for place in node.places.as_slice() {
+        if place.dev != dev || same.is_some_and(|block| block != place.block) {
+            return None;
+        }
+        same = Some(place.block);
+        dev = dev.saturating_add(1);
+    }
+    same
+}
+
+/// What the newest entry says, if the root of the counters has one block.
+pub fn newest_of(found: &FoundVolume) -> Option<Newest> {
+    let newest = found.needed.last()?;
+    let root = newest.entry.roots.last()?;
+    Some(Newest {
+        sequence: newest.entry.sequence,
+        oldest: newest.entry.oldest,
+        birth: root.birth,
+        block: block_of_node(root)?,
+    })
 }
 
 /// Which of two versions is found on devices: `Some(false)` for the first one, `Some(true)` for the second one.
