@@ -5,8 +5,6 @@
 #[cfg(test)]
 mod checkpoint_crashes;
 #[cfg(test)]
-mod checkpoints;
-#[cfg(test)]
 mod crashes;
 #[cfg(test)]
 mod draws;
@@ -17,15 +15,11 @@ mod images;
 #[cfg(test)]
 mod lists;
 #[cfg(test)]
-mod mixtures;
-#[cfg(test)]
 mod model;
 #[cfg(test)]
 mod moves;
 #[cfg(test)]
 mod remains;
-#[cfg(test)]
-mod rounds;
 #[cfg(test)]
 mod shortages;
 #[cfg(test)]
