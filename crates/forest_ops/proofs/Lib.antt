@@ -6,3 +6,4 @@ pub mod Keeping
 pub mod Putting
 pub mod Idle
 pub mod Entries
+pub mod Inserting

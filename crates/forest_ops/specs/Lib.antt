@@ -4,6 +4,7 @@ pub mod Walking
 pub mod Names
 pub mod Content
 pub mod Trees
+pub mod Parts
 pub mod Places
 pub mod Subvolumes
 pub mod Steps

@@ -38,6 +38,15 @@ impl Content {
         }
     }
 
+    /// So many zeros.
+    pub fn zeros(alloc: Global, size: u64) -> Result<Self, AllocError>
+        ensures { IfOk result (λ content. content ≡ replicate size 0) }
+    {
+        let mut content = Content::new(alloc);
+        content.resize(size)?;
+        Ok(content)
+    }
+
     /// How many bytes there are.
     pub fn len(&self) -> usize
         ensures { result ≡ length self.now }

@@ -35,6 +35,16 @@ impl Model for Directories {
 }
 
 impl Directories {
+    /// No directories. It takes no memory.
+    pub fn none(alloc: Global) -> Self
+        ensures { result ≡ [] }
+    {
+        Directories {
+            tables: BTreeMap::new(alloc),
+            links: Tally::new(alloc),
+        }
+    }
+
     /// One directory without names.
     pub fn new(alloc: Global, root: u64) -> Result<Self, AllocError>
         ensures { IfOk result (λ directories. directories ≡ (root, []) ∷ []) }

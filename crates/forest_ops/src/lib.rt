@@ -13,6 +13,7 @@ mod laws;
 mod name_table;
 mod names;
 mod operation;
+mod parts;
 mod place;
 mod refusals;
 mod subvolume;
@@ -22,6 +23,7 @@ mod tally;
 pub use forest::Forest;
 pub use laws::{entries_are_steps, histories_go_on, only_commits_change_forests};
 pub use operation::{Cause, Class, Entry, Op, Reply, Trace};
+pub use subvolume::Subvolume;
 
 #[cfg(test)]
 mod tests;

@@ -1,9 +1,11 @@
-ghost use Rattle.std.specs.Prelude.{◌≡◌, ◌+◌, ◌≤◌, map, length, option_copied, OnOk, OnErr, IfOk};
+ghost use Rattle.std.specs.Prelude.{◌≡◌, ◌+◌, ◌≤◌, map, length, option_copied, replicate, OnOk, OnErr, IfOk};
 ghost use Rattle.std.specs.Ordering.{nat_cmp};
 ghost use Rattle.plain_forest.specs.Maps.{value_at, changed_at};
 ghost use Rattle.forest_ops.specs.Names.{links_of};
 ghost use Rattle.forest_ops.specs.Content.{max_size, put_at, resized};
 ghost use Rattle.forest_ops.specs.Walking.{named_in, walk};
+ghost use Rattle.forest_ops.specs.Parts.{bare_tree, with_new, with_zeros, with_bare_directory, with_link};
+ghost use Rattle.vol_digest.specs.Digests.{slot_of};
 ghost use Rattle.forest_ops.specs.Trees.{empty_tree, with_file, with_directory, with_name, unlinked, without_directory, moved, with_bytes};
 ghost use Rattle.forest_ops.specs.Places.{place_of, changed, Fits, IsFree, IsEmptyDirectory};
 ghost use Rattle.forest_ops.specs.Steps.{flagged, status_of};
@@ -61,6 +63,64 @@ impl Subvolume {
             files: copy_map(alloc, &self.files)?,
             directories: self.directories.copy(alloc)?,
         })
+    }
+
+    /// A tree that has its root's number, and neither files nor directories. It takes no memory.
+    pub fn bare(alloc: Global, locked: bool, root: u64) -> Self
+        ensures { result ≡ bare_tree locked root }
+    {
+        Subvolume {
+            locked,
+            root,
+            files: BTreeMap::new(alloc),
+            directories: Directories::none(alloc),
+        }
+    }
+
+    /// Inserts a file of so many zeros, unless the number has a file. An `Err` changes nothing. It costs the zeros, and a
+    /// logarithm of the number of files.
+    pub fn insert_file(&mut self, alloc: Global, number: u64, size: u64) -> Result<(), AllocError>
+        ensures ok { OnOk result (self.new ≡ with_zeros number size self.old) }
+        ensures err { OnErr result (self.new ≡ self.old) }
+    {
+        insert_zeros(alloc, &mut self.files, number, size)
+    }
+
+    /// Inserts a directory without names, unless the number has a directory. An `Err` changes nothing.
+    pub fn insert_directory(&mut self, alloc: Global, number: u64) -> Result<(), AllocError>
+        ensures ok { OnOk result (self.new ≡ with_bare_directory number self.old) }
+        ensures err { OnErr result (self.new ≡ self.old) }
+    {
+        if self.directories.names(number).is_some() {
+            return Ok(());
+        }
+        self.directories.add_directory(alloc, number)
+    }
+
+    /// Inserts a name of this slot, unless its directory has the name or isn't there. An `Err` changes nothing; it would
+    /// also come where a count of names is at the end of `u32`.
+    pub fn insert_name(
+        &mut self,
+        alloc: Global,
+        directory: u64,
+        name: &Bytes,
+        slot: u64,
+        number: u64,
+    ) -> Result<(), AllocError>
+        requires { slot ≡ slot_of name.now }
+        ensures ok { OnOk result (self.new ≡ with_link (record { directory = directory; name = name.now; number = number }) self.old) }
+        ensures err { OnErr result (self.new ≡ self.old) }
+    {
+        if self.named(directory, name).is_ok() {
+            return Ok(());
+        }
+        let place = NamePlace {
+            directory,
+            name,
+            slot,
+            number,
+        };
+        self.directories.add_name(alloc, &place)
     }
 
     /// Whether it may only be read.
@@ -271,6 +331,23 @@ impl Duplicate for Subvolume {
     fn copy(&self, alloc: Global) -> Result<Self, AllocError> {
         self.snapshot(alloc, self.locked)
     }
+}
+
+// Inserts a file of so many zeros, unless the number has a file. An `Err` changes nothing.
+fn insert_zeros(
+    alloc: Global,
+    files: &mut BTreeMap<u64, Content>,
+    number: u64,
+    size: u64,
+) -> Result<(), AllocError>
+    ensures ok { OnOk result (files.new.entries ≡ with_new nat_cmp number (replicate size 0) files.old.entries) }
+    ensures err { OnErr result (files.new.entries ≡ files.old.entries) }
+{
+    if files.contains_key(&number) {
+        return Ok(());
+    }
+    files.insert(number, Content::zeros(alloc, size)?)?;
+    Ok(())
 }
 
 // Puts bytes into one of the files. An `Err` changes nothing.

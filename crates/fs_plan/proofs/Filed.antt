@@ -1,6 +1,6 @@
 -- What making a file comes to is what the forest makes of it.
 use Rattle.std.proofs.Common.{◌≡◌, ℕ, zero, suc, ◌+◌, ◌*◌, ◌-◌, ◌/◌, ◌<◌, ◌≤◌, ◌^◌, Bool, true, false, cond, Option, Some, None, List, [], ◌∷◌, refl, sym, ap, ◌∙◌, subst, arith}
-use Rattle.std.specs.Prelude.{◌&&◌, not, All, IfOk, Result, Ok, Err, is_some, length, nat_le, option_map, slice_get, sum_by}
+use Rattle.std.specs.Prelude.{◌≢◌, ◌&&◌, not, All, IfOk, Result, Ok, Err, is_some, length, nat_le, option_map, slice_get, sum_by}
 use Rattle.std.specs.List.{list_all}
 use Rattle.std.proofs.lemmas.Bool.{false≢true, leb-true}
 use Rattle.std.proofs.lemmas.List.Elements.{All-cons, All-head, All-nil, All-tail}
@@ -36,6 +36,7 @@ use Rattle.plain_forest.specs.Names.{has_good_bytes, is_dots, is_good_name, is_g
 use Rattle.plain_forest.specs.Steps as plain
 use Rattle.plain_forest.specs.declared.path.Path.{Path}
 use Rattle.vol_digest.specs.Digests.{slot_of}
+use Rattle.vol_types.specs.Btrees.{btree_code}
 use Rattle.vol_types.specs.KeyMaps.{IsKeyMap, KeyMap, with_update, with_updates}
 use Rattle.vol_types.specs.LengthLaws.{short_key}
 use Rattle.vol_types.specs.Lengths.{key_length_of}
@@ -44,7 +45,7 @@ use Rattle.vol_types.specs.Standing.{IsUpdate}
 use Rattle.vol_types.specs.declared.keys.Update.{Update}
 use Rattle.vol_types.specs.declared.layout.Layout.{Layout}
 use Rattle.vol_types.specs.declared.pointers.Place.{Place}
-use Rattle.vol_types.specs.declared.positions.Btree.TheVariants.{Dirents}
+use Rattle.vol_types.specs.declared.positions.Btree.TheVariants.{Dirents, Extents}
 use Rattle.vol_types.specs.declared.values.FileKind.{FileKind}
 use Rattle.vol_types.specs.declared.values.FileKind.TheVariants as kinds
 use Rattle.vol_types.specs.declared.values.Link.{Link}
@@ -140,6 +141,16 @@ few_blocks counter next id number names fits mirrors le =
     few : (sum : ℕ) → sum ≤ 2400 → (36 + 9 * (10 + 5 * mirrors) + sum + 3967) / 3968 ≤ 64
     few sum small = omega (arith, small, le)
 
+-- None of them is of extents, where that of names is of names.
+no_extents : (counter next id number : ℕ) (names : Update) → names.btree ≡ Dirents → All (λ (u : Update). u.btree ≢ Extents) (counter_update counter next ∷ own_inode id number (Some (values.Inode new_inode)) ∷ names ∷ [])
+no_extents counter next id number names are_names =
+    let a = counter_update counter next in
+    let b = own_inode id number (Some (values.Inode new_inode)) in
+    let Spares : Update → Type 0 = λ u. u.btree ≢ Extents in
+    All-cons Spares a (b ∷ names ∷ []) (λ same. omega (arith, ap btree_code same))
+    (All-cons Spares b (names ∷ []) (λ same. omega (arith, ap btree_code same))
+    (All-cons Spares names [] (λ same. omega (arith, ap btree_code (sym are_names ∙ same))) (All-nil Spares)))
+
 module _ (keys : KeyMap) (is : IsKeyMap keys) (nodes : List Place) (layout : Layout) (sound : IsSound keys nodes layout) (client : ℕ) (path : Path) (spot : Spot) (spot_is : (read : Read) → IsSpot keys read path (parent_names path) spot)
     (open_to : spot.sub.read_only ≡ false) (name : List ℕ) (last : last_name path ≡ Some name) (good : is_good_name name ≡ true) (id_fits : spot.sub.id < 2 ^ 32) (nothing : Read) where
   abbrev id : ℕ
@@ -188,6 +199,7 @@ module _ (keys : KeyMap) (is : IsKeyMap keys) (nodes : List Place) (layout : Lay
         made = record {
           each = subst (λ (us : List Update). All IsUpdate (all_updates us)) one fits;
           leaves = All-cons (λ (u : Update). u.level ≡ 0) count_update (file_update ∷ update ∷ []) refl (All-cons (λ (u : Update). u.level ≡ 0) file_update (update ∷ []) refl (All-cons (λ (u : Update). u.level ≡ 0) update [] refl (All-nil (λ (u : Update). u.level ≡ 0))));
+          extents = no_extents client (next_in keys client + 1) id number update refl;
           few = few_blocks client (next_in keys client + 1) id number update may;
         };
       })

@@ -2,7 +2,7 @@
 use Rattle.std.proofs.Common.{◌≡◌, ℕ, List, [], refl, sym, ap, subst, map, arith}
 use Rattle.std.proofs.lemmas.Bool.{true≢false}
 use Rattle.std.proofs.lemmas.List.Elements.{All-nil}
-use Rattle.std.specs.Prelude.{Result, Ok, Err}
+use Rattle.std.specs.Prelude.{◌≢◌, Result, Ok, Err}
 use Rattle.forest_ops.specs.Refusals.{◌>>=◌}
 use Rattle.forest_ops.specs.Steps.{answer_of, flagged, forest_after, forest_or, next_of, reply_or}
 use Rattle.forest_ops.specs.Walking.{Directory, directory_at}
@@ -23,10 +23,11 @@ use Rattle.vol_types.specs.Standing.{IsUpdate}
 use Rattle.vol_types.specs.declared.keys.Update.{Update}
 use Rattle.vol_types.specs.declared.layout.Layout.{Layout}
 use Rattle.vol_types.specs.declared.pointers.Place.{Place}
+use Rattle.vol_types.specs.declared.positions.Btree.TheVariants.{Extents}
 
 -- no updates are made well
 pub none_made : AreMade []
-none_made = record { each = All-nil IsUpdate; leaves = All-nil (λ (update : Update). update.level ≡ 0); few = λ mirrors le. omega (arith, le) }
+none_made = record { each = All-nil IsUpdate; leaves = All-nil (λ (update : Update). update.level ≡ 0); extents = All-nil (λ (update : Update). update.btree ≢ Extents); few = λ mirrors le. omega (arith, le) }
 
 -- A listing leaves the forest.
 listing_leaves : (forest : Forest) (found : Result Directory Cause) → forest_or forest (found >>= (λ directory. Ok (next_of (Listed (map (flagged directory.tree) directory.names)) forest))) ≡ forest

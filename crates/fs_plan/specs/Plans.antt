@@ -1,9 +1,11 @@
 -- What the plan of an operation promises of a key map.
-use Rattle.std.specs.Prelude.{◌≡◌, ℕ, ◌+◌, ◌*◌, ◌/◌, ◌≤◌, Bool, true, false, Option, List, [], All, IfSome, sum_by}
+use Rattle.std.specs.Prelude.{◌≡◌, ◌≢◌, ℕ, ◌+◌, ◌*◌, ◌/◌, ◌≤◌, ⊤, Bool, true, false, Option, List, [], All, IfSome, sum_by}
 use Rattle.forest_ops.specs.History.{commits}
 use Rattle.forest_ops.specs.Steps.{answer_of, forest_after}
 use Rattle.forest_ops.specs.declared.operation.Op.{Op}
 use Rattle.forest_ops.specs.declared.operation.Op.TheVariants.{Mkfile, Ls, Sync}
+use Rattle.forest_ops.specs.declared.operation.Reply.{Reply}
+use Rattle.forest_ops.specs.declared.operation.Reply.TheVariants.{List as Listed, Okay, Refused, Synced}
 use Rattle.fs_plan.specs.declared.planned.Plan.{Plan}
 use Rattle.key_meaning.specs.Checks.{IsSound}
 use Rattle.key_meaning.specs.Forest.{Read, forest_in}
@@ -16,6 +18,7 @@ use Rattle.vol_types.specs.Standing.{IsUpdate}
 use Rattle.vol_types.specs.declared.keys.Update.{Update}
 use Rattle.vol_types.specs.declared.layout.Layout.{Layout}
 use Rattle.vol_types.specs.declared.pointers.Place.{Place}
+use Rattle.vol_types.specs.declared.positions.Btree.TheVariants.{Extents}
 use Rattle.vol_types.specs.declared.queries.Look.{Look}
 
 -- whether an operation can be planned so far
@@ -40,11 +43,21 @@ update_length update = 2 + key_length_of update.value
 abbrev pub blocks_alone : ℕ → List Update → ℕ
 blocks_alone mirrors updates = (36 + 9 * (10 + 5 * mirrors) + sum_by update_length updates + 3967) / 3968
 
--- The updates may be made, all in leaves, and in one entry of the journal, whose 64 blocks they don't pass.
+-- The updates may be made, all in leaves, and in one entry of the journal, whose 64 blocks they don't pass. None is of extents.
 pub record AreMade (updates : List Update) : Type 0 where
   pub each : All IsUpdate updates
   pub leaves : All (λ update. update.level ≡ 0) updates
+  pub extents : All (λ update. update.btree ≢ Extents) updates
   pub few : (mirrors : ℕ) → mirrors ≤ 3 → blocks_alone mirrors updates ≤ 64
+
+-- What the forest may answer an operation, and with which updates: with some only where it is done.
+abbrev pub MayReply : Op → Reply → List Update → Type 0
+MayReply (Mkfile path) Okay updates = ⊤
+MayReply (Mkfile path) (Refused cause) updates = updates ≡ []
+MayReply (Ls path) (Listed names) updates = updates ≡ []
+MayReply (Ls path) (Refused cause) updates = updates ≡ []
+MayReply Sync (Synced count) updates = (count ≡ 0) × (updates ≡ [])
+MayReply op reply updates = ⊥
 
 -- The plan's reply is that of the client's operation on the forest that the key map means, as an image holds it. With the updates,
 -- of which there are none unless the operation commits, the key map means the forest after it, and is sound and tidy.

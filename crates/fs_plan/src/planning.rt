@@ -1,6 +1,6 @@
 ghost use Rattle.std.specs.Prelude.{◌≡◌, ◌<◌, List, Some, true, IfErr, IfOk, IfSome};
 ghost use Rattle.forest_ops.specs.declared.operation.Op.TheVariants.{Ls, Mkfile};
-ghost use Rattle.fs_plan.specs.Plans.{IsGiven, IsPlanOf, is_planned};
+ghost use Rattle.fs_plan.specs.Plans.{IsGiven, IsPlanOf, MayReply, is_planned};
 ghost use Rattle.key_meaning.specs.Checks.{IsSound};
 ghost use Rattle.key_meaning.specs.Tidy.{IsTidy};
 ghost use Rattle.key_view.specs.Holds.{IsCause};
@@ -40,6 +40,7 @@ pub fn plan<V: View>(alloc: Global, view: &mut V, client: u8, op: Op) -> Result<
     ensures plan { IfOk result (λ plan. (keys : KeyMap) (nodes : List Place) (layout : Layout)
         → IsGiven keys (V.made view.new) (V.told view.new) → IsSound keys nodes layout → IsTidy keys
         → IsPlanOf keys nodes layout client plan) }
+    ensures reply { IfOk result (λ plan. MayReply plan.op plan.reply plan.updates) }
     ensures looks { GoesOn (V.made view.old) (V.made view.new) }
     ensures ids { IfSome (V.told view.old) (λ tree. V.told view.new ≡ Some tree) }
     ensures cause { IfErr result (IsCause (V.held view.new)) }
@@ -63,6 +64,7 @@ fn plan_file<V: View>(alloc: Global, view: &mut V, client: u8, path: Path) -> Re
     ensures plan { IfOk result (λ plan. (keys : KeyMap) (nodes : List Place) (layout : Layout)
         → IsGiven keys (V.made view.new) (V.told view.new) → IsSound keys nodes layout → IsTidy keys
         → IsPlanOf keys nodes layout client plan) }
+    ensures reply { IfOk result (λ plan. MayReply plan.op plan.reply plan.updates) }
     ensures looks { GoesOn (V.made view.old) (V.made view.new) }
     ensures ids { IfSome (V.told view.old) (λ tree. V.told view.new ≡ Some tree) }
     ensures cause { IfErr result (IsCause (V.held view.new)) }
@@ -87,6 +89,7 @@ fn plan_listing<V: View>(alloc: Global, view: &mut V, client: u8, path: Path) ->
     ensures plan { IfOk result (λ plan. (keys : KeyMap) (nodes : List Place) (layout : Layout)
         → IsGiven keys (V.made view.new) (V.told view.new) → IsSound keys nodes layout → IsTidy keys
         → IsPlanOf keys nodes layout client plan) }
+    ensures reply { IfOk result (λ plan. MayReply plan.op plan.reply plan.updates) }
     ensures looks { GoesOn (V.made view.old) (V.made view.new) }
     ensures ids { IfSome (V.told view.old) (λ tree. V.told view.new ≡ Some tree) }
     ensures cause { IfErr result (IsCause (V.held view.new)) }
