@@ -49,10 +49,10 @@ use Rattle.vol_core.proofs.NamedRoots.{nine_roots}
 -- ---- lists
 
 -- Of joined lists each has what all have.
-all_left : {X : Type 0} (P : X → Type 0) (xs ys : List X) → All P (xs ++ ys) → All P xs
+pub all_left : {X : Type 0} (P : X → Type 0) (xs ys : List X) → All P (xs ++ ys) → All P xs
 all_left P xs ys all k d lt = subst P (get_or_append_left xs ys d k lt) (all k d (let whole : length (xs ++ ys) ≡ length xs + length ys = length-append xs ys in omega (arith, lt, whole)))
 
-all_right : {X : Type 0} (P : X → Type 0) (xs ys : List X) → All P (xs ++ ys) → All P ys
+pub all_right : {X : Type 0} (P : X → Type 0) (xs ys : List X) → All P (xs ++ ys) → All P ys
 all_right P xs ys all k d lt = subst P (get_or-append-add xs ys k d) (all (length xs + k) d (let whole : length (xs ++ ys) ≡ length xs + length ys = length-append xs ys in omega (arith, lt, whole)))
 
 -- What holds of all places of nodes holds of those of each.
@@ -96,7 +96,7 @@ roots_back (root ∷ roots) = ap (λ (rest : List NodePtr). root ∷ rest) (root
 
 -- ---- places
 
-at_least : (mirror : Bool) (journal : ℕ) → 1 ≤ cond mirror (1 + journal) 1
+pub at_least : (mirror : Bool) (journal : ℕ) → 1 ≤ cond mirror (1 + journal) 1
 at_least true journal = omega arith
 at_least false journal = omega arith
 

@@ -1,10 +1,10 @@
 -- Inside an event nothing is lost that was durable when it began: whatever a crash leaves means one of the bases from before, and one that is no
--- earlier than the last durable one and has no fewer commits.
+-- earlier than the last durable one and has no fewer commits; and it is what is told of it by what was in memory.
 use Rattle.std.proofs.Common.{◌≡◌, ◌≤◌, ℕ, length, true, false, Option, Some, None, refl, sym, ap, subst, arith}
 use Rattle.core_memory.specs.Devices.{FlushesDevice, WritesEntry, WritesNode}
 use Rattle.core_memory.specs.Events.{FlushGives, WriteGives, WriteSetGives}
 use Rattle.core_memory.specs.States.{IsState, State}
-use Rattle.core_memory.specs.Volumes.{KeepParts, node_stage_of}
+use Rattle.core_memory.specs.Volumes.{KeepParts, Volume, node_stage_of}
 use Rattle.core_memory.specs.declared.answer.Answer.{Answer}
 use Rattle.core_memory.specs.declared.answer.Answer.TheVariants as answers
 use Rattle.core_memory.specs.declared.event.Event.{Event}
@@ -24,11 +24,20 @@ use Rattle.std.specs.Prelude.{All}
 use Rattle.vol_types.specs.declared.layout.Layout.{Layout}
 use Rattle.vol_core.specs.CoreLaws.{CoreLaws}
 use Rattle.vol_core.specs.Cores.{CoreState, StepGives}
-use Rattle.vol_core.specs.Safety.{IsCoreSafe, KeepsDurable}
+use Rattle.vol_core.specs.KeptFiles.{KeepsFiles}
+use Rattle.vol_core.specs.Left.{IsSoundFound, KeepsLeft}
+use Rattle.vol_core.specs.Rested.{KeepsRing}
+use Rattle.vol_core.specs.Safety.{IsCoreSafe, KeepsDurable, MayBegin}
 use Rattle.vol_core.proofs.BlockWritten.{block_safe}
 use Rattle.vol_core.proofs.Chains.{IsNoEarlier, all_below, last_durable, led_on}
+use Rattle.vol_core.proofs.FilesKept.{IsOfFiles, still_holds}
+use Rattle.vol_core.proofs.FilesStepped.{files_held}
+use Rattle.vol_core.proofs.LeftBases.{left_kept}
 use Rattle.vol_core.proofs.NodeStages.{writing_is}
+use Rattle.vol_core.proofs.Spared.{spares_here}
 use Rattle.vol_core.proofs.Stepped.{block_part, block_refused, block_told, flush_done, flush_failed, part_written}
+use Rattle.vol_core.proofs.Surviving.{StandsWhole}
+use Rattle.vol_core.proofs.WholeKept.{IsNeededPlace, needed_held, still_needed}
 use Rattle.vol_core.proofs.Written.{flushed_safe, written_safe}
 
 module _ (laws : CoreLaws) (begun : Found) (start : DevicesState) (old new : DevicesState) (memory : State) (is : IsState memory) (parts : KeepParts memory.volume) (kept : IsCoreSafe begun start old memory.volume) where
@@ -102,33 +111,49 @@ module _ (laws : CoreLaws) (begun : Found) (start : DevicesState) (old new : Dev
 
 module _ {D : Type 0} (laws : CoreLaws) (begun : Found) (start : DevicesState) (tells : Type 0) (told : tells) (state : D → DevicesState) (old new : CoreState D) (is : IsState old.memory) (parts : KeepParts old.memory.volume)
     (kept : IsCoreSafe begun start (state old.devices) old.memory.volume) (disks : All IsDisk (now (state new.devices))) (steady : AreSteady (state new.devices)) where
-  abbrev Keeps : Type 0
-  Keeps = KeepsDurable start (state old.devices) (state new.devices) old.memory.volume
-
-  safe_keeps : IsSafe kept.f.layout kept.bases kept.durable start.moment (state new.devices) → Keeps
-  safe_keeps = durable_kept laws begun start (state old.devices) (state new.devices) old.memory is parts kept
+  abbrev Stays : Type 0
+  Stays = IsSafe kept.f.layout kept.bases kept.durable start.moment (state new.devices)
 
   -- An event of memory.
-  same_keeps : new.devices ≡ old.devices → Keeps
-  same_keeps stays = safe_keeps (stays_safe laws begun start (state old.devices) (state new.devices) old.memory is parts kept (ap state stays))
+  same_safe : new.devices ≡ old.devices → Stays
+  same_safe same = stays_safe laws begun start (state old.devices) (state new.devices) old.memory is parts kept (ap state same)
+
+  -- Whatever a crash has left means one of the bases from before, whatever event an actor makes.
+  pub still_safe : (actor : ℕ) (event : Event) (answer : Answer) → StepGives tells state old actor event answer new → Stays
+  still_safe actor events.WriteEntry answer gives =
+      part_safe laws begun start (state old.devices) (state new.devices) old.memory is parts kept tells told disks steady (state new.devices).moment actor answer new.memory gives.0 gives.1
+  still_safe actor (events.Flush dev) answer gives =
+      flush_safe laws begun start (state old.devices) (state new.devices) old.memory is parts kept tells told disks steady dev (state new.devices).moment actor answer new.memory gives.0 gives.1
+  still_safe actor (events.WriteSet node) answer gives =
+      set_safe laws begun start (state old.devices) (state new.devices) old.memory is parts kept tells told disks steady node (state new.devices).moment actor answer new.memory gives.0 gives.1
+  still_safe actor (events.Begin first) answer gives = same_safe gives.1
+  still_safe actor (events.Look query) answer gives = same_safe gives.1
+  still_safe actor events.LookIds answer gives = same_safe gives.1
+  still_safe actor (events.Intend updates) answer gives = same_safe gives.1
+  still_safe actor (events.Commit counted) answer gives = same_safe gives.1
+  still_safe actor events.Finish answer gives = same_safe gives.1
+  still_safe actor events.Drop answer gives = same_safe gives.1
+  still_safe actor (events.Next work) answer gives = same_safe gives.1
+  still_safe actor events.Seal answer gives = same_safe gives.1
+  still_safe actor events.Settle answer gives = same_safe gives.1
+  still_safe actor (events.Freeze node) answer gives = same_safe gives.1
+  still_safe actor events.CommitNodes answer gives = same_safe gives.1
 
   -- Nothing that was durable is lost, whatever event an actor makes.
-  pub kept_durable : (actor : ℕ) (event : Event) (answer : Answer) → StepGives tells state old actor event answer new → Keeps
-  kept_durable actor events.WriteEntry answer gives =
-      safe_keeps (part_safe laws begun start (state old.devices) (state new.devices) old.memory is parts kept tells told disks steady (state new.devices).moment actor answer new.memory gives.0 gives.1)
-  kept_durable actor (events.Flush dev) answer gives =
-      safe_keeps (flush_safe laws begun start (state old.devices) (state new.devices) old.memory is parts kept tells told disks steady dev (state new.devices).moment actor answer new.memory gives.0 gives.1)
-  kept_durable actor (events.WriteSet node) answer gives =
-      safe_keeps (set_safe laws begun start (state old.devices) (state new.devices) old.memory is parts kept tells told disks steady node (state new.devices).moment actor answer new.memory gives.0 gives.1)
-  kept_durable actor (events.Begin first) answer gives = same_keeps gives.1
-  kept_durable actor (events.Look query) answer gives = same_keeps gives.1
-  kept_durable actor events.LookIds answer gives = same_keeps gives.1
-  kept_durable actor (events.Intend updates) answer gives = same_keeps gives.1
-  kept_durable actor (events.Commit counted) answer gives = same_keeps gives.1
-  kept_durable actor events.Finish answer gives = same_keeps gives.1
-  kept_durable actor events.Drop answer gives = same_keeps gives.1
-  kept_durable actor (events.Next work) answer gives = same_keeps gives.1
-  kept_durable actor events.Seal answer gives = same_keeps gives.1
-  kept_durable actor events.Settle answer gives = same_keeps gives.1
-  kept_durable actor (events.Freeze node) answer gives = same_keeps gives.1
-  kept_durable actor events.CommitNodes answer gives = same_keeps gives.1
+  pub kept_durable : (actor : ℕ) (event : Event) (answer : Answer) → StepGives tells state old actor event answer new → KeepsDurable start (state old.devices) (state new.devices) old.memory.volume
+  kept_durable actor event answer gives = durable_kept laws begun start (state old.devices) (state new.devices) old.memory is parts kept (still_safe actor event answer gives)
+
+  -- What a crash leaves is what is told of it, whatever event an actor makes.
+  pub left_stepped : MayBegin begun (now start) → KeepsRing old.memory.volume → (IsSoundFound begun → KeepsFiles begun start (state old.devices) old.memory.volume)
+      → (actor : ℕ) (event : Event) (answer : Answer) → StepGives tells state old actor event answer new → KeepsLeft begun start (state old.devices) (state new.devices) old.memory.volume
+  left_stepped begins ring files actor event answer gives =
+      left_kept begun start (state old.devices) (state new.devices) old.memory.volume kept begins ring (still_safe actor event answer gives) (λ sound. (files sound).in_use)
+      (λ sound. files_held laws begun start tells told state old new is parts kept begins sound (files sound) actor event answer gives)
+      (needed_held laws begun start tells told state old new is parts kept actor event answer gives)
+
+-- What a crash leaves now is what is told of it.
+pub left_now : StandsWhole → (begun : Found) (start state : DevicesState) (volume : Volume) → IsCoreSafe begun start state volume → MayBegin begun (now start) → KeepsRing volume → (IsSoundFound begun → KeepsFiles begun start state volume)
+    → KeepsLeft begun start state state volume
+left_now stands begun start state volume kept begins ring files =
+    left_kept begun start state state volume kept begins ring kept.safe.safe (λ sound. (files sound).in_use) (λ sound. still_holds begun start state state (spares_here (IsOfFiles begun) state) (files sound).left)
+    (still_needed kept.f state state (spares_here (IsNeededPlace kept.f) state) (stands kept.f kept.image kept.writing kept.asked kept.written kept.bases kept.durable start.moment state kept.safe))

@@ -71,7 +71,7 @@ module _ (laws : CoreLaws) (of_found : FoundLaws) (loaded : Loaded) (newest : Fo
       each_root of_found f image finds begins.roots (λ (place : Place). MayHoldNode f.layout place → HoldsNode volume.space place) (laws.buckets.opened_hold f.layout (keys_of_buckets (keys_in loaded.map)) (node_places f) layout_is) btree k d less
       (placed btree k d less)
 
-  leaves_kept : KeepsLeaves f None start (leaves_in volume)
+  pub leaves_kept : KeepsLeaves f None start (leaves_in volume)
   leaves_kept = laws.entries.begins f start (leaves_in volume) begins.ready.mended begins.roots begins.updates (roots_are of_found f image finds begins.roots) refl layout_is
       (laws.buckets.opened_fixed f.layout (keys_of_buckets (keys_in loaded.map)) (node_places f) layout_is) hold placed
       (λ btree entry needed changes. subst (λ (e : FoundEntry). IsPinnedUpTo (value_at nat_cmp (root_in f.trees.nodes btree).birth volume.pins) e.entry.oldest) (sym last_is)
@@ -112,7 +112,7 @@ module _ (laws : CoreLaws) (of_found : FoundLaws) (loaded : Loaded) (newest : Fo
   }
 
 -- The last of the needed entries is the newest one.
-last_found : (needed : List FoundEntry) (newest : FoundEntry) → 0 < length needed → slice_get needed (length needed - 1) ≡ Some newest → last_of needed ≡ newest
+pub last_found : (needed : List FoundEntry) (newest : FoundEntry) → 0 < length needed → slice_get needed (length needed - 1) ≡ Some newest → last_of needed ≡ newest
 last_found needed newest some last = same_Some (last_of needed) newest (sym (slice_get-get_or needed (length needed - 1) no_entry (omega (arith, some))) ∙ last)
 
 -- A volume that was loaded, as it is kept in memory, is safe on the devices that it was loaded from.

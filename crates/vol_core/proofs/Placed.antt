@@ -203,7 +203,7 @@ module _ (laws : CoreLaws) (begun : Found) (start : DevicesState) (old : Volume)
       changes = old.changes + 1;
     }
 
-    same_places : places_of gives.replaced ≡ replaced_places (fresh_leaves old.later old.work) (root_in nodes)
+    pub same_places : places_of gives.replaced ≡ replaced_places (fresh_leaves old.later old.work) (root_in nodes)
     same_places =
         replaced_are old.later nodes (root_in nodes) (root_named nodes kept.one) finished gives.replaced gives.before.names gives.before.pointers ∙ ap (λ (fresh : List FreshLeaf). replaced_places fresh (root_in nodes)) (sym all_whole)
 

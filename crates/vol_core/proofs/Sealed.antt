@@ -1,8 +1,9 @@
 -- The core stays safe where an entry is put in flight.
 use Rattle.std.proofs.Common.{◌≡◌, ◌≤◌, ◌<◌, ◌+◌, ◌-◌, ℕ, List, [], ◌∷◌, ◌++◌, length, min, Option, Some, None, refl, sym, ap, subst, ◌∙◌, arith}
 use Rattle.std.proofs.lemmas.List.{length-map}
-use Rattle.std.proofs.lemmas.List.Elements.{All-cons, All-head, All-nil, All-tail}
+use Rattle.std.proofs.lemmas.List.Elements.{All-cons, All-head, All-map, All-nil, All-tail}
 use Rattle.std.specs.Prelude.{All, IfSome, slice_get}
+use Rattle.btree_map.specs.Sizes.{all_btrees}
 use Rattle.btree_map.specs.Trees.{keys_in}
 use Rattle.checkpoint_safety.specs.Kept.{KeepsLeaves}
 use Rattle.checkpoint_safety.specs.Steps.{IsNamed}
@@ -40,6 +41,7 @@ use Rattle.vol_core.specs.VolumeLeaves.{leaves_in}
 use Rattle.vol_core.proofs.Chains.{chain_push, first_stays}
 use Rattle.vol_core.specs.CoreLaws.{CoreLaws}
 use Rattle.vol_core.proofs.KnownParts.{known_also}
+use Rattle.vol_core.proofs.LeafTrees.{IsLeafRoot}
 use Rattle.vol_core.proofs.NamedRoots.{needed_within, nine_roots}
 use Rattle.vol_core.proofs.NeededEntries.{smaller_within, starts_push}
 use Rattle.vol_core.proofs.Stages.{sealing_is_free}
@@ -159,6 +161,10 @@ module _ (laws : CoreLaws) (begun : Found) (start : DevicesState) (volume : Volu
       pins = λ btree p pinned. subst (λ (n : ℕ). n ≤ p) passed_is (needed_within ((oldest volume.queue).after + 1) (root_in volume.trees.nodes btree).birth p volume.pins pinned);
     }
 
+    -- The roots that it names are leaves.
+    leaf_roots : All IsLeafRoot entry.roots
+    leaf_roots = subst (All IsLeafRoot) (sym is_named.roots) (All-map IsLeafRoot (root_in volume.trees.nodes) all_btrees (λ k d less. (leaves.stand _).leaf))
+
     flown_one : IsCoreSafe begun start state after_it
     flown_one = with_writing (laws.entries.seals f kept.image kept.bases kept.durable start.moment state passed next blocks (leaves_in volume) safe leaves is_named)
       where
@@ -172,7 +178,8 @@ module _ (laws : CoreLaws) (begun : Found) (start : DevicesState) (volume : Volu
             let w_keys : w.trees.keys ≡ with_updates w.next.entry.updates f.trees.keys = subst (λ (n : FoundEntry). w.trees.keys ≡ with_updates n.entry.updates f.trees.keys) (sym next_is) made.4 in
             let w_sequence : w.next.entry.sequence ≡ f.last.entry.sequence + 1 = subst (λ (n : FoundEntry). n.entry.sequence ≡ f.last.entry.sequence + 1) (sym next_is) sequence in
             let w_commits : f.last.entry.commits ≤ w.next.entry.commits = subst (λ (n : FoundEntry). f.last.entry.commits ≤ n.entry.commits) (sym next_is) (let known = kept.known.commits in omega (arith, known, rises)) in
-            let led : IsLed f (after w f) = record { w = w; is = refl; sequence = w_sequence; commits = w_commits; leaves = w_leaves; keys = w_keys } in
+            let w_roots : All IsLeafRoot w.next.entry.roots = subst (λ (n : FoundEntry). All IsLeafRoot n.entry.roots) (sym next_is) leaf_roots in
+            let led : IsLed f (after w f) = record { w = w; is = refl; sequence = w_sequence; commits = w_commits; roots = w_roots; leaves = w_leaves; keys = w_keys } in
             let count : length blocks ≡ parts_of entry = are_blocks.count in
             let same_count : length w.blocks ≡ length blocks = ap (λ (bs : List (List ℕ)). length bs) blocks_are in
             record {

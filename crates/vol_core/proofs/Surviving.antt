@@ -11,11 +11,15 @@ use Rattle.vol_types.specs.declared.layout.Layout.{Layout}
 use Rattle.vol_core.specs.Safety.{IsCoreSafe, Survives}
 use Rattle.vol_core.proofs.Chains.{last_durable}
 
--- whatever a crash leaves now of a safe journal, each entry that the last durable one needs stands on every metadata device
+-- Each needed entry of what was found stands whole on every metadata device of the image.
+abbrev pub HoldsNeeded : Found → Image → Type 0
+HoldsNeeded f image = (index : ℕ) → index < length f.needed → StandsOnAll f.layout image (slice_index_or f.needed index f.last)
+
+-- whatever a crash leaves now of a safe journal holds each entry that the last durable one needs
 abbrev pub StandsWhole : Type 0
 StandsWhole =
     (f : Found) (image : Image) (writing : Option Writing) (asked written : ℕ) (bases : List Found) (durable : List ℕ) (first : ℕ) (state : DevicesState) → IsSafeWithNodes f image writing asked written bases durable first state
-    → (other : Image) → IsCrashImage (now state) other → (index : ℕ) → index < length f.needed → StandsOnAll f.layout other (slice_index_or f.needed index f.last)
+    → (other : Image) → IsCrashImage (now state) other → HoldsNeeded f other
 
 pub survives : StandsWhole → (begun : Found) (start state : DevicesState) (volume : Volume) → IsCoreSafe begun start state volume → Survives begun start state volume
 survives stands begun start state volume kept = record {

@@ -11,17 +11,20 @@ use Rattle.checkpoint_safety.specs.Kept.{HoldsOwn, IsLeafPlanned, KeepsLeaves}
 use Rattle.checkpoint_safety.specs.Leaves.{FreshLeaf, Leaves}
 use Rattle.checkpoint_safety.specs.Steps.{ArePinnedMore, AreSameLeaves, HoldBack, IsNamed, MayBePlaced, given_up, placed, settled_leaves, with_fresh, with_last}
 use Rattle.commit_plan.specs.Dirty.{with_pins}
-use Rattle.dev_model.specs.Crashes.{IsQuiet}
+use Rattle.dev_model.specs.Crashes.{IsQuiet, SameBut}
 use Rattle.dev_model.specs.Devices.{DevicesState, now}
-use Rattle.dev_model.specs.Disk.{Disk, Image, IsDisk, as_read}
+use Rattle.dev_model.specs.Disk.{Disk, Image, IsCrashImage, IsDisk, as_read}
 use Rattle.entry_queue.specs.Changes.{LeadTo, changes_of}
 use Rattle.entry_queue.specs.Queues.{Queue, durable_keys, empty_queue, joined, oldest, waiting, without_oldest}
 use Rattle.entry_queue.specs.declared.changes.KeyChanges.{KeyChanges}
-use Rattle.image_view.specs.Found.{Found, found}
-use Rattle.image_view.specs.NextEntries.{AreNumberedBelow}
+use Rattle.image_view.specs.Bases.{AgreeOnBase}
+use Rattle.image_view.specs.Found.{Found, IsInOrder, found, node_places as places_found}
+use Rattle.image_view.specs.Mends.{IsPlaceOf}
+use Rattle.image_view.specs.NextEntries.{AreNumberedBelow, IsNext}
 use Rattle.image_view.specs.UpdatedTrees.{IsOfLeaf}
 use Rattle.journal_ring.specs.Counting.{needed_by, newest}
 use Rattle.journal_ring.specs.Entries.{IsWhole}
+use Rattle.journal_ring.specs.EntryBlocks.{parts_of}
 use Rattle.journal_ring.specs.Parts.{Area, area_of}
 use Rattle.journal_ring.specs.Rings.{RingState}
 use Rattle.journal_ring.specs.declared.found.FoundEntry.{FoundEntry}
@@ -31,18 +34,19 @@ use Rattle.journal_safety.specs.Parts.{IsPartWritten, IsRingOf, standing_by}
 use Rattle.journal_safety.specs.Safety.{IsJournalSafe}
 use Rattle.journal_safety.specs.Standing.{AreSteady}
 use Rattle.journal_safety.specs.Writings.{Writing, after}
+use Rattle.key_meaning.specs.Checks.{AreNodesPlaced}
 use Rattle.node_contents.specs.Contents.{ChangesBtree, IsPinnedUpTo}
 use Rattle.node_mem.specs.Nodes.{with_keys}
 use Rattle.node_safety.specs.NodeParts.{IsNodePartWritten}
 use Rattle.node_work.specs.Placing.{AreFrozenLeaves, exchanges_of, moved_pins}
 use Rattle.node_writer.specs.declared.node.FrozenNode.{FrozenNode}
 use Rattle.pin_list.specs.Pins.{smaller}
-use Rattle.replay.specs.Mending.{HasMended}
+use Rattle.replay.specs.Mending.{HasMended, StandsOnAll}
 use Rattle.replay.specs.NodeUpdates.{ChangesNode, EachUpdate, IsBelowRoot}
 use Rattle.replay.specs.Volumes.{trees_read}
 use Rattle.std.specs.List.{list_any}
 use Rattle.std.specs.Ordering.{nat_cmp}
-use Rattle.std.specs.Prelude.{All, Bool, Contains, IfSome, List, None, Ok, Option, Some, [], if◌then◌else◌, length, map, true, ℕ, ◌*◌, ◌++◌, ◌+◌, ◌-◌, ◌<◌, ◌==◌, ◌^◌, ◌↔◌, ◌∷◌, ◌≡◌, ◌≢◌, ◌≤◌}
+use Rattle.std.specs.Prelude.{All, Bool, Contains, IfSome, List, None, Ok, Option, Some, [], if◌then◌else◌, length, map, slice_index_or, true, ℕ, ◌*◌, ◌++◌, ◌+◌, ◌-◌, ◌<◌, ◌==◌, ◌^◌, ◌↔◌, ◌∷◌, ◌≡◌, ◌≢◌, ◌≤◌}
 use Rattle.tree_nodes.specs.Levels.{Levels}
 use Rattle.vol_types.specs.KeyMaps.{Entries, IsKeyMap, KeyMap, entries_of, keys_in, with_updates}
 use Rattle.vol_types.specs.Layouts.{is_layout}
@@ -62,6 +66,12 @@ pub record JournalLaws : Type 0 where
   pub writes : (f : Found) (image : Image) (w : Writing) (asked written : ℕ) (bases : List Found) (durable : List ℕ) (first : ℕ) (old new : DevicesState) (ring : RingState) (failed : Option ℕ) → IsSafeWithNodes f image (Some w) asked written bases durable first old → asked ≤ written + 1 → written < length w.blocks → IsRingOf f.layout w written ring → IsPartWritten ring failed old new → All IsDisk (now new) → AreSteady new → IsSafeWithNodes f image (Some w) (written + 1) (standing_by failed written) bases durable first new
   pub flushes : (f : Found) (image : Image) (writing : Option Writing) (asked written : ℕ) (bases : List Found) (durable : List ℕ) (first : ℕ) (old new : DevicesState) (dev : ℕ) (done : Bool) → IsSafeWithNodes f image writing asked written bases durable first old → Flushes dev done old new → All IsDisk (now new) → AreSteady new → IsSafeWithNodes f image writing asked written bases durable first new
   pub settles : (f : Found) (image : Image) (w : Writing) (asked written : ℕ) (bases : List Found) (durable : List ℕ) (first : ℕ) (state : DevicesState) → IsSafeWithNodes f image (Some w) asked written bases durable first state → written ≡ length w.blocks → AreSettled f.layout.metadata_replicas (now state) → IsSafeWithNodes (after w f) (as_read (now state)) None 0 0 bases (durable ++ state.moment ∷ []) first state
+  pub whole : (f : Found) (image : Image) (writing : Option Writing) (asked written : ℕ) (bases : List Found) (durable : List ℕ) (first : ℕ) (state : DevicesState) → IsSafeWithNodes f image writing asked written bases durable first state → (other : Image) → IsCrashImage (now state) other → (index : ℕ) → index < length f.needed → StandsOnAll f.layout other (slice_index_or f.needed index f.last)
+
+-- Needed entries end where the last of their parts does, and no place of the next entry is one that what was found hangs on.
+pub record EntryPlaceLaws : Type 0 where
+  pub ends : (image : Image) (f : Found) → found image ≡ Ok f → (index : ℕ) → index < length f.needed → (slice_index_or f.needed index f.last).end ≡ (slice_index_or f.needed index f.last).number + parts_of (slice_index_or f.needed index f.last).entry
+  pub base : (one other : Image) (f : Found) (passed : ℕ) (next : FoundEntry) (count : ℕ) → found one ≡ Ok f → IsInOrder f one → AreNodesPlaced (places_found f) f.layout → IsNext f passed next → count ≤ parts_of next.entry → map (λ blocks. length blocks) one ≡ map (λ blocks. length blocks) other → SameBut (IsPlaceOf f.layout next count) one other → AgreeOnBase f one other
 
 -- Flags tell which devices are settled.
 pub record FlagLaws : Type 0 where
@@ -132,6 +142,7 @@ pub record MergeLaws : Type 0 where
 -- All that the events of an open volume hang on.
 pub record CoreLaws : Type 0 where
   pub journal : JournalLaws
+  pub places_of_entries : EntryPlaceLaws
   pub flags : FlagLaws
   pub keys : KeyLaws
   pub entries : EntryLaws

@@ -4,3 +4,5 @@ pub mod Safety
 pub mod VolumeLeaves
 pub mod CoreLaws
 pub mod Rested
+pub mod Left
+pub mod KeptFiles

@@ -33,12 +33,13 @@ nothing_found = record {
 }
 
 -- The second of two bases is what the next entry leads to: it has no fewer commits than the first one, and its keys, with the entry's updates,
--- which are of keys in leaves.
+-- which are of keys in leaves; and the roots that the entry names are leaves.
 pub record IsLed (one other : Found) : Type 0 where
   pub w : Writing
   pub is : other ≡ after w one
   pub sequence : w.next.entry.sequence ≡ one.last.entry.sequence + 1
   pub commits : one.last.entry.commits ≤ w.next.entry.commits
+  pub roots : All (λ (root : NodePtr). root.level ≡ 0) w.next.entry.roots
   pub leaves : All IsOfLeaf w.next.entry.updates
   pub keys : w.trees.keys ≡ with_updates w.next.entry.updates one.trees.keys
 

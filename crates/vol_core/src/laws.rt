@@ -5,8 +5,13 @@ use bucket_pool::nodes_keep_their_buckets;
 use checkpoint_safety::{entries_of_leaves_are_safe, leaves_are_written_safely};
 use commit_plan::changed_pins_are_known;
 use entry_queue::waiting_changes_lead_from_durable_keys;
-use image_view::{needed_entries_are_counted, updates_of_leaves_join_the_keys};
-use journal_ring::leading_entries_are_needed;
+use image_view::{
+    crashes_leave_the_next_entry_or_not, mending_changes_nothing, needed_entries_are_counted,
+    updates_of_leaves_join_the_keys,
+};
+use journal_ring::{
+    leading_entries_are_needed, mended_entries_stay_whole, whole_entries_are_made_of_blocks,
+};
 use journal_safety::{
     entries_are_written_safely, entries_with_new_nodes_are_written_safely,
     flushed_devices_are_settled,
@@ -21,6 +26,10 @@ pub(crate) fn open_volumes_have_laws()
 {
     entries_are_written_safely();
     entries_with_new_nodes_are_written_safely();
+    crashes_leave_the_next_entry_or_not();
+    mending_changes_nothing();
+    whole_entries_are_made_of_blocks();
+    mended_entries_stay_whole();
     flushed_devices_are_settled();
     waiting_changes_lead_from_durable_keys();
     entries_of_leaves_are_safe();

@@ -1,12 +1,15 @@
-ghost use Rattle.std.specs.Prelude.{◌≡◌, ◌≢◌, ◌↔◌, ℕ, true, IfErr, IfOk, IsTrue};
+ghost use Rattle.std.specs.Prelude.{◌≡◌, ◌≢◌, ◌↔◌, ◌<◌, ℕ, true, length, IfErr, IfOk, IfSome, IsTrue};
 ghost use Rattle.core_memory.specs.Events.{Fits};
 ghost use Rattle.core_memory.specs.Opening.{IsOpened};
 ghost use Rattle.core_memory.specs.States.{mine};
 ghost use Rattle.geometry.specs.Layouts.{is_layout_of};
 ghost use Rattle.image_view.specs.Found.{node_places};
+ghost use Rattle.replay.specs.Mending.{KeepsPast};
 ghost use Rattle.replay.specs.Volumes.{found_in};
 ghost use Rattle.dev_model.specs.Devices.{now};
+ghost use Rattle.dev_model.specs.Frames.{GoOn, after_writes};
 ghost use Rattle.vol_core.specs.Cores.{StepGives};
+ghost use Rattle.vol_core.specs.Left.{KeepsLeft, failed_by};
 ghost use Rattle.vol_core.specs.Rested.{HasRoomAfterCheckpoint, IsRested};
 ghost use Rattle.vol_core.specs.Safety.{KeepsDurable, KeepsSafe, MayBegin, Survives};
 ghost use Rattle.vol_types.specs.Layouts.{is_layout};
@@ -24,7 +27,8 @@ use std::marker::{Model, PhantomData};
 ///
 /// Its type keeps what the session promises, where the devices tell and the volume was found in order, each btree one leaf: whatever a crash
 /// has left of the devices since it was opened means what some entry of the journal led to, and none before the last that was durable by then
-/// (`survives`, and inside an event `keeps`), as far as no torn block opens by chance.
+/// (`survives`, and inside an event `keeps`), as far as no torn block opens by chance. What it leaves now is told by what is in memory, and can be
+/// opened again (`left`); and where what was found is sound, the blocks of its files are as they were.
 #[derive(Drop)]
 pub struct Core<D: Devices, O: Opening> {
     memory: Memory,
@@ -86,12 +90,17 @@ impl<D: Devices, O: Opening> Core<D, O> {
 
     /// The devices on which it lies. Where they tell what they hold, and the volume was found in order with its journal mended and each btree
     /// one leaf, whatever a crash has left of them since then means what some entry led to, and none before the last that was durable
-    /// by that moment, as far as no torn block opens by chance.
+    /// by that moment, as far as no torn block opens by chance. What a crash leaves now is what the last durable entry led to, by whose keys and the
+    /// changes that aren't durable the keys in memory come, or what the entry in flight leads to; each btree of it is one leaf, and each entry that the
+    /// last durable one needs stands whole on every metadata device. Where what was found is sound, no node lies among the blocks of its files, and these
+    /// are as they were.
     pub fn devices(&self) -> &D
         ensures devices { result.now ≡ self.now.devices }
         ensures safe { KeepsSafe D.tells O.found O.start (D.state result.now) self.now.memory.volume }
         ensures survives { D.tells → MayBegin O.found (now O.start)
             → Survives O.found O.start (D.state result.now) self.now.memory.volume }
+        ensures left { D.tells → MayBegin O.found (now O.start)
+            → KeepsLeft O.found O.start (D.state result.now) (D.state result.now) self.now.memory.volume }
     {
         entries_with_new_nodes_are_written_safely();
         &self.devices
@@ -113,7 +122,9 @@ impl<D: Devices, O: Opening> Core<D, O> {
 
     /// Makes an event of an actor, and answers it. What other actors have under way stays. Where the session may begin with what
     /// was found, and no torn block of the journal areas opens by chance, whatever a crash leaves at a moment of the event means
-    /// what an entry led to that is no earlier than the last one that was durable when the event began, and has no fewer commits.
+    /// what an entry led to that is no earlier than the last one that was durable when the event began, and has no fewer commits; it is
+    /// told by what was in memory then, and can be opened again (`left`), as `devices` says it of the present moment.
+    /// Devices are only written and flushed, and a failure that is answered names the device whose count rose; no other count did.
     /// It costs what `Memory::step` does. `Begin`, `Intend`, `Finish`, `Drop` and `Next` take no memory.
     pub fn step(&mut self, actor: u8, event: Event) -> Answer
         requires { Fits self.old.memory actor event }
@@ -122,6 +133,14 @@ impl<D: Devices, O: Opening> Core<D, O> {
             ≡ mine self.old.memory other }
         ensures keeps { D.tells → MayBegin O.found (now O.start) → KeepsDurable O.start
             (D.state self.old.devices) (D.state self.new.devices) self.old.memory.volume }
+        ensures left { D.tells → MayBegin O.found (now O.start) → KeepsLeft O.found O.start
+            (D.state self.old.devices) (D.state self.new.devices) self.old.memory.volume }
+        ensures goes_on { GoOn (D.state self.old.devices) (D.state self.new.devices) }
+        ensures past { D.tells → KeepsPast (D.state self.old.devices) (D.state self.new.devices) }
+        ensures cause { (D.state self.new.devices).faults ≡ after_writes (failed_by result)
+            (D.state self.old.devices).faults }
+        ensures device { IfSome (failed_by result)
+            (λ dev. dev < length (D.state self.old.devices).sizes) }
     {
         open_volumes_have_laws();
         self.memory.see_kept();
@@ -136,6 +155,7 @@ fn make<D: Devices>(memory: &mut Memory, devices: &mut D, actor: u8, event: Even
     ensures gives { StepGives D.tells D.state (record { memory = memory.old; devices = devices.old })
         actor event result (record { memory = memory.new; devices = devices.new }) }
     ensures layout { is_layout_of (D.state devices.new).sizes memory.new.volume.layout ≡ true }
+    ensures goes_on { GoOn (D.state devices.old) (D.state devices.new) }
     ensures others { (other : ℕ) → other ≢ actor → mine memory.new other ≡ mine memory.old other }
 {
     match event {

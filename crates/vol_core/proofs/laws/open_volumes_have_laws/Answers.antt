@@ -1,3 +1,6 @@
+use Rattle.std.proofs.Common.{◌+◌, ap, ◌∙◌}
+use Rattle.std.specs.Prelude.{slice_index_or}
+use Rattle.journal_ring.specs.Parts.{area_of}
 use Rattle.vol_core.proofs.laws.open_volumes_have_laws.Goals as goal
 
 pub returns : goal.returns
@@ -8,6 +11,15 @@ returns c = record {
     writes = c.entries_with_new_nodes_are_written_safely.ensures.writes;
     flushes = c.entries_with_new_nodes_are_written_safely.ensures.flushes;
     settles = c.entries_with_new_nodes_are_written_safely.ensures.settles;
+    whole = c.entries_with_new_nodes_are_written_safely.ensures.whole;
+  };
+  places_of_entries = record {
+    ends = λ image f finds index low.
+        let entry = slice_index_or f.needed index f.last in
+        let whole = c.mending_changes_nothing.ensures.whole image f finds index low in
+        let made = c.whole_entries_are_made_of_blocks.ensures f.layout (area_of image) whole.0 entry whole.1 in
+        made.1.end ∙ ap (λ n. entry.number + n) (c.mended_entries_stay_whole.ensures.sealed f.layout (area_of image) entry made.0 made.1).count;
+    base = c.crashes_leave_the_next_entry_or_not.ensures.base;
   };
   flags = record {
     begins = c.flushed_devices_are_settled.ensures.begins;
