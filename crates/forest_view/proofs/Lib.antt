@@ -1,0 +1,11 @@
+pub mod Spans
+pub mod ChainLaws
+pub mod Adding
+pub mod Slots
+pub mod NearestLaws
+pub mod Unread
+pub mod InodeLaws
+pub mod NameLaws
+pub mod TreeMade
+pub mod SubvolumesMade
+pub mod ForestMade

@@ -1,0 +1,4 @@
+pub mod Meant
+pub mod Nearest
+pub mod Shown
+pub mod Subvolumes
