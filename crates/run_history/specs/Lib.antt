@@ -1,0 +1,4 @@
+pub mod Acknowledged
+pub mod Failures
+pub mod Fits
+pub mod FitLaws

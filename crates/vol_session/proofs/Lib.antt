@@ -1,0 +1,15 @@
+pub mod GoodMarks
+pub mod JoinedPlaces
+pub mod Kept
+pub mod LaterForests
+pub mod MarkParts
+pub mod MarkedEntries
+pub mod MovedMarks
+pub mod Moves
+pub mod NextEntries
+pub mod Surviving
+pub mod SurvivingAcks
+pub mod SurvivingBases
+pub mod SurvivingFiles
+pub mod SurvivingPast
+pub mod WriterKept

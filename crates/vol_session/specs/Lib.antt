@@ -1,0 +1,4 @@
+pub mod Marks
+pub mod Writing
+pub mod Survivors
+pub mod Sessions

@@ -1,0 +1,268 @@
+ghost use Rattle.std.specs.Prelude.{◌≡◌, ◌≢◌, ◌++◌, ◌∷◌, ◌+◌, ◌<◌, [], ℕ, All, IfErr, IfOk, IfSome, None, OnOk, length, true, false};
+ghost use Rattle.core_memory.specs.Events.{Fits, IsMade, intended_by};
+ghost use Rattle.core_memory.specs.Opening.{IsOpened};
+ghost use Rattle.core_memory.specs.Volumes.{are_durable};
+ghost use Rattle.core_memory.specs.declared.event.Event.TheVariants.{Commit};
+ghost use Rattle.dev_model.specs.Frames.{GoOn, after_writes};
+ghost use Rattle.forest_ops.specs.Classes.{may_fail};
+ghost use Rattle.forest_ops.specs.History.{EachEntry, IsLegal, commit_count, commits};
+ghost use Rattle.fs_plan.specs.Plans.{is_planned};
+ghost use Rattle.geometry.specs.Layouts.{is_layout_of};
+ghost use Rattle.image_view.specs.Found.{node_places};
+ghost use Rattle.plain_forest.specs.Forest.{Forest};
+ghost use Rattle.replay.specs.Mending.{KeepsPast};
+ghost use Rattle.replay.specs.Volumes.{found_in};
+ghost use Rattle.run_history.specs.Acknowledged.{AreAcks, synced_count};
+ghost use Rattle.vol_core.specs.Cores.{StepGives};
+ghost use Rattle.vol_core.specs.Left.{failed_by};
+ghost use Rattle.vol_core.specs.Rested.{HasRoomAfterCheckpoint, IsRested};
+ghost use Rattle.vol_session.specs.Marks.{commits_found, forest_found};
+ghost use Rattle.vol_session.specs.Sessions.{IsCounted, IsExact, IsNoCommit, IsPlanNow, IsToldNow, IsUncommitted};
+ghost use Rattle.vol_session.specs.Survivors.{BeginsWell, Survive};
+ghost use Rattle.vol_types.specs.declared.positions.Btree.TheVariants.{Extents};
+
+use dev_model::Devices;
+use entry_queue::waiting_changes_lead_from_durable_keys;
+use forest_ops::{Entry, Op, Reply, Trace};
+use replay::{Loaded, found_btrees_are_a_key_map};
+use run_history::{Ack, Acks};
+use std::alloc::{AllocError, Global};
+use std::marker::Model;
+use vol_core::{Answer, Core, Event, Memory, Opening, Unopened};
+use vol_types::SpareList;
+
+/// A session over an open volume, in which client 0 runs operations. It may be sent to another thread.
+///
+/// Each event is made by `step`, but a commit, which `commit` makes together with its entry in the history.
+#[derive(Drop)]
+pub struct Session<D: Devices, O: Opening> {
+    core: Core<D, O>,
+    trace: SpareList<Entry>,
+    acks: SpareList<Ack>,
+    commits: u64,
+}
+
+/// An operation that wasn't committed, with its reply, and what was answered in place of the commit.
+#[derive(Drop)]
+pub struct Uncommitted {
+    pub answer: Answer,
+    pub op: Op,
+    pub reply: Reply,
+}
+
+impl<D: Devices, O: Opening> Model for Session<D, O> {
+    ghost use Rattle.std.specs.Prelude.{min};
+    ghost use Rattle.vol_session.specs.Sessions.{IsSession, SessionState};
+
+    ghost Value = { SessionState D };
+
+    ghost view = { λ s. record { core = s.core; trace = s.trace.members; acks = s.acks.members; commits = s.commits; spare = min s.trace.spare s.acks.spare } };
+
+    ghost invariant = { λ s. IsSession D.tells O.found O.start (D.state s.core.devices) s.core.memory s.trace.members s.acks.members s.commits };
+}
+
+impl<D: Devices, O: Opening> Session<D, O> {
+    /// A session over a volume that was loaded from devices, with an empty history. No device is called. It costs what `Core::of` does.
+    /// An `Err` is out of memory.
+    pub fn of(alloc: Global, loaded: Loaded, devices: D) -> Result<Session<D, O>, Unopened<D>>
+        requires layout { is_layout_of (D.state devices).sizes loaded.layout ≡ true }
+        requires opening { found_in loaded ≡ O.found }
+        requires start { D.state devices ≡ O.start }
+        ensures opened { IfOk result (λ session. IsOpened loaded.layout loaded.session loaded.map
+            loaded.needed (node_places (found_in loaded)) session.core.memory) }
+        ensures devices { IfOk result (λ session. session.core.devices ≡ devices) }
+        ensures trace { IfOk result (λ session. session.trace ≡ []) }
+        ensures acks { IfOk result (λ session. session.acks ≡ []) }
+        ensures commits { IfOk result (λ session. session.commits ≡ 0) }
+        ensures err { IfErr result (λ unopened. unopened.devices ≡ devices) }
+    {
+        found_btrees_are_a_key_map();
+        let core = Core::of(alloc, loaded, devices)?;
+        core.memory().see_kept();
+        let _ = core.devices();
+        Ok(Session {
+            core,
+            trace: SpareList::new(alloc),
+            acks: SpareList::new(alloc),
+            commits: 0,
+        })
+    }
+
+    /// What is in memory. A volume at rest has room, as `Core::memory` says.
+    pub fn memory(&self) -> &Memory
+        ensures memory { result.now ≡ self.now.core.memory }
+        ensures counted { IsCounted O.found O.start (D.state self.now.core.devices)
+            self.now.core.memory.volume self.now.trace self.now.acks self.now.commits }
+        ensures rested { D.tells → BeginsWell O.found O.start
+            → IsRested self.now.core.memory.volume
+            → HasRoomAfterCheckpoint self.now.core.memory.volume }
+    {
+        self.core.memory()
+    }
+
+    /// The devices on which the volume lies.
+    pub fn devices(&self) -> &D
+        ensures { result.now ≡ self.now.core.devices }
+    {
+        self.core.devices()
+    }
+
+    /// How many commits the session has made.
+    pub fn commits(&self) -> u64
+        ensures is { result ≡ self.now.commits }
+        ensures counted { result ≡ commit_count (forest_found O.found O.start) self.now.trace }
+    {
+        self.commits
+    }
+
+    /// Makes room for one more entry of the history, and one more acknowledgement. An `Err` changes nothing but that room.
+    pub fn reserve(&mut self) -> Result<(), AllocError>
+        ensures ok { OnOk result (0 < self.new.spare) }
+        ensures rest { self.new ≡ record self.old { spare = self.new.spare } }
+    {
+        self.trace.reserve(1)?;
+        self.acks.reserve(1)
+    }
+
+    /// Makes an event of client 0 that commits nothing, and answers it, as `Core::step` does and at its cost.
+    pub fn step(&mut self, event: Event) -> Answer
+        requires fits { Fits self.old.core.memory 0 event }
+        requires no_commit { IsNoCommit event }
+        ensures gives { StepGives D.tells D.state self.old.core 0 event result self.new.core }
+        ensures rest { self.new ≡ record self.old { core = self.new.core } }
+        ensures goes_on { GoOn (D.state self.old.core.devices) (D.state self.new.core.devices) }
+        ensures past { D.tells → KeepsPast (D.state self.old.core.devices)
+            (D.state self.new.core.devices) }
+        ensures cause { (D.state self.new.core.devices).faults ≡ after_writes (failed_by result)
+            (D.state self.old.core.devices).faults }
+        ensures device { IfSome (failed_by result)
+            (λ dev. dev < length (D.state self.old.core.devices).sizes) }
+    {
+        found_btrees_are_a_key_map();
+        self.core.memory().see_kept();
+        self.core.step(0, event)
+    }
+
+    /// Commits the updates that client 0 intends, and puts the entry of its operation into the history. No device is called. It costs what a
+    /// `Commit` does, and takes no memory for the entry. An `Err` says why it isn't committed, and gives the operation and its reply back.
+    pub fn commit(&mut self, op: Op, reply: Reply) -> Result<(), Uncommitted>
+        requires spare { 0 < self.old.spare }
+        requires fits { Fits self.old.core.memory 0 (Commit true) }
+        requires planned { is_planned op ≡ true }
+        requires commits { (forest : Forest) → commits op reply forest ≡ true }
+        requires unsynced { synced_count reply ≡ None }
+        requires plan { IsPlanNow self.old.core.memory 0 (record {
+          op = op;
+          updates = intended_by self.old.core.memory 0;
+          reply = reply;
+        }) }
+        ensures made { OnOk result (IsMade self.old.core.memory 0 true self.new.core.memory) }
+        ensures entry { OnOk result (self.new ≡ record self.old {
+          core = self.new.core;
+          trace = self.old.trace ++ record { client = 0; op = op; reply = reply } ∷ [];
+          commits = self.old.commits + 1;
+          spare = self.new.spare;
+        }) }
+        ensures err { IfErr result (λ not. IsUncommitted self.old.core.memory 0 not.answer
+            self.new.core.memory × (not.op ≡ op) × (not.reply ≡ reply)
+            × (self.new ≡ record self.old { core = self.new.core })) }
+        ensures devices { self.new.core.devices ≡ self.old.core.devices }
+    {
+        waiting_changes_lead_from_durable_keys();
+        self.core.memory().see_kept();
+        match self.core.step(0, Event::Commit { counted: true }) {
+            Answer::Done => {
+                // The count of commits since format is one of 64 bits, and no less.
+                self.core.memory().see_kept();
+                self.commits += 1;
+                self.trace.push(Entry {
+                    client: 0,
+                    op,
+                    reply,
+                });
+                Ok(())
+            }
+            answer => Err(Uncommitted { answer, op, reply }),
+        }
+    }
+
+    /// Puts the entry of an operation of client 0 into the history that changes nothing: its reply is the forest's, or a failure that it may have.
+    /// It takes no memory.
+    pub fn tell(&mut self, op: Op, reply: Reply)
+        requires spare { 0 < self.old.spare }
+        requires planned { is_planned op ≡ true }
+        requires no_commit { (forest : Forest) → commits op reply forest ≡ false }
+        requires unsynced { synced_count reply ≡ None }
+        requires told { IsToldNow self.old.core.memory 0 op reply }
+        ensures { self.new ≡ record self.old {
+          trace = self.old.trace ++ record { client = 0; op = op; reply = reply } ∷ [];
+          spare = self.new.spare;
+        } }
+    {
+        self.trace.push(Entry {
+            client: 0,
+            op,
+            reply,
+        });
+    }
+
+    /// Acknowledges all commits as durable, in the entry of a sync of client 0, and answers how many the session has made. It takes no memory.
+    pub fn acknowledge(&mut self) -> u64
+        requires spare { 0 < self.old.spare }
+        requires durable { are_durable None self.old.core.memory.volume ≡ true }
+        ensures count { result ≡ self.old.commits }
+        ensures entry { self.new ≡ record self.old {
+          trace = self.old.trace ++ record {
+            client = 0;
+            op = Op.Sync;
+            reply = Reply.Synced self.old.commits;
+          } ∷ [];
+          acks = self.old.acks ++ record {
+            moment = (D.state self.old.core.devices).moment;
+            commits = self.old.commits;
+          } ∷ [];
+          spare = self.new.spare;
+        } }
+    {
+        found_btrees_are_a_key_map();
+        let moment = self.core.devices().moment();
+        let commits = self.commits;
+        self.acks.push(Ack { moment, commits });
+        self.trace.push(Entry {
+            client: 0,
+            op: Op::Sync,
+            reply: Reply::Synced(commits),
+        });
+        commits
+    }
+
+    /// What the type keeps of the history. Where the devices tell what they hold, and the session began with a sound and tidy volume, its
+    /// history is legal from the forest that was found, and whatever a crash has left at a moment since then has survived: it mounts as the volume after a
+    /// prefix of its commits, with all that was acknowledged by that moment.
+    pub fn see_kept(&self)
+        ensures counted { IsCounted O.found O.start (D.state self.now.core.devices)
+            self.now.core.memory.volume self.now.trace self.now.acks self.now.commits }
+        ensures past { D.tells → KeepsPast O.start (D.state self.now.core.devices) }
+        ensures legal { D.tells → BeginsWell O.found O.start
+            → IsLegal (forest_found O.found O.start) self.now.trace }
+        ensures exact { D.tells → BeginsWell O.found O.start
+            → EachEntry (IsExact (forest_found O.found O.start)) self.now.trace }
+        ensures survive { D.tells → BeginsWell O.found O.start → Survive O.found O.start
+            (D.state self.now.core.devices) self.now.trace self.now.acks }
+    {
+        let _ = &self.commits;
+    }
+
+    /// Ends the session: its devices, its history, and its acknowledgements.
+    pub fn into_parts(self) -> (D, Trace, Acks)
+        ensures devices { result.0 ≡ self.core.devices }
+        ensures trace { result.1 ≡ self.trace }
+        ensures acks { result.2 ≡ self.acks }
+    {
+        (
+            self.core.into_devices(),
+            Trace::from(self.trace),
+            Acks::from(self.acks),
+        )
+    }
+}
