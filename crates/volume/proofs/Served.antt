@@ -1,0 +1,397 @@
+-- What the parts of a call leave of a session, put together.
+use Rattle.std.proofs.Common.{◌≡◌, ℕ, ◌<◌, ◌≤◌, Bool, true, false, List, [], ◌∷◌, ◌++◌, length, Option, Some, None, Result, Ok, Err, refl, sym, ap, ◌∙◌, subst, arith, inl, inr}
+use Rattle.std.specs.Prelude.{IfOk, IfSome, OnErr}
+use Rattle.std.specs.declared.alloc.AllocError.{AllocError}
+use Rattle.std.proofs.lemmas.Option.{none-some as none_some}
+use Rattle.btree_map.specs.Trees.{keys_in}
+use Rattle.core_memory.specs.Events.{IsMade}
+use Rattle.core_memory.specs.States.{IsState, State}
+use Rattle.core_memory.specs.Volumes.{Volume}
+use Rattle.core_memory.specs.declared.answer.Answer.{Answer}
+use Rattle.core_memory.specs.declared.answer.Halt.{Halt as MemoryHalt}
+use Rattle.core_memory.specs.declared.answer.Refusal.{Refusal}
+use Rattle.core_memory.specs.declared.answer.Refusal.TheVariants as refusals
+use Rattle.dev_model.specs.Devices.{DevicesState, FaultCounts, with_write_fault}
+use Rattle.dev_model.specs.FrameLaws.{go_on_here, go_on_then}
+use Rattle.dev_model.specs.Frames.{GoOn, after_writes}
+use Rattle.forest_ops.specs.declared.operation.Op.{Op}
+use Rattle.forest_ops.specs.declared.operation.Op.TheVariants.{Sync}
+use Rattle.forest_ops.specs.declared.operation.Reply.{Reply}
+use Rattle.forest_ops.specs.declared.operation.Reply.TheVariants as replies
+use Rattle.run_history.specs.Acknowledged.{synced_count}
+use Rattle.run_history.specs.declared.acks.Ack.{Ack}
+use Rattle.vol_core.specs.Cores.{CoreState}
+use Rattle.vol_session.specs.Sessions.{IsUncommitted, SessionState}
+use Rattle.vol_types.specs.declared.space.Short.{Short}
+use Rattle.vol_works.specs.Works.{IsForeign, MayStopSync, IsWorked, StopsWith, stopped_by}
+use Rattle.vol_works.specs.declared.stop.Stop.{Stop}
+use Rattle.vol_works.specs.declared.stop.Stop.TheVariants as stops
+use Rattle.volume.specs.Answers.{HasCause, IsAnswered, IsNumberSpent, LacksSpace, acks_after}
+use Rattle.volume.specs.Planning.{Standing, standing_in}
+use Rattle.volume.specs.Serving.{HaltsAs, IsEntered, IsIntended, IsMoved, IsServed, IsStepped, IsUnmade, IsUnserved, TellsStop, TellsSync}
+use Rattle.volume.specs.States.{IsAtRest}
+use Rattle.volume.proofs.Acting.{has_committed, intended_still, refused_still, works_rest}
+use Rattle.volume.proofs.Failing.{entry_of}
+use Rattle.volume.proofs.Replying.{IsQuiet}
+
+-- A reply that says nothing of commits being durable leaves the acknowledgements.
+acks_still : (reply : Reply) (moment : ℕ) (acks : List Ack) → synced_count reply ≡ None → acks ≡ acks_after reply moment acks
+acks_still replies.Okay moment acks unsynced = refl
+acks_still (replies.More size) moment acks unsynced = refl
+acks_still (replies.Synced count) moment acks unsynced = absurd (none_some count (sym unsynced))
+acks_still (replies.Content bytes) moment acks unsynced = refl
+acks_still (replies.List names) moment acks unsynced = refl
+acks_still (replies.File number size links) moment acks unsynced = refl
+acks_still (replies.Dir number entries) moment acks unsynced = refl
+acks_still (replies.SubNames names) moment acks unsynced = refl
+acks_still (replies.Used blocks) moment acks unsynced = refl
+acks_still (replies.Refused cause) moment acks unsynced = refl
+acks_still (replies.NoSpace short) moment acks unsynced = refl
+acks_still (replies.DeviceFault dev) moment acks unsynced = refl
+acks_still (replies.DataLost lost) moment acks unsynced = refl
+acks_still (replies.Halted dev tick) moment acks unsynced = refl
+acks_still replies.Spent moment acks unsynced = refl
+acks_still replies.NoMemory moment acks unsynced = refl
+
+-- What a reply shows of the halt it shows from an earlier moment on.
+halts_from : (reply : Reply) (earlier before after : ℕ) (sizes : List ℕ) (old new : Option MemoryHalt) → earlier ≤ before → HaltsAs reply before after sizes old new → HaltsAs reply earlier after sizes old new
+halts_from (replies.DeviceFault dev) earlier before after sizes old new le is = (is.0, is.1, is.2, let e : earlier ≤ is.1 = omega (arith, le, is.3) in e, is.4, is.5)
+halts_from replies.Okay earlier before after sizes old new le is = is
+halts_from (replies.More size) earlier before after sizes old new le is = is
+halts_from (replies.Synced count) earlier before after sizes old new le is = is
+halts_from (replies.Content bytes) earlier before after sizes old new le is = is
+halts_from (replies.List names) earlier before after sizes old new le is = is
+halts_from (replies.File number size links) earlier before after sizes old new le is = is
+halts_from (replies.Dir number entries) earlier before after sizes old new le is = is
+halts_from (replies.SubNames names) earlier before after sizes old new le is = is
+halts_from (replies.Used blocks) earlier before after sizes old new le is = is
+halts_from (replies.Refused cause) earlier before after sizes old new le is = is
+halts_from (replies.NoSpace short) earlier before after sizes old new le is = is
+halts_from (replies.DataLost lost) earlier before after sizes old new le is = is
+halts_from (replies.Halted dev tick) earlier before after sizes old new le is = is
+halts_from replies.Spent earlier before after sizes old new le is = is
+halts_from replies.NoMemory earlier before after sizes old new le is = is
+
+module _ {D : Type 0} (state : D → DevicesState) where
+  -- What only client 0 has under way may change.
+  pub stepped_moves : (old new : SessionState D) → IsStepped old new → IsMoved state old new
+  stepped_moves old new is = record {
+    rest = is.rest;
+    keys = ap (λ (volume : Volume). keys_in volume.trees) is.volume;
+    halted = ap (λ (volume : Volume). volume.halted) is.volume;
+    unfailed = ap (λ (devices : D). (state devices).faults) is.devices;
+    goes_on = subst (λ (devices : D). GoOn (state old.core.devices) (state devices)) (sym is.devices) (go_on_here (state old.core.devices));
+  }
+
+  -- Where all that stays is the same, the session was moved.
+  pub standing_moves : (old new : SessionState D) → standing_in state new ≡ standing_in state old → IsMoved state old new
+  standing_moves old new same = record {
+    rest = cc_rest;
+    keys = ap (λ (s : Standing). s.keys) same;
+    halted = ap (λ (s : Standing). s.halted) same;
+    unfailed = ap (λ (s : Standing). s.devices.faults) same;
+    goes_on = subst (λ (shown : DevicesState). GoOn (state old.core.devices) shown) (sym (ap (λ (s : Standing). s.devices) same)) (go_on_here (state old.core.devices));
+  }
+    where
+      cc_rest : new ≡ record old { core = new.core }
+      cc_rest = λ i. record { core = new.core; trace = (same i).trace; acks = (same i).acks; commits = (same i).commits; spare = (same i).spare }
+
+  pub stepped_then : (old mid new : SessionState D) → IsStepped old mid → IsStepped mid new → IsStepped old new
+  stepped_then old mid new first second = record {
+    rest = second.rest ∙ ap (λ (s : SessionState D). record s { core = new.core }) first.rest;
+    volume = second.volume ∙ first.volume;
+    devices = second.devices ∙ first.devices;
+  }
+
+  pub moved_then : (old mid new : SessionState D) → IsMoved state old mid → IsMoved state mid new → IsMoved state old new
+  moved_then old mid new first second = record {
+    rest = second.rest ∙ ap (λ (s : SessionState D). record s { core = new.core }) first.rest;
+    keys = second.keys ∙ first.keys;
+    halted = second.halted ∙ first.halted;
+    unfailed = second.unfailed ∙ first.unfailed;
+    goes_on = go_on_then (state old.core.devices) (state mid.core.devices) (state new.core.devices) first.goes_on second.goes_on;
+  }
+
+  -- A session that was moved takes as many entries without memory.
+  pub spare_still : (old new : SessionState D) → IsMoved state old new → 0 < old.spare → 0 < new.spare
+  spare_still old new moved spare = subst (λ (s : SessionState D). 0 < s.spare) (sym moved.rest) spare
+
+  -- An operation that was answered after a session was moved was answered.
+  pub served_after : (op : Op) (reply : Reply) (old mid new : SessionState D) → IsMoved state old mid → IsServed state op reply mid new → IsServed state op reply old new
+  served_after op reply old mid new moved served = record {
+    answered = record {
+      trace = served.answered.trace ∙ ap (λ (s : SessionState D). s.trace ++ entry_of op reply ∷ []) moved.rest;
+      acks = served.answered.acks ∙ ap (λ (s : SessionState D). acks_after reply (state new.core.devices).moment s.acks) moved.rest;
+      synced = λ count is. let both = served.answered.synced count is in (both.0, both.1 ∙ ap (λ (s : SessionState D). s.commits) moved.rest);
+    };
+    cause = subst (λ (faults : FaultCounts). HasCause reply new.core.memory.volume faults (state new.core.devices).faults) moved.unfailed served.cause;
+    halts = halts_from reply (state old.core.devices).moment (state mid.core.devices).moment (state new.core.devices).moment (state old.core.devices).sizes old.core.memory.volume.halted new.core.memory.volume.halted moved.goes_on.later
+        (subst (λ (sizes : List ℕ). HaltsAs reply (state mid.core.devices).moment (state new.core.devices).moment sizes old.core.memory.volume.halted new.core.memory.volume.halted) moved.goes_on.sizes
+        (subst (λ (halted : Option MemoryHalt). HaltsAs reply (state mid.core.devices).moment (state new.core.devices).moment (state mid.core.devices).sizes halted new.core.memory.volume.halted) moved.halted served.halts));
+    rest = served.rest;
+    goes_on = go_on_then (state old.core.devices) (state mid.core.devices) (state new.core.devices) moved.goes_on served.goes_on;
+  }
+
+  pub unserved_after : (old mid new : SessionState D) → IsMoved state old mid → IsUnserved state mid new → IsUnserved state old new
+  unserved_after old mid new moved unserved = record {
+    same = unserved.same ∙ ap (λ (s : SessionState D). record s { core = new.core; spare = new.spare }) moved.rest;
+    halted = unserved.halted ∙ moved.halted;
+    unfailed = unserved.unfailed ∙ moved.unfailed;
+    rest = unserved.rest;
+    goes_on = go_on_then (state old.core.devices) (state mid.core.devices) (state new.core.devices) moved.goes_on unserved.goes_on;
+  }
+
+  -- A session that was moved, and has nothing under way, wasn't served.
+  pub moved_unserved : (old new : SessionState D) → IsMoved state old new → IsAtRest new.core.memory → IsUnserved state old new
+  moved_unserved old new moved rest = record {
+    same = moved.rest ∙ ap (λ (spare : ℕ). record old { core = new.core; spare = spare }) (sym (ap (λ (s : SessionState D). s.spare) moved.rest));
+    halted = moved.halted;
+    unfailed = moved.unfailed;
+    rest = rest;
+    goes_on = moved.goes_on;
+  }
+
+  -- An entry that joined the history after a step joined it.
+  pub entered_after : (op : Op) (reply : Reply) (old mid new : SessionState D) → IsStepped old mid → IsEntered op reply mid new → IsEntered op reply old new
+  entered_after op reply old mid new stepped entered = record {
+    entry = entered.entry ∙ ap (λ (s : SessionState D). record s { core = new.core; trace = s.trace ++ entry_of op reply ∷ []; spare = new.spare }) stepped.rest;
+    volume = entered.volume ∙ stepped.volume;
+    devices = entered.devices ∙ stepped.devices;
+    rest = entered.rest;
+  }
+
+  -- An entry that was told, and whose operation was ended then, joined the history.
+  pub entered_before : (op : Op) (reply : Reply) (old mid new : SessionState D) → mid ≡ record old { trace = old.trace ++ entry_of op reply ∷ []; spare = mid.spare } → IsStepped mid new → IsAtRest new.core.memory → IsEntered op reply old new
+  entered_before op reply old mid new told stepped rest =
+      let spare : new.spare ≡ mid.spare = ap (λ (s : SessionState D). s.spare) stepped.rest in
+      let core : mid.core ≡ old.core = ap (λ (s : SessionState D). s.core) told in
+      record {
+        entry = stepped.rest ∙ ap (λ (s : SessionState D). record s { core = new.core }) told ∙ ap (λ (n : ℕ). record old { core = new.core; trace = old.trace ++ entry_of op reply ∷ []; spare = n }) (sym spare);
+        volume = stepped.volume ∙ ap (λ (c : CoreState D). c.memory.volume) core;
+        devices = stepped.devices ∙ ap (λ (c : CoreState D). c.devices) core;
+        rest = rest;
+      }
+
+  -- An entry that shows no failure of a device answers an operation, where its cause and its halt are the volume's.
+  pub entered_served : (op : Op) (reply : Reply) (old new : SessionState D) → IsEntered op reply old new → synced_count reply ≡ None
+      → HasCause reply old.core.memory.volume (state old.core.devices).faults (state old.core.devices).faults
+      → HaltsAs reply (state old.core.devices).moment (state old.core.devices).moment (state old.core.devices).sizes old.core.memory.volume.halted old.core.memory.volume.halted
+      → IsServed state op reply old new
+  entered_served op reply old new entered unsynced cause halts = record {
+    answered = record {
+      trace = ap (λ (s : SessionState D). s.trace) entered.entry;
+      acks = ap (λ (s : SessionState D). s.acks) entered.entry ∙ acks_still reply (state new.core.devices).moment old.acks unsynced;
+      synced = λ count is. absurd (none_some count (sym unsynced ∙ ap synced_count is));
+    };
+    cause = subst (λ (volume : Volume). HasCause reply volume (state old.core.devices).faults (state new.core.devices).faults) (sym entered.volume)
+        (subst (λ (devices : D). HasCause reply old.core.memory.volume (state old.core.devices).faults (state devices).faults) (sym entered.devices) cause);
+    halts = subst (λ (volume : Volume). HaltsAs reply (state old.core.devices).moment (state new.core.devices).moment (state old.core.devices).sizes old.core.memory.volume.halted volume.halted) (sym entered.volume)
+        (subst (λ (devices : D). HaltsAs reply (state old.core.devices).moment (state devices).moment (state old.core.devices).sizes old.core.memory.volume.halted old.core.memory.volume.halted) (sym entered.devices) halts);
+    rest = entered.rest;
+    goes_on = subst (λ (devices : D). GoOn (state old.core.devices) (state devices)) (sym entered.devices) (go_on_here (state old.core.devices));
+  }
+
+  -- So does the forest's reply where it changes nothing,
+  pub quiet_served : (op : Op) (reply : Reply) (old new : SessionState D) → IsEntered op reply old new → IsQuiet reply → IsServed state op reply old new
+  quiet_served op reply old new entered quiet = entered_served op reply old new entered quiet.unsynced (quiet.cause old.core.memory.volume _ _ refl) (quiet.halts _ _ _ _ _ refl)
+
+  -- a failure for want of space,
+  pub lack_served : (op : Op) (reply : Reply) (short : Short) (old new : SessionState D) → reply ≡ replies.NoSpace short → LacksSpace old.core.memory.volume → IsEntered op reply old new → IsServed state op reply old new
+  lack_served op reply short old new is lacks entered =
+      entered_served op reply old new entered (ap synced_count is)
+      (subst (λ (r : Reply). HasCause r old.core.memory.volume (state old.core.devices).faults (state old.core.devices).faults) (sym is) (refl, lacks))
+      (subst (λ (r : Reply). HaltsAs r (state old.core.devices).moment (state old.core.devices).moment (state old.core.devices).sizes old.core.memory.volume.halted old.core.memory.volume.halted) (sym is) refl)
+
+  -- for want of a number,
+  pub spent_served : (op : Op) (reply : Reply) (old new : SessionState D) → reply ≡ replies.Spent → IsNumberSpent old.core.memory.volume → IsEntered op reply old new → IsServed state op reply old new
+  spent_served op reply old new is spent entered =
+      entered_served op reply old new entered (ap synced_count is)
+      (subst (λ (r : Reply). HasCause r old.core.memory.volume (state old.core.devices).faults (state old.core.devices).faults) (sym is) (refl, spent))
+      (subst (λ (r : Reply). HaltsAs r (state old.core.devices).moment (state old.core.devices).moment (state old.core.devices).sizes old.core.memory.volume.halted old.core.memory.volume.halted) (sym is) refl)
+
+  -- and one in a session that has stopped writing.
+  pub halted_served : (op : Op) (reply : Reply) (halt : MemoryHalt) (old new : SessionState D) → reply ≡ replies.Halted halt.dev halt.tick → old.core.memory.volume.halted ≡ Some halt → IsEntered op reply old new → IsServed state op reply old new
+  halted_served op reply halt old new is halted entered =
+      entered_served op reply old new entered (ap synced_count is)
+      (subst (λ (r : Reply). HasCause r old.core.memory.volume (state old.core.devices).faults (state old.core.devices).faults) (sym is) (refl, halted))
+      (subst (λ (r : Reply). HaltsAs r (state old.core.devices).moment (state old.core.devices).moment (state old.core.devices).sizes old.core.memory.volume.halted old.core.memory.volume.halted) (sym is) (refl, halted))
+
+  -- A change that was committed is answered.
+  pub made_served : (op : Op) (old new : SessionState D) → IsState old.core.memory → IsIntended old.core.memory op → IsMade old.core.memory 0 true new.core.memory
+      → new.trace ≡ old.trace ++ entry_of op replies.Okay ∷ [] → new.acks ≡ old.acks → new.core.devices ≡ old.core.devices → IsServed state op replies.Okay old new
+  made_served op old new is intended made trace acks devices =
+      let committed = has_committed old.core.memory new.core.memory is intended.under made in
+      record {
+        answered = record { trace = trace; acks = acks; synced = λ count same. absurd (none_some count (ap synced_count same)) };
+        cause = ap (λ (d : D). (state d).faults) devices;
+        halts = (committed.writes, committed.wrote);
+        rest = committed.rest;
+        goes_on = subst (λ (d : D). GoOn (state old.core.devices) (state d)) (sym devices) (go_on_here (state old.core.devices));
+      }
+
+  -- A commit that isn't made leaves what is intended, and moved the session.
+  pub record HasNotMade (answer : Answer) (op : Op) (old new : SessionState D) : Type 0 where
+    pub intended : IsIntended new.core.memory op
+    pub unmade : IsUnmade new.core.memory answer
+    pub moved : IsMoved state old new
+
+  pub not_made : (op other : Op) (old new : SessionState D) (answer : Answer) (seen : State) → seen ≡ old.core.memory → IsState seen → IsUncommitted old.core.memory 0 answer new.core.memory → other ≡ op → new ≡ record old { core = new.core }
+      → new.core.devices ≡ old.core.devices → IsIntended old.core.memory op → HasNotMade answer other old new
+  not_made op other old new answer seen same kept uncommitted is rest devices intended =
+      let still = refused_still old.core.memory new.core.memory (subst IsState same kept) answer uncommitted in
+      record {
+        intended = subst (λ (o : Op). IsIntended new.core.memory o) (sym is) (intended_still op old.core.memory new.core.memory still.keeps intended);
+        unmade = still.unmade;
+        moved = stepped_moves old new (record { rest = rest; volume = still.volume; devices = devices });
+      }
+
+  -- Works on what is durable that didn't fail moved the session.
+  pub works_move : (old new : SessionState D) → IsWorked old new → new.core.memory.volume.halted ≡ old.core.memory.volume.halted → (state new.core.devices).faults ≡ (state old.core.devices).faults
+      → GoOn (state old.core.devices) (state new.core.devices) → IsMoved state old new
+  works_move old new worked halted unfailed goes_on = record { rest = worked.rest; keys = worked.memory.keys; halted = halted; unfailed = unfailed; goes_on = goes_on }
+
+  -- What a work says that ended early.
+  pub record HasStopped (stop : Stop) (old new : SessionState D) : Type 0 where
+    pub worked : IsWorked old new
+    pub stops : StopsWith {T = Unit {0}} (Err stop) (state old.core.devices).moment (state new.core.devices).moment old.core.memory.volume new.core.memory.volume
+    pub cause : (state new.core.devices).faults ≡ after_writes (stopped_by {T = Unit {0}} (Err stop)) (state old.core.devices).faults
+    pub device : IfSome (stopped_by {T = Unit {0}} (Err stop)) (λ dev. dev < length (state old.core.devices).sizes)
+    pub goes_on : GoOn (state old.core.devices) (state new.core.devices)
+
+  -- The failure of a device answers an operation.
+  device_served : (op : Op) (dev : ℕ) (old mid new : SessionState D) → HasStopped (stops.DeviceFault dev) old mid → IsEntered op (replies.DeviceFault dev) mid new → IsServed state op (replies.DeviceFault dev) old new
+  device_served op dev old mid new stopped entered = record {
+    answered = record {
+      trace = ap (λ (s : SessionState D). s.trace) entered.entry ∙ ap (λ (s : SessionState D). s.trace ++ entry_of op (replies.DeviceFault dev) ∷ []) stopped.worked.rest;
+      acks = ap (λ (s : SessionState D). s.acks) entered.entry ∙ ap (λ (s : SessionState D). s.acks) stopped.worked.rest;
+      synced = λ count is. absurd (none_some count (ap synced_count is));
+    };
+    cause = ap (λ (d : D). (state d).faults) entered.devices ∙ stopped.cause;
+    halts = (
+      stopped.stops.0,
+      stopped.stops.1,
+      ap (λ (volume : Volume). volume.halted) entered.volume ∙ stopped.stops.2,
+      stopped.stops.3,
+      subst (λ (d : D). stopped.stops.1 ≤ (state d).moment) (sym entered.devices) stopped.stops.4,
+      stopped.device,
+    );
+    rest = entered.rest;
+    goes_on = subst (λ (d : D). GoOn (state old.core.devices) (state d)) (sym entered.devices) stopped.goes_on;
+  }
+
+  -- A change that fails as a checkpoint ended early is answered,
+  pub stopped_served : (op : Op) (reply : Reply) (stop : Stop) (old mid new : SessionState D) → HasStopped stop old mid → TellsStop stop reply → IsEntered op reply mid new → IsServed state op reply old new
+  stopped_served op reply (stops.DeviceFault dev) old mid new stopped tells entered =
+      subst (λ (r : Reply). IsServed state op r old new) (sym tells) (device_served op dev old mid new stopped (subst (λ (r : Reply). IsEntered op r mid new) tells entered))
+  stopped_served op reply (stops.Halted halt) old mid new stopped tells entered =
+      served_after op reply old mid new (works_move old mid stopped.worked stopped.stops.0 stopped.cause stopped.goes_on) (halted_served op reply halt mid new tells stopped.stops.1 entered)
+  stopped_served op reply stops.Spent old mid new stopped tells entered =
+      served_after op reply old mid new (works_move old mid stopped.worked stopped.stops.0 stopped.cause stopped.goes_on) (spent_served op reply mid new tells (inr (inl stopped.stops.1)) entered)
+  stopped_served op reply (stops.NoSpace none) old mid new stopped tells entered =
+      served_after op reply old mid new (works_move old mid stopped.worked stopped.stops.0 stopped.cause stopped.goes_on) (lack_served op reply none.short mid new tells (inr (inr (inr (inr (inl (none, stopped.stops.1)))))) entered)
+  stopped_served op reply (stops.Foreign refusal) old mid new stopped tells entered =
+      served_after op reply old mid new (works_move old mid stopped.worked stopped.stops.0 stopped.cause stopped.goes_on) (lack_served op reply _ mid new tells (inr (inr (inr (inr (inr (refusal, stopped.stops.1)))))) entered)
+  stopped_served op reply stops.NoMemory old mid new stopped tells entered = absurd tells
+
+  -- and leaves the session unserved where no device failed and memory has ended.
+  pub stopped_moves : (stop : Stop) (old mid : SessionState D) → HasStopped stop old mid → stopped_by {T = Unit {0}} (Err stop) ≡ None → IsMoved state old mid
+  stopped_moves (stops.DeviceFault dev) old mid stopped none = absurd (none_some dev (sym none))
+  stopped_moves (stops.Halted halt) old mid stopped none = works_move old mid stopped.worked stopped.stops.0 stopped.cause stopped.goes_on
+  stopped_moves stops.Spent old mid stopped none = works_move old mid stopped.worked stopped.stops.0 stopped.cause stopped.goes_on
+  stopped_moves (stops.NoSpace short) old mid stopped none = works_move old mid stopped.worked stopped.stops.0 stopped.cause stopped.goes_on
+  stopped_moves (stops.Foreign refusal) old mid stopped none = works_move old mid stopped.worked stopped.stops.0 stopped.cause stopped.goes_on
+  stopped_moves stops.NoMemory old mid stopped none = works_move old mid stopped.worked stopped.stops stopped.cause stopped.goes_on
+
+  -- The ring has no room for an entry of a sync.
+  ring_spent : (refusal : Refusal) (volume : Volume) → MayStopSync (stops.Foreign refusal) → IsForeign volume refusal → IsNumberSpent volume
+  ring_spent (refusals.RingFull full) volume journal foreign = inr (inr (record { refusal = refusals.RingFull full; of_ring = tt; foreign = foreign }))
+  ring_spent (refusals.NeedSplit need) volume journal foreign = absurd journal
+  ring_spent (refusals.Halted halt) volume journal foreign = absurd foreign
+  ring_spent refusals.Spent volume journal foreign = absurd foreign
+  ring_spent (refusals.NoSpace none) volume journal foreign = absurd foreign
+
+  -- A sync that ended early is answered.
+  pub sync_stopped : (reply : Reply) (stop : Stop) (old mid new : SessionState D) → HasStopped stop old mid → MayStopSync stop → TellsSync stop reply → IsEntered Sync reply mid new → IsServed state Sync reply old new
+  sync_stopped reply (stops.DeviceFault dev) old mid new stopped journal tells entered =
+      subst (λ (r : Reply). IsServed state Sync r old new) (sym tells) (device_served Sync dev old mid new stopped (subst (λ (r : Reply). IsEntered Sync r mid new) tells entered))
+  sync_stopped reply (stops.Halted halt) old mid new stopped journal tells entered =
+      served_after Sync reply old mid new (works_move old mid stopped.worked stopped.stops.0 stopped.cause stopped.goes_on) (halted_served Sync reply halt mid new tells stopped.stops.1 entered)
+  sync_stopped reply stops.Spent old mid new stopped journal tells entered =
+      served_after Sync reply old mid new (works_move old mid stopped.worked stopped.stops.0 stopped.cause stopped.goes_on) (spent_served Sync reply mid new tells (inr (inl stopped.stops.1)) entered)
+  sync_stopped reply (stops.NoSpace none) old mid new stopped journal tells entered = absurd tells
+  sync_stopped reply (stops.Foreign refusal) old mid new stopped journal tells entered =
+      served_after Sync reply old mid new (works_move old mid stopped.worked stopped.stops.0 stopped.cause stopped.goes_on)
+      (spent_served Sync reply mid new tells (ring_spent refusal mid.core.memory.volume journal stopped.stops.1) entered)
+  sync_stopped reply stops.NoMemory old mid new stopped journal tells entered = absurd tells
+
+  -- So is one that made all commits durable.
+  pub sync_served : (count : ℕ) (old mid new : SessionState D) → IsAtRest old.core.memory → IsWorked old mid → mid.core.memory.volume.halted ≡ old.core.memory.volume.halted → (state mid.core.devices).faults ≡ (state old.core.devices).faults
+      → GoOn (state old.core.devices) (state mid.core.devices) → count ≡ mid.commits
+      → new ≡ record mid {
+        trace = mid.trace ++ entry_of Sync (replies.Synced mid.commits) ∷ [];
+        acks = mid.acks ++ record { moment = (state mid.core.devices).moment; commits = mid.commits } ∷ [];
+        spare = new.spare;
+      }
+      → IsServed state Sync (replies.Synced count) old new
+  sync_served count old mid new rest worked halted unfailed goes_on counted entry =
+      let core : new.core ≡ mid.core = ap (λ (s : SessionState D). s.core) entry in
+      subst (λ (n : ℕ). IsServed state Sync (replies.Synced n) old new) (sym counted) (record {
+        answered = record {
+          trace = ap (λ (s : SessionState D). s.trace) entry ∙ ap (λ (s : SessionState D). s.trace ++ entry_of Sync (replies.Synced mid.commits) ∷ []) worked.rest;
+          acks = ap (λ (s : SessionState D). s.acks) entry
+              ∙ ap (λ (s : SessionState D). s.acks ++ record { moment = (state mid.core.devices).moment; commits = mid.commits } ∷ []) worked.rest
+              ∙ ap (λ (c : CoreState D). old.acks ++ record { moment = (state c.devices).moment; commits = mid.commits } ∷ []) (sym core);
+          synced = λ n is. (synced_same n is ∙ sym (ap (λ (s : SessionState D). s.commits) entry), ap (λ (s : SessionState D). s.commits) entry ∙ ap (λ (s : SessionState D). s.commits) worked.rest);
+        };
+        cause = ap (λ (c : CoreState D). (state c.devices).faults) core ∙ unfailed;
+        halts = ap (λ (c : CoreState D). c.memory.volume.halted) core ∙ halted;
+        rest = subst (λ (c : CoreState D). IsAtRest c.memory) (sym core) (works_rest old.core.memory mid.core.memory worked.memory rest);
+        goes_on = subst (λ (c : CoreState D). GoOn (state old.core.devices) (state c.devices)) (sym core) goes_on;
+      })
+    where
+      synced_same : (n : ℕ) → replies.Synced mid.commits ≡ replies.Synced n → n ≡ mid.commits
+      synced_same n is = cc
+
+  -- ---- by the result of a part
+
+  -- A change that lacks space is answered, where there was memory.
+  pub lack_result : (result : Result Reply AllocError) (op : Op) (short : Short) (old new : SessionState D) → LacksSpace old.core.memory.volume → IfOk result (λ reply. IsEntered op reply old new) → IfOk result (λ reply. reply ≡ replies.NoSpace short)
+      → IfOk result (λ reply. IsServed state op reply old new)
+  lack_result (Ok reply) op short old new lacks entered is = lack_served op reply short old new is lacks entered
+  lack_result (Err error) op short old new lacks entered is = tt
+
+  -- What was answered after the session was moved is answered,
+  pub served_later : (result : Result Reply AllocError) (op other : Op) (old mid new : SessionState D) → IsMoved state old mid → other ≡ op → IfOk result (λ reply. IsServed state other reply mid new) → IfOk result (λ reply. IsServed state op reply old new)
+  served_later (Ok reply) op other old mid new moved same served = served_after op reply old mid new moved (subst (λ (o : Op). IsServed state o reply mid new) same served)
+  served_later (Err error) op other old mid new moved same served = tt
+
+  -- and what wasn't, isn't.
+  pub unserved_later : (result : Result Reply AllocError) (old mid new : SessionState D) → IsMoved state old mid → OnErr result (IsUnserved state mid new) → OnErr result (IsUnserved state old new)
+  unserved_later (Ok reply) old mid new moved unserved = tt
+  unserved_later (Err error) old mid new moved unserved = unserved_after old mid new moved unserved
+
+  -- A change that fails as a checkpoint ended early is answered, where there was memory,
+  pub stopped_result : (result : Result Reply AllocError) (op : Op) (stop : Stop) (old mid new : SessionState D) → HasStopped stop old mid → IfOk result (TellsStop stop) → IfOk result (λ reply. IsEntered op reply mid new)
+      → IfOk result (λ reply. IsServed state op reply old new)
+  stopped_result (Ok reply) op stop old mid new stopped tells entered = stopped_served op reply stop old mid new stopped tells entered
+  stopped_result (Err error) op stop old mid new stopped tells entered = tt
+
+  -- and else the session is unserved.
+  pub unstopped_result : (result : Result Reply AllocError) (stop : Stop) (old mid new : SessionState D) → HasStopped stop old mid → OnErr result (stopped_by {T = Unit {0}} (Err stop) ≡ None) → OnErr result (IsStepped mid new)
+      → OnErr result (IsAtRest new.core.memory) → OnErr result (IsUnserved state old new)
+  unstopped_result (Ok reply) stop old mid new stopped unfailed stepped rest = tt
+  unstopped_result (Err error) stop old mid new stopped unfailed stepped rest =
+      moved_unserved old new (moved_then old mid new (stopped_moves stop old mid stopped unfailed) (stepped_moves mid new stepped)) rest
+
+  -- A sync that ended early is answered, where there was memory,
+  pub sync_result : (result : Result Reply AllocError) (stop : Stop) (old mid new : SessionState D) → HasStopped stop old mid → MayStopSync stop → IfOk result (TellsSync stop) → IfOk result (λ reply. IsEntered Sync reply mid new)
+      → IfOk result (λ reply. IsServed state Sync reply old new)
+  sync_result (Ok reply) stop old mid new stopped may tells entered = sync_stopped reply stop old mid new stopped may tells entered
+  sync_result (Err error) stop old mid new stopped may tells entered = tt
+
+  -- and else the session is unserved.
+  pub unsynced_result : (result : Result Reply AllocError) (stop : Stop) (old mid new : SessionState D) → IsAtRest old.core.memory → HasStopped stop old mid → OnErr result (stop ≡ stops.NoMemory) → OnErr result (new ≡ mid) → OnErr result (IsUnserved state old new)
+  unsynced_result (Ok reply) stop old mid new rest stopped none same = tt
+  unsynced_result (Err error) stop old mid new rest stopped none same =
+      subst (λ (s : SessionState D). IsUnserved state old s) (sym same)
+      (moved_unserved old mid (stopped_moves stop old mid stopped (ap (λ (t : Stop). stopped_by {T = Unit {0}} (Err t)) none)) (works_rest old.core.memory mid.core.memory stopped.worked.memory rest))

@@ -1,0 +1,22 @@
+use Rattle.volume.proofs.Served.{not_made, served_later}
+use Rattle.volume.proofs.committing.commit.Goals as goal
+
+pub settle-requires-clause-intended : goal.settle-requires-clause-intended
+settle-requires-clause-intended g c =
+    let why = c.in-Err.ensures.err in
+    (not_made g.D.Devices.state c.args.op c.in-Err.not.op c.args.session.now c.commit.new.self c.in-Err.not.answer c.memory.result.now c.memory.ensures.memory c.see_kept.ensures.kept why.0 why.1 why.3 c.commit.ensures.devices
+    c.requires.intended).intended
+
+pub settle-requires-clause-unmade : goal.settle-requires-clause-unmade
+settle-requires-clause-unmade g c =
+    let why = c.in-Err.ensures.err in
+    (not_made g.D.Devices.state c.args.op c.in-Err.not.op c.args.session.now c.commit.new.self c.in-Err.not.answer c.memory.result.now c.memory.ensures.memory c.see_kept.ensures.kept why.0 why.1 why.3 c.commit.ensures.devices
+    c.requires.intended).unmade
+
+pub returns-in-Err-clause-served : goal.returns-in-Err-clause-served
+returns-in-Err-clause-served g c =
+    let why = c.in-Err.ensures.err in
+    let state = g.D.Devices.state in
+    let not = not_made state c.args.op c.in-Err.not.op c.args.session.now c.commit.new.self c.in-Err.not.answer c.memory.result.now c.memory.ensures.memory c.see_kept.ensures.kept why.0 why.1 why.3 c.commit.ensures.devices
+    c.requires.intended in
+    served_later state c.settle.result c.args.op c.in-Err.not.op c.args.session.now c.commit.new.self c.settle.new.session not.moved why.1 c.settle.ensures.served

@@ -1,0 +1,48 @@
+use Rattle.std.proofs.Common.{inl, inr, subst, true}
+use Rattle.core_memory.specs.Events.{intended_by}
+use Rattle.core_memory.specs.Rulings.{IsRefused}
+use Rattle.core_memory.specs.declared.answer.Refusal.{Refusal}
+use Rattle.core_memory.specs.declared.answer.Refusal.TheVariants as refusals
+use Rattle.volume.specs.Answers.{IsFullAtRest}
+use Rattle.volume.proofs.Replying.{intended_is_done}
+use Rattle.volume.proofs.Served.{lack_result}
+use Rattle.volume.proofs.committing.refuse_at_rest.Goals as goal
+
+pub fail_halted-requires-clause-done : goal.fail_halted-requires-clause-done
+fail_halted-requires-clause-done g c = intended_is_done c.args.session.now.core.memory c.args.op c.requires.intended
+
+pub fail_spent-requires-clause-done : goal.fail_spent-requires-clause-done
+fail_spent-requires-clause-done g c = intended_is_done c.args.session.now.core.memory c.args.op c.requires.intended
+
+pub lack-requires-clause-done : goal.lack-requires-clause-done
+lack-requires-clause-done g c = intended_is_done c.args.session.now.core.memory c.args.op c.requires.intended
+
+pub lack-requires-in-RingFull-clause-done : goal.lack-requires-in-RingFull-clause-done
+lack-requires-in-RingFull-clause-done g c = intended_is_done c.args.session.now.core.memory c.args.op c.requires.intended
+
+pub lack-requires-in-NoSpace-clause-done : goal.lack-requires-in-NoSpace-clause-done
+lack-requires-in-NoSpace-clause-done g c = intended_is_done c.args.session.now.core.memory c.args.op c.requires.intended
+
+pub returns-in-RingFull-clause-served : goal.returns-in-RingFull-clause-served
+returns-in-RingFull-clause-served g c =
+    let memory = c.args.session.now.core.memory in
+    let full : IsFullAtRest memory.volume = record {
+      updates = intended_by memory 0;
+      refusal = refusals.RingFull c.in-RingFull.field-0;
+      rested = c.requires.rested;
+      refused = subst (λ (refusal : Refusal). IsRefused memory.volume (intended_by memory 0) true refusal) c.in-RingFull.is c.requires.refused;
+      space = tt;
+    } in
+    lack_result g.D.Devices.state c.lack-in-RingFull.result c.args.op c.nothing_short-in-RingFull.result c.args.session.now c.lack-in-RingFull.new.session (inr (inr (inr (inl full)))) c.lack-in-RingFull.ensures.entered c.lack-in-RingFull.ensures.reply
+
+pub returns-in-NoSpace-clause-served : goal.returns-in-NoSpace-clause-served
+returns-in-NoSpace-clause-served g c =
+    let memory = c.args.session.now.core.memory in
+    let full : IsFullAtRest memory.volume = record {
+      updates = intended_by memory 0;
+      refusal = refusals.NoSpace c.in-NoSpace.none;
+      rested = c.requires.rested;
+      refused = subst (λ (refusal : Refusal). IsRefused memory.volume (intended_by memory 0) true refusal) c.in-NoSpace.is c.requires.refused;
+      space = tt;
+    } in
+    lack_result g.D.Devices.state c.lack-in-NoSpace.result c.args.op c.in-NoSpace.none.short c.args.session.now c.lack-in-NoSpace.new.session (inr (inr (inr (inl full)))) c.lack-in-NoSpace.ensures.entered c.lack-in-NoSpace.ensures.reply

@@ -1,0 +1,7 @@
+use Rattle.volume.proofs.Served.{moved_unserved, stepped_moves}
+use Rattle.volume.proofs.committing.settle_at_rest.Goals as goal
+
+pub returns-in-NoMemory-clause-unserved : goal.returns-in-NoMemory-clause-unserved
+returns-in-NoMemory-clause-unserved g c =
+    let state = g.D.Devices.state in
+    moved_unserved state c.args.session.now c.end.new.session (stepped_moves state c.args.session.now c.end.new.session c.end.ensures.stepped) c.end.ensures.rest

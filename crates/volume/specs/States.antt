@@ -1,0 +1,42 @@
+-- What a volume keeps between its operations, beside what its session keeps: the failures that its history tells, and what client 0 has under way, which is nothing.
+use Rattle.std.specs.Prelude.{◌≡◌, ℕ, false, Option, None, option_map, is_some}
+use Rattle.core_memory.specs.Actors.{holds}
+use Rattle.core_memory.specs.States.{State, mine}
+use Rattle.core_memory.specs.Volumes.{Volume}
+use Rattle.core_memory.specs.declared.answer.Halt.{Halt as MemoryHalt}
+use Rattle.dev_model.specs.Devices.{DevicesState}
+use Rattle.dev_model.specs.Frames.{after_writes}
+use Rattle.forest_ops.specs.History.{History}
+use Rattle.image_view.specs.Found.{Found}
+use Rattle.run_history.specs.Failures.{Halts, HaveCauses, NoCommitAfterHalt, has_failed}
+use Rattle.run_history.specs.declared.halt.Halt.{Halt}
+use Rattle.vol_core.specs.Cores.{CoreState}
+use Rattle.vol_session.specs.Marks.{forest_found}
+
+-- how a session stopped writing, in the words of histories
+abbrev pub halt_told : Option MemoryHalt → Option Halt
+halt_told halted = option_map (λ (halt : MemoryHalt). record { dev = halt.dev; tick = halt.tick }) halted
+
+-- the device that failed, if the session has stopped writing
+abbrev pub halted_device : Option MemoryHalt → Option ℕ
+halted_device halted = option_map (λ (halt : MemoryHalt). halt.dev) halted
+
+-- Client 0 has nothing under way, and nobody has the turn.
+pub record IsAtRest (memory : State) : Type 0 where
+  pub operation : (mine memory 0).operation ≡ None
+  pub holds_nothing : holds (mine memory 0) ≡ false
+  pub turn : memory.turn ≡ None
+
+-- The session has stopped writing exactly where an entry says that a device failed, and then one call of that device has failed, a write or a flush, and else none has.
+-- The entries agree with the halt, none after it is a commit, and each failure has a cause.
+pub record KeepsFailures (begun : Found) (start state : DevicesState) (halted : Option MemoryHalt) (trace : History) : Type 0 where
+  pub failed : is_some halted ≡ has_failed trace
+  pub only : state.faults ≡ after_writes (halted_device halted) start.faults
+  pub halts : Halts (halt_told halted) start state trace
+  pub no_commit : NoCommitAfterHalt (forest_found begun start) trace
+  pub causes : HaveCauses start.faults state.faults trace
+
+-- What is kept between operations.
+pub record IsBetween (begun : Found) (start state : DevicesState) (memory : State) (trace : History) : Type 0 where
+  pub rest : IsAtRest memory
+  pub failures : KeepsFailures begun start state memory.volume.halted trace

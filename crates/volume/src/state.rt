@@ -1,0 +1,153 @@
+ghost use Rattle.std.specs.Prelude.{◌≡◌, [], IfErr, IfOk, OnErr, is_some, true};
+ghost use Rattle.core_memory.specs.Opening.{IsOpened};
+ghost use Rattle.dev_model.specs.Frames.{GoOn, after_writes};
+ghost use Rattle.forest_ops.specs.History.{EachEntry, IsLegal, commit_count};
+ghost use Rattle.fs_plan.specs.Plans.{is_planned};
+ghost use Rattle.geometry.specs.Layouts.{is_layout_of};
+ghost use Rattle.image_view.specs.Found.{node_places};
+ghost use Rattle.replay.specs.Mending.{KeepsPast};
+ghost use Rattle.replay.specs.Volumes.{found_in};
+ghost use Rattle.run_history.specs.Acknowledged.{AreAcks};
+ghost use Rattle.run_history.specs.Failures.{Halts, HaveCauses, NoCommitAfterHalt, has_failed};
+ghost use Rattle.vol_session.specs.Marks.{forest_found};
+ghost use Rattle.vol_session.specs.Sessions.{IsExact};
+ghost use Rattle.vol_session.specs.Survivors.{BeginsWell, Survive};
+ghost use Rattle.volume.specs.Answers.{HasCause, IsAnswered};
+ghost use Rattle.volume.specs.States.{halt_told, halted_device};
+
+use crate::serving::{answer, halt_of};
+use dev_model::Devices;
+use forest_ops::{Op, Reply, Trace};
+use replay::Loaded;
+use run_history::{Acks, Halt};
+use std::alloc::{AllocError, Global};
+use std::marker::Model;
+use vol_core::{Opening, Unopened};
+use vol_session::Session;
+
+/// A volume that is open, with the history of its session. It may be sent to another thread.
+#[derive(Drop)]
+pub struct VolState<D: Devices, O: Opening> {
+    alloc: Global,
+    session: Session<D, O>,
+}
+
+/// What a session leaves.
+#[derive(Drop)]
+pub struct Finished<D> {
+    pub devices: D,
+    pub trace: Trace,
+    pub acks: Acks,
+    /// How it stopped writing, if it did.
+    pub halted: Option<Halt>,
+}
+
+impl<D: Devices, O: Opening> Model for VolState<D, O> {
+    ghost use Rattle.vol_session.specs.Sessions.{SessionState};
+    ghost use Rattle.volume.specs.States.{IsBetween};
+
+    ghost Value = { SessionState D };
+
+    ghost view = { λ v. v.session };
+
+    ghost invariant = { λ v. IsBetween O.found O.start (D.state v.session.core.devices) v.session.core.memory v.session.trace };
+}
+
+impl<D: Devices, O: Opening> VolState<D, O> {
+    /// A volume that was loaded from devices, before any operation. No device is called. It costs what `Core::of` does. An `Err` is out of memory.
+    pub fn start(alloc: Global, loaded: Loaded, devices: D) -> Result<VolState<D, O>, Unopened<D>>
+        requires layout { is_layout_of (D.state devices).sizes loaded.layout ≡ true }
+        requires opening { found_in loaded ≡ O.found }
+        requires start { D.state devices ≡ O.start }
+        ensures opened { IfOk result (λ volume. IsOpened loaded.layout loaded.session loaded.map
+            loaded.needed (node_places (found_in loaded)) volume.core.memory) }
+        ensures devices { IfOk result (λ volume. volume.core.devices ≡ devices) }
+        ensures trace { IfOk result (λ volume. volume.trace ≡ []) }
+        ensures acks { IfOk result (λ volume. volume.acks ≡ []) }
+        ensures err { IfErr result (λ unopened. unopened.devices ≡ devices) }
+    {
+        Ok(VolState {
+            alloc,
+            session: Session::of(alloc, loaded, devices)?,
+        })
+    }
+
+    /// The devices on which it lies.
+    pub fn devices(&self) -> &D
+        ensures { result.now ≡ self.now.core.devices }
+    {
+        self.session.devices()
+    }
+
+    /// How many commits the session has made.
+    pub fn commits(&self) -> u64
+        ensures { result ≡ commit_count (forest_found O.found O.start) self.now.trace }
+    {
+        self.session.commits()
+    }
+
+    /// Answers an operation of client 0: its entry joins the history, and its reply is handed back. An `Err` says that it is out of memory, and leaves
+    /// the history and the acknowledgements as they were.
+    ///
+    /// A change or a listing costs the looks of its plan; a change calls devices only where the journal or the buckets are short, and then makes a checkpoint. A sync writes and
+    /// flushes what isn't durable. A listing is copied once, for the history.
+    pub fn call(&mut self, op: Op) -> Result<Reply, AllocError>
+        requires { is_planned op ≡ true }
+        ensures answers { IfOk result (λ reply. IsAnswered D.state op reply self.old self.new) }
+        ensures cause { IfOk result (λ reply. HasCause reply self.new.core.memory.volume
+            (D.state self.old.core.devices).faults (D.state self.new.core.devices).faults) }
+        ensures err { OnErr result (self.new ≡ record self.old
+            { core = self.new.core; spare = self.new.spare }) }
+        ensures unfailed { OnErr result ((D.state self.new.core.devices).faults
+            ≡ (D.state self.old.core.devices).faults) }
+        ensures goes_on { GoOn (D.state self.old.core.devices) (D.state self.new.core.devices) }
+    {
+        self.session.see_kept();
+        let _count = self.session.devices().count();
+        self.session.reserve()?;
+        answer(self.alloc, &mut self.session, op)
+    }
+
+    /// Ends the session: its devices, its history, its acknowledgements, and how it stopped writing, if it did.
+    ///
+    /// It has stopped writing exactly where an entry says that a device failed (`failed`), and then one write or flush has failed since the opening, and no other call (`only`). What
+    /// its entries say of failures agrees (`halts`, `no_commit`, `causes`). Where the devices tell what they hold, and it began with a sound and tidy volume, its history
+    /// is legal (`legal`), an operation that would change the forest fails only where this wouldn't refuse it (`exact`), and whatever a crash has left at a moment since mounts as the volume
+    /// after a prefix of its commits, with all that was acknowledged by then (`survives`).
+    pub fn finish(self) -> Finished<D>
+        ensures devices { result.devices ≡ self.core.devices }
+        ensures trace { result.trace ≡ self.trace }
+        ensures acks { result.acks ≡ self.acks }
+        ensures halted { result.halted ≡ halt_told self.core.memory.volume.halted }
+        ensures failed { is_some result.halted ≡ has_failed result.trace }
+        ensures only { (D.state result.devices).faults ≡ after_writes
+            (halted_device self.core.memory.volume.halted) O.start.faults }
+        ensures halts { Halts result.halted O.start (D.state result.devices) result.trace }
+        ensures no_commit { NoCommitAfterHalt (forest_found O.found O.start) result.trace }
+        ensures causes { HaveCauses O.start.faults (D.state result.devices).faults result.trace }
+        ensures acknowledged { AreAcks O.start.moment (D.state result.devices).moment result.trace
+            result.acks }
+        ensures legal { D.tells → BeginsWell O.found O.start
+            → IsLegal (forest_found O.found O.start) result.trace }
+        ensures exact { D.tells → BeginsWell O.found O.start
+            → EachEntry (IsExact (forest_found O.found O.start)) result.trace }
+        ensures survives { D.tells → BeginsWell O.found O.start → Survive O.found O.start
+            (D.state result.devices) result.trace result.acks }
+        ensures goes_on { GoOn O.start (D.state result.devices) }
+        ensures past { D.tells → KeepsPast O.start (D.state result.devices) }
+    {
+        let VolState {
+            alloc: _,
+            mut session,
+        } = self;
+        session.see_kept();
+        let halted = halt_of(&mut session);
+        let (devices, trace, acks) = session.into_parts();
+        Finished {
+            devices,
+            trace,
+            acks,
+            halted,
+        }
+    }
+}
