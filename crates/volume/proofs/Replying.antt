@@ -266,4 +266,4 @@ faults_caused (replies.SubNames names) volume before after cause = cause
 faults_caused (replies.Used blocks) volume before after cause = cause
 faults_caused (replies.Refused cause) volume before after is = is
 faults_caused (replies.DataLost lost) volume before after cause = cause
-faults_caused replies.NoMemory volume before after cause = cause
+faults_caused replies.NoMemory volume before after cause = absurd cause

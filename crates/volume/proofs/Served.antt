@@ -26,7 +26,7 @@ use Rattle.vol_types.specs.declared.space.Short.{Short}
 use Rattle.vol_works.specs.Works.{IsForeign, MayStopSync, IsWorked, StopsWith, stopped_by}
 use Rattle.vol_works.specs.declared.stop.Stop.{Stop}
 use Rattle.vol_works.specs.declared.stop.Stop.TheVariants as stops
-use Rattle.volume.specs.Answers.{HasCause, IsAnswered, IsNumberSpent, LacksSpace, acks_after}
+use Rattle.volume.specs.Answers.{AcknowledgesAll, HasCause, IsAnswered, IsNumberSpent, LacksSpace, acks_after}
 use Rattle.volume.specs.Planning.{Standing, standing_in}
 use Rattle.volume.specs.Serving.{HaltsAs, IsEntered, IsIntended, IsMoved, IsServed, IsStepped, IsUnmade, IsUnserved, TellsStop, TellsSync}
 use Rattle.volume.specs.States.{IsAtRest}
@@ -395,3 +395,14 @@ module _ {D : Type 0} (state : D → DevicesState) where
   unsynced_result (Err error) stop old mid new rest stopped none same =
       subst (λ (s : SessionState D). IsUnserved state old s) (sym same)
       (moved_unserved old mid (stopped_moves stop old mid stopped (ap (λ (t : Stop). stopped_by {T = Unit {0}} (Err t)) none)) (works_rest old.core.memory mid.core.memory stopped.worked.memory rest))
+
+  -- A sync acknowledges all commits that were made before room was made for it.
+  pub synced_all : (reply : Reply) (op : Op) (commits : ℕ) (old mid new : SessionState D) → old.commits ≡ commits → mid ≡ record old { spare = mid.spare } → IsServed state op reply mid new → AcknowledgesAll commits reply
+  synced_all reply op commits old mid new counted same served = λ count is.
+      let both = served.answered.synced count is in
+      both.0 ∙ both.1 ∙ ap (λ (s : SessionState D). s.commits) same ∙ counted
+
+-- What follows of each value follows of what a result holds.
+pub of_ok : {T E : Type 0} {P Q : T → Type 0} (result : Result T E) → ((value : T) → P value → Q value) → IfOk result P → IfOk result Q
+of_ok (Ok value) follows is = follows value is
+of_ok (Err error) follows is = tt

@@ -11,7 +11,7 @@ use Rattle.core_memory.specs.declared.answer.Refusal.{Refusal}
 use Rattle.dev_model.specs.Devices.{DevicesState, FaultCounts, with_write_fault}
 use Rattle.forest_ops.specs.declared.operation.Op.{Op}
 use Rattle.forest_ops.specs.declared.operation.Reply.{Reply}
-use Rattle.forest_ops.specs.declared.operation.Reply.TheVariants.{DeviceFault, Halted, NoSpace, Spent, Synced}
+use Rattle.forest_ops.specs.declared.operation.Reply.TheVariants.{DeviceFault, Halted, NoMemory, NoSpace, Spent, Synced}
 use Rattle.run_history.specs.declared.acks.Ack.{Ack}
 use Rattle.vol_core.specs.Rested.{IsRested}
 use Rattle.vol_session.specs.Sessions.{SessionState}
@@ -28,6 +28,10 @@ pub record IsAnswered {D : Type 0} (state : D → DevicesState) (op : Op) (reply
   pub trace : new.trace ≡ old.trace ++ record { client = 0; op = op; reply = reply } ∷ []
   pub acks : new.acks ≡ acks_after reply (state new.core.devices).moment old.acks
   pub synced : (count : ℕ) → reply ≡ Synced count → (count ≡ new.commits) × (new.commits ≡ old.commits)
+
+-- Where the reply says that commits are durable, they are so many: all that there are.
+abbrev pub AcknowledgesAll : ℕ → Reply → Type 0
+AcknowledgesAll commits reply = (count : ℕ) → reply ≡ Synced count → count ≡ commits
 
 -- A leaf would be too large with some updates, so that the node would have to be split.
 pub record IsLeafFull (volume : Volume) : Type 0 where
@@ -81,10 +85,11 @@ abbrev pub IsNumberSpent : Volume → Type 0
 IsNumberSpent volume = ((updates : List Update) × (¬ HasCommitNumbers volume updates true)) ⊎ LacksNumber volume ⊎ IsRingSpent volume
 
 -- The cause of a reply: a failure of a device is the only one that its counts tell; a halt is the session's; where space or a number is lacking, the volume
--- lacks it; and with every other reply no call failed.
+-- lacks it; want of memory is told by no reply; and with every other reply no call failed.
 abbrev pub HasCause : Reply → Volume → FaultCounts → FaultCounts → Type 0
 HasCause (DeviceFault dev) volume before after = after ≡ with_write_fault dev before
 HasCause (Halted dev tick) volume before after = (after ≡ before) × (volume.halted ≡ Some (record { dev = dev; tick = tick }))
 HasCause (NoSpace short) volume before after = (after ≡ before) × LacksSpace volume
 HasCause Spent volume before after = (after ≡ before) × IsNumberSpent volume
+HasCause NoMemory volume before after = ⊥
 HasCause reply volume before after = after ≡ before

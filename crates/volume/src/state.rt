@@ -12,7 +12,7 @@ ghost use Rattle.run_history.specs.Failures.{Halts, HaveCauses, NoCommitAfterHal
 ghost use Rattle.vol_session.specs.Marks.{forest_found};
 ghost use Rattle.vol_session.specs.Sessions.{IsExact};
 ghost use Rattle.vol_session.specs.Survivors.{BeginsWell, Survive};
-ghost use Rattle.volume.specs.Answers.{HasCause, IsAnswered};
+ghost use Rattle.volume.specs.Answers.{AcknowledgesAll, HasCause, IsAnswered};
 ghost use Rattle.volume.specs.States.{halt_told, halted_device};
 
 use crate::serving::{answer, halt_of};
@@ -86,8 +86,8 @@ impl<D: Devices, O: Opening> VolState<D, O> {
         self.session.commits()
     }
 
-    /// Answers an operation of client 0: its entry joins the history, and its reply is handed back. An `Err` says that it is out of memory, and leaves
-    /// the history and the acknowledgements as they were.
+    /// Answers an operation of client 0: its entry joins the history, and its reply is handed back. An `Err` says that it is out of memory, which no reply says, and
+    /// leaves the history and the acknowledgements as they were. A sync acknowledges all commits before it.
     ///
     /// A change or a listing costs the looks of its plan; a change calls devices only where the journal or the buckets are short, and then makes a checkpoint. A sync writes and
     /// flushes what isn't durable. A listing is copied once, for the history.
@@ -96,6 +96,8 @@ impl<D: Devices, O: Opening> VolState<D, O> {
         ensures answers { IfOk result (λ reply. IsAnswered D.state op reply self.old self.new) }
         ensures cause { IfOk result (λ reply. HasCause reply self.new.core.memory.volume
             (D.state self.old.core.devices).faults (D.state self.new.core.devices).faults) }
+        ensures synced { IfOk result (AcknowledgesAll (commit_count
+            (forest_found O.found O.start) self.old.trace)) }
         ensures err { OnErr result (self.new ≡ record self.old
             { core = self.new.core; spare = self.new.spare }) }
         ensures unfailed { OnErr result ((D.state self.new.core.devices).faults

@@ -1,6 +1,21 @@
 use Rattle.std.proofs.Common.{ℕ, ◌≤◌, length, subst}
+use Rattle.std.specs.Prelude.{IfOk}
+use Rattle.forest_ops.specs.History.{commit_count}
+use Rattle.vol_session.specs.Marks.{forest_found}
+use Rattle.vol_session.specs.Sessions.{SessionState}
+use Rattle.volume.specs.Answers.{AcknowledgesAll}
 use Rattle.volume.proofs.Between.{AreCounting, keeps_call}
+use Rattle.volume.proofs.Served.{of_ok, synced_all}
 use Rattle.volume.proofs.state.VolState.call.Goals as goal
+
+pub returns-clause-synced : goal.returns-clause-synced
+returns-clause-synced g c =
+    let forest = forest_found g.O.Opening.found g.O.Opening.start in
+    subst (λ (session : SessionState g.row.D.Denot). IfOk c.answer.result (AcknowledgesAll (commit_count forest session.trace))) c.self.view_is
+    (of_ok c.answer.result
+    (λ reply served.
+    synced_all g.D.Devices.state reply c.args.op (commit_count forest c.self.inside.session.trace) c.self.inside.session c.reserve.new.self c.answer.new.session c.see_kept.ensures.counted.counted c.reserve.ensures.rest served)
+    c.answer.ensures.served)
 
 pub invariant_of-self-2 : goal.invariant_of-self-2
 invariant_of-self-2 g c =
