@@ -1,5 +1,6 @@
 use crate::devices::Trouble;
 use crate::refusal::Refusal;
+use script_lines::LineFault;
 use shell::{EarlyEnd, Refusal as MountRefusal};
 use std::fmt;
 use std::rc::RcStr;
@@ -44,7 +45,21 @@ fn trouble_text(trouble: Trouble) -> &'static str {
     }
 }
 
-// What is wrong with images that aren't mounted.
+// What is wrong with a line of a script.
+fn line_text(fault: LineFault) -> &'static str {
+    match fault {
+        LineFault::BadVerb => "has no verb that `run` knows",
+        LineFault::BadArgs => {
+            "has too few or too many words, or one that is no number, no length and no bytes where one of these is wanted"
+        }
+        LineFault::BadPath => {
+            "has no path like main:/NAME where one is wanted, or a bad escape in a name"
+        }
+        LineFault::BadClient => "is for another client than `@0`, and `run` has no other yet",
+    }
+}
+
+// What is wrong with images that aren't mounted, and what to do, where there is nothing more to say.
 fn mount_text(refusal: MountRefusal) -> &'static str {
     match refusal {
         MountRefusal::NoSuper => {
@@ -59,9 +74,40 @@ fn mount_text(refusal: MountRefusal) -> &'static str {
         MountRefusal::BadLayout => {
             "a superblock is damaged, or an image is shorter than it says; restore the image's length"
         }
-        MountRefusal::NoSession => {
-            "no session is named on them, or no number is left for another one; the volume can't be written any more"
+        MountRefusal::NoEntry => {
+            "no entry of the journal is whole, no session is named, or no number is left for another one; restore the images from a copy, or format them anew"
         }
+        MountRefusal::MissingEntry(_) | MountRefusal::BadNode(_) | MountRefusal::Unsound(_) => {
+            "nothing was written; restore the images from a copy"
+        }
+    }
+}
+
+// Says why images aren't mounted.
+fn write_mount<W: fmt::Write>(
+    f: &mut fmt::Formatter<W>,
+    refusal: MountRefusal,
+    images: &[RcStr],
+) -> fmt::Result {
+    let text = mount_text(refusal);
+    match refusal {
+        MountRefusal::MissingEntry(sequence) => write!(
+            f,
+            "bvol: entry {sequence} of the journal is damaged on every image that keeps it; {text}"
+        ),
+        MountRefusal::BadNode(place) => {
+            let name = name_of(images, place.dev);
+            let block = place.block;
+            write!(
+                f,
+                "bvol: {name}: the btree node at block {block} is damaged, here and on every other image that keeps it; {text}"
+            )
+        }
+        MountRefusal::Unsound(check) => write!(
+            f,
+            "bvol: the keys of the volume fail check {check} of eight; {text}"
+        ),
+        _ => write!(f, "bvol: {text}"),
     }
 }
 
@@ -106,14 +152,14 @@ fn write_usage<W: fmt::Write>(
     images: &[RcStr],
 ) -> fmt::Result {
     let (odd, help) = odd_argument(arguments);
-    if let Some(odd) = odd {
-        return write!(f, "bvol: `{odd}` is no argument here; see `{help}`");
-    }
     if images.is_empty() {
         return write!(
             f,
             "bvol: a command, `--` and one to eight images are wanted; see `{help}`"
         );
+    }
+    if let Some(odd) = odd {
+        return write!(f, "bvol: `{odd}` is no argument here; see `{help}`");
     }
     write!(
         f,
@@ -142,20 +188,20 @@ impl fmt::Display for Advice<'_> {
     fn fmt<W: fmt::Write>(&self, f: &mut fmt::Formatter<W>) -> fmt::Result {
         match self.end {
             EarlyEnd::Usage => write_usage(f, self.arguments, self.images),
-            EarlyEnd::BadLine(line, _) => write!(
-                f,
-                "bvol: line {line} of the script is none that `run` knows; nothing was run; see `bvol help run`"
-            ),
+            EarlyEnd::BadLine(line, fault) => {
+                let text = line_text(fault);
+                write!(
+                    f,
+                    "bvol: line {line} of the script {text}; nothing was run; see `bvol help run`"
+                )
+            }
             EarlyEnd::TooLong => {
                 f.write_str("bvol: the script has more than 16 MiB; nothing was run")
             }
             EarlyEnd::Source => {
                 f.write_str("bvol: standard input couldn't be read; nothing was run")
             }
-            EarlyEnd::Refused(refusal) => {
-                let text = mount_text(refusal);
-                write!(f, "bvol: {text}")
-            }
+            EarlyEnd::Refused(refusal) => write_mount(f, refusal, self.images),
             EarlyEnd::Device(dev) => {
                 let name = name_of(self.images, dev);
                 write!(

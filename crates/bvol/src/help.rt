@@ -43,11 +43,13 @@ options, each as `--NAME VALUE` or `--NAME=VALUE`, in any order:
   --blocks N          the blocks of each file, of 4,096 bytes each; needed.
                       1024 to 1048576, a multiple of 16, at least 2 x (J + 16)
   --journal J         the blocks of the journal; 256 to 4096, a multiple of 16;
-                      256 where it is left out. Each commit takes one for good
+                      256 where it is left out. It is a ring, which a run uses
+                      again and again; a longer one is cleared less often
   --data-replicas R   the copies of each extent of data, 1 to 3, at most one for
                       each file; 1 where it is left out
-  --meta-replicas M   the first files, so many, each keep the journal; 1 to 3, at
-                      most one for each file; 1 where it is left out
+  --meta-replicas M   the first files, so many, each keep the journal and the
+                      btrees; 1 to 3, at most one for each file; 1 where it is
+                      left out
 
 prints
   formatted U devices D blocks N journal J
@@ -80,24 +82,31 @@ line changes nothing, nor does a run whose volume isn't mounted. Whenever the ru
 is killed, or the machine crashes, the IMAGEs have the volume after some first
 part of its commits, with all that a `sync` had acknowledged.
 
-Each commit that a run makes takes one block of the journal for good.
+A volume has one directory today. It takes up to 1,397 files, of whose names each
+counts its bytes and 32 more, 47,560 bytes in all.
 
 script lines, each ended by a line feed:
   mkfile main:/NAME    make an empty file in the root of the subvolume main
   ls main:/            list the names in that root, in order of their bytes
   sync                 make all commits so far durable
-A NAME is one byte or more, each from ! to ~ but neither / nor %. It has at most
-255 bytes. One space stands between a verb and its path, and nowhere else.
+  barrier              nothing yet: lines run one after the other anyhow
+  # TEXT               a comment; it is skipped, as an empty line is
+A NAME has 1 to 255 bytes. Each stands for itself if it is from ! to ~ but neither
+/ nor %, or above 127; any other is % and two hex digits, as %20 for a space. One
+space stands between two words, and nowhere else. `@0` may stand before a verb.
 
 replies, one a line, with the client (0) and the number of the script's line:
   @0 1 ok                    done
   @0 2 list a b              the names
   @0 3 ok 2                  two commits of this run are on the disks, by `sync`
   @0 3 err exists            the name is there already
-  @0 3 err bad-path          the name is too long
-  @0 3 err no-space need 0   the journal has no block left for the commit
-  @0 3 err device 0          the `sync` couldn't write to file 0, and the run
-                             halts: from here on it changes and writes nothing
+  @0 3 err bad-path          the name is too long, or has a byte that no name has
+  @0 3 err no-subvolume      no subvolume has that name; today all is in main
+  @0 3 err not-found         there is no such directory on the path
+  @0 3 err not-dir           a file stands where a directory should
+  @0 3 err no-space need 0   the volume takes no further file
+  @0 3 err device 0          file 0 couldn't be written, and the run halts: from
+                             here on it changes and writes nothing
   @0 4 err halted 0          it has halted; `ls` goes on
   @0 3 err no-memory         out of memory
 The last line is `end commits N synced M`: the run made N commits, and M of them
@@ -106,14 +115,21 @@ are known to be on the disks.
 exit status:
   0  the script ran, and all its commits are on the disks
   1  error 1 usage: other arguments than `run -- IMAGE..`
-  2  error 2 line L not-built: line L is no line of a script
+  2  error 2 line L bad-verb: line L has none of the verbs above
+     error 2 line L bad-args: it has too few words, or too many
+     error 2 line L bad-path: it has no path where one belongs
+     error 2 line L bad-client: it is for another client than @0
      error 2 too-long: the script has more than 16 MiB
   3  mount refused 1: a file has no superblock, so it isn't formatted
      mount refused 2: a superblock has another version
      mount refused 3: the files aren't those of one volume in their order
      mount refused 4: a superblock has a number out of its range, or a file is
      shorter than it says
-     mount refused 5: no session is named, or no number is left for another
+     mount refused 5: the journal has no whole entry, or no session is named, or
+     no number is left for another
+     mount refused 6 seq S: entry S of the journal is needed, and is on no file
+     mount refused 7 at D:B: a node of a btree is damaged, in block B of file D
+     and wherever else it is kept
   4  error 4 source: standard input couldn't be read
   5  standard output couldn't be written
   6  error 6 device D: file D, from 0, isn't there, is in use, or can't be read

@@ -3,7 +3,7 @@ use dev_model::Pick;
 use std::test::Fail;
 
 // Devices without a block have no superblock to zero, so that both are only flushed, twice. They are extended and flushed. Then
-// 270 blocks of each are written, and both are flushed.
+// 414 blocks of each are written: the first bucket but for its superblocks, the journal area, and nine roots. Both are flushed.
 const STAGES: [Stage; 12] = [
     NOTHING,
     Stage { dev: 1, ..NOTHING },
@@ -14,11 +14,11 @@ const STAGES: [Stage; 12] = [
     NOTHING,
     Stage { dev: 1, ..NOTHING },
     Stage {
-        calls: 270,
+        calls: 414,
         ..NOTHING
     },
     Stage {
-        calls: 270,
+        calls: 414,
         dev: 1,
         ..NOTHING
     },

@@ -12,7 +12,7 @@ const EARLIER: Stage = Stage {
 };
 
 // Both superblock copies of each device are read. Those that don't count are zeroed and flushed, and then the others, without
-// which the volume doesn't mount. No device is extended, but both are flushed. Then 270 blocks of each are written, and both
+// which the volume doesn't mount. No device is extended, but both are flushed. Then 414 blocks of each are written, and both
 // are flushed.
 const STAGES: [Stage; 16] = [
     Stage {
@@ -42,11 +42,11 @@ const STAGES: [Stage; 16] = [
     NOTHING,
     Stage { dev: 1, ..NOTHING },
     Stage {
-        calls: 270,
+        calls: 414,
         ..NOTHING
     },
     Stage {
-        calls: 270,
+        calls: 414,
         dev: 1,
         ..NOTHING
     },

@@ -2,6 +2,9 @@ use dev_model::{MemDevices, Pick};
 use std::alloc::{AllocError, Global};
 use volume_runs::{Ran, TWO, TWO_LINE, do_arguments, fail, run, two_devices};
 
+/// Of so many calls of a stage one is to fail, the first of them, and the last of all; with 1 each call is.
+const EVERY: u64 = 60;
+
 /// What two devices hold before they are formatted.
 #[derive(Clone, Copy)]
 pub enum Before {
@@ -134,8 +137,33 @@ fn crashes_so(
     is_left(alloc, ran.devices.restart(pick)?, left_by(stage, pick))
 }
 
-/// The first call at which a format doesn't crash as these stages say, one after the other, and then those that seal the
-/// superblocks.
+// Whether this call of a stage of so many is tried.
+fn is_tried(number: u64, calls: u64) -> bool {
+    number % EVERY == 0 || number.saturating_add(1) == calls
+}
+
+// The first call of a stage, of those that are tried, at which a format doesn't crash as it says. Its calls begin with this one.
+fn other_of_stage(
+    alloc: Global,
+    before: Before,
+    stage: &Stage,
+    first: u64,
+    stays: bool,
+    pick: Pick,
+) -> Result<Option<u64>, AllocError> {
+    for number in 0..stage.calls {
+        if is_tried(number, stage.calls) {
+            let call = first.saturating_add(number);
+            if !crashes_so(alloc, before, stage, call, stays, pick)? {
+                return Ok(Some(call));
+            }
+        }
+    }
+    Ok(None)
+}
+
+/// The first call, of those that are tried, at which a format doesn't crash as these stages say, one after the other, and then those that
+/// seal the superblocks.
 pub fn other_call(
     alloc: Global,
     before: Before,
@@ -143,15 +171,14 @@ pub fn other_call(
     stays: bool,
     pick: Pick,
 ) -> Result<Option<u64>, AllocError> {
-    let mut call = 0u64;
+    let mut first = 0u64;
     for part in [stages, SEALING.as_slice()] {
         for stage in part {
-            for _ in 0..stage.calls {
-                if !crashes_so(alloc, before, stage, call, stays, pick)? {
-                    return Ok(Some(call));
-                }
-                call = call.saturating_add(1);
+            let other = other_of_stage(alloc, before, stage, first, stays, pick)?;
+            if other.is_some() {
+                return Ok(other);
             }
+            first = first.saturating_add(stage.calls);
         }
     }
     Ok(None)

@@ -1,8 +1,7 @@
 use dev_model::{MemDevices, Pick};
-use plain_forest::Reply;
 use std::alloc::{AllocError, Global};
 use std::test::Fail;
-use volume_runs::{Ran, fail, run, two_devices};
+use volume_runs::{MOUNTING, Ran, fail, has_acks, run, two_devices};
 
 // A line of the script.
 #[derive(Clone, Copy)]
@@ -92,21 +91,32 @@ const RISING: [(&str, u64); 30] = [
     ("~", 30),
 ];
 
-// A call that fails, of the six by which a record gets onto both devices: the record, the first of which has the number 1, and
-// the device.
+// A sync that fails, the first of which has the number 1 and the final one 5, and the device on which it does.
 #[derive(Clone, Copy)]
 struct Failure {
-    record: u64,
+    sync: u64,
     dev: u64,
 }
 
-// What a run prints whose session makes its records durable up to a failure, and what it amounts to.
+// What a run prints of which this sync fails, what it amounts to, and how many commits each sync before it acknowledged.
 #[derive(Drop)]
 struct Answers {
     lines: String,
     status: u8,
     commits: u64,
-    synced: u64,
+    acks: Vec<u64>,
+}
+
+impl Answers {
+    // How many commits were acknowledged.
+    fn synced(&self) -> u64 {
+        self.acks.last().copied().unwrap_or(0)
+    }
+
+    // Whether the next sync is the one that fails.
+    fn is_next(&self, failure: Failure) -> bool {
+        (self.acks.len() as u64).saturating_add(1) == failure.sync
+    }
 }
 
 // Adds the listing of the first names, so many of them.
@@ -143,23 +153,25 @@ fn script(alloc: Global) -> Result<String, AllocError> {
 // Answers a step of a session that has so many commits. After its failure nothing more is made.
 fn answer(expected: &mut Answers, step: Step, failure: Failure) -> Result<(), AllocError> {
     let has_halted = expected.status == 6;
+    let is_failing = expected.is_next(failure);
     let dev = failure.dev;
+    let commits = expected.commits;
     let lines = &mut expected.lines;
     match step {
-        Step::Make(_, number) if number <= expected.commits => lines.push_str("err exists")?,
+        Step::Make(_, number) if number <= commits => lines.push_str("err exists")?,
         Step::Make(_, _) | Step::Sync if has_halted => write!(lines, "err halted {dev}")?,
         Step::Make(_, number) => {
             expected.commits = number;
             lines.push_str("ok")?;
         }
-        Step::List => push_listing(lines, expected.commits)?,
-        Step::Sync if failure.record <= expected.commits => {
+        Step::List => push_listing(lines, commits)?,
+        Step::Sync if is_failing => {
             expected.status = 6;
             write!(lines, "err device {dev}")?;
         }
         Step::Sync => {
-            expected.synced = expected.commits;
-            write!(lines, "ok {}", expected.commits)?;
+            expected.acks.push(commits)?;
+            write!(lines, "ok {commits}")?;
         }
     }
     Ok(())
@@ -171,7 +183,7 @@ fn answers_of(alloc: Global, failure: Failure) -> Result<Answers, AllocError> {
         lines: String::new(alloc),
         status: 0,
         commits: 0,
-        synced: 0,
+        acks: Vec::new(alloc),
     };
     let mut line = 0u32;
     for step in STEPS {
@@ -180,36 +192,11 @@ fn answers_of(alloc: Global, failure: Failure) -> Result<Answers, AllocError> {
         answer(&mut expected, step, failure)?;
         expected.lines.push_str("\n")?;
     }
-    if failure.record <= expected.commits {
-        expected.status = 6;
-    } else if expected.status == 0 {
-        expected.synced = expected.commits;
-    }
+    expected.status = 6;
     let commits = expected.commits;
-    let synced = expected.synced;
+    let synced = expected.synced();
     write!(expected.lines, "end commits {commits} synced {synced}\n")?;
     Ok(expected)
-}
-
-// The greatest number of commits that the run acknowledged, if it acknowledged what its history says: one for each sync
-// that succeeded, in order, with its number, at moments that don't fall.
-fn acknowledged(ran: &Ran) -> Option<u64> {
-    let mut acks = ran.acks.as_slice().iter();
-    let mut moment = 0;
-    let mut greatest = 0;
-    for entry in ran.trace.as_slice() {
-        if let Reply::Synced(count) = &entry.reply {
-            match acks.next() {
-                Some(ack) if ack.commits == *count && ack.moment >= moment => moment = ack.moment,
-                _ => return None,
-            }
-            greatest = (*count).max(greatest);
-        }
-    }
-    match acks.next() {
-        Some(_) => None,
-        None => Some(greatest),
-    }
 }
 
 // Whether a run of `ls main:/` over what is left of the devices finds the names that a prefix of the commits made, with at
@@ -223,7 +210,7 @@ fn finds_a_prefix(
     let next = run(alloc, b"ls main:/\n", left)?;
     for count in least..=most {
         if next.sink.held() == found(alloc, count)?.as_bytes() {
-            return Ok(next.status == 0 && acknowledged(&next) == Some(0));
+            return Ok(next.status == 0 && has_acks(&next, &[0]));
         }
     }
     Ok(false)
@@ -242,31 +229,38 @@ fn survives(
     let mut devices = two_devices(alloc)?;
     fail(&mut devices, call, stays)?;
     let ran = run(alloc, script.as_bytes(), devices)?;
-    if ran.status != expected.status || ran.sink.held() != expected.lines.as_bytes() {
-        return Ok(false);
-    }
-    if acknowledged(&ran) != Some(expected.synced) {
+    if !has_ended(&ran, expected) {
         return Ok(false);
     }
     let left = ran.devices.restart(pick)?;
-    finds_a_prefix(alloc, left, expected.synced, expected.commits)
+    finds_a_prefix(alloc, left, expected.synced(), expected.commits)
 }
 
-// The first call whose failure leaves anything else, alone or with all later ones, where the devices are restarted by this
-// pick. Calls 0 to 13 mount the volume and seal the session. Each record takes six, to device 0 and device 1 by turns. So call
-// 194 is the first that isn't made.
+fn has_ended(ran: &Ran, expected: &Answers) -> bool {
+    ran.status == expected.status
+        && ran.sink.held() == expected.lines.as_bytes()
+        && has_acks(ran, &expected.acks)
+}
+
+// The syncs, and how many calls each takes, to device 0 and device 1 by turns: before the first entry both are flushed, each entry is
+// written on both, and both are flushed.
+const SYNCS: [(u64, u64); 5] = [(1, 6), (2, 4), (3, 4), (4, 4), (5, 4)];
+
+// The first call behind mounting whose failure leaves anything else, alone or with all later ones, where the devices are restarted by
+// this pick.
 fn other_call(alloc: Global, pick: Pick) -> Result<Option<u64>, AllocError> {
     let script = script(alloc)?;
-    for record in 1..32u64 {
-        for part in 0..6u64 {
-            let call = 8 + 6 * record + part;
+    let mut call = 2 * MOUNTING;
+    for (sync, calls) in SYNCS {
+        for part in 0..calls {
             let dev = part % 2;
-            let expected = answers_of(alloc, Failure { record, dev })?;
+            let expected = answers_of(alloc, Failure { sync, dev })?;
             if !survives(alloc, &script, &expected, call, true, pick)?
                 || !survives(alloc, &script, &expected, call, false, pick)?
             {
                 return Ok(Some(call));
             }
+            call = call.saturating_add(1);
         }
     }
     Ok(None)

@@ -5,4 +5,6 @@
 #[cfg(test)]
 mod crash_table;
 #[cfg(test)]
+mod mending;
+#[cfg(test)]
 mod rows;

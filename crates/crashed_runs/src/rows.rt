@@ -1,13 +1,13 @@
 use dev_model::{MemDevices, Pick};
 use std::alloc::{AllocError, Global};
 use std::test::Fail;
-use volume_runs::{Ran, fail, has_acks, letters, one_device, run, two_devices};
+use volume_runs::{MOUNTING, Ran, fail, has_acks, letters, one_device, run, two_devices};
 
 // The picks by which a crash may leave the devices.
 const PICKS: [Pick; 3] = [Pick::AllWritten, Pick::NoneWritten, Pick::Torn];
 
-// How a run ends that crashes at one of some calls of its devices, and what the next run prints for `ls main:/` on what is left
-// of them.
+// How a run ends that crashes at one of some calls of its devices, counted from the first behind mounting, and what the next run prints
+// for `ls main:/` on what is left of them.
 #[derive(Clone, Copy)]
 struct Crash {
     calls: &'static [u64],
@@ -72,14 +72,14 @@ fn crashes_so(
     finds(alloc, ran.devices.restart(pick)?, names)
 }
 
-// A volume on one or two devices that fail at this call, alone or with all later ones.
+// A volume on one or two devices that fail at this call behind mounting, alone or with all later ones.
 fn failing(alloc: Global, count: u8, call: u64, stays: bool) -> Result<MemDevices, AllocError> {
-    let mut devices = if count == 1 {
-        one_device(alloc)?
+    let (mut devices, first) = if count == 1 {
+        (one_device(alloc)?, MOUNTING)
     } else {
-        two_devices(alloc)?
+        (two_devices(alloc)?, 2 * MOUNTING)
     };
-    fail(&mut devices, call, stays)?;
+    fail(&mut devices, first.saturating_add(call), stays)?;
     Ok(devices)
 }
 
@@ -167,119 +167,55 @@ const NO_CRASH: Crash = Crash {
     ..AT_SYNC
 };
 
-// On two devices, calls 0 to 13 mount the volume and seal the session. Each record takes six: both devices are flushed, both
-// are written, and both are flushed. A record is found where one of them has it. So call 38 isn't made.
-const FILES_ON_TWO: [Crash; 21] = [
+// On two devices both are flushed first, calls 0 and 1. Then the entry of the sync is written on both, and both are flushed, and so it goes with
+// that of the last sync. An entry is found where one of them has it, and with it all its commits. So call 10 isn't made.
+const FILES_ON_TWO: [Crash; 10] = [
     Crash {
-        calls: &[14, 16],
+        calls: &[0, 2],
         ..AT_SYNC
     },
     Crash {
-        calls: &[15],
+        calls: &[1],
         ..AT_SYNC_OF_1
     },
     Crash {
-        calls: &[17],
-        all: A,
-        ..AT_SYNC_OF_1
-    },
-    Crash {
-        calls: &[18],
-        all: A,
-        ..AT_SYNC
-    },
-    Crash {
-        calls: &[19],
-        all: A,
-        flushed: A,
-        ..AT_SYNC_OF_1
-    },
-    Crash {
-        calls: &[20, 22],
-        all: A,
-        flushed: A,
-        ..AT_SYNC
-    },
-    Crash {
-        calls: &[21],
-        all: A,
-        flushed: A,
-        ..AT_SYNC_OF_1
-    },
-    Crash {
-        calls: &[23],
-        all: AB,
-        flushed: A,
-        ..AT_SYNC_OF_1
-    },
-    Crash {
-        calls: &[24],
-        all: AB,
-        flushed: A,
-        ..AT_SYNC
-    },
-    Crash {
-        calls: &[25],
-        all: AB,
-        flushed: AB,
-        ..AT_SYNC_OF_1
-    },
-    Crash {
-        calls: &[26, 28],
-        all: AB,
-        flushed: AB,
-        ..AT_SYNC
-    },
-    Crash {
-        calls: &[27],
-        all: AB,
-        flushed: AB,
-        ..AT_SYNC_OF_1
-    },
-    Crash {
-        calls: &[29],
+        calls: &[3],
         all: ABC,
-        flushed: AB,
         ..AT_SYNC_OF_1
     },
     Crash {
-        calls: &[30],
+        calls: &[4],
         all: ABC,
-        flushed: AB,
         ..AT_SYNC
     },
     Crash {
-        calls: &[31],
+        calls: &[5],
         all: ABC,
         flushed: ABC,
         ..AT_SYNC_OF_1
     },
     Crash {
-        calls: &[32, 34],
+        calls: &[6],
         ..AT_END
     },
     Crash {
-        calls: &[33],
-        ..AT_END_OF_1
-    },
-    Crash {
-        calls: &[35],
+        calls: &[7],
         all: ABCD,
         ..AT_END_OF_1
     },
     Crash {
-        calls: &[36],
+        calls: &[8],
         all: ABCD,
         ..AT_END
     },
     Crash {
-        calls: &[37],
+        calls: &[9],
         all: ABCD,
         flushed: ABCD,
         ..AT_END_OF_1
     },
     Crash {
-        calls: &[38],
+        calls: &[10],
         ..NO_CRASH
     },
 ];
@@ -315,25 +251,25 @@ const AT_LAST: Crash = Crash {
 
 const TWO_FILES_ON_ONE: [Crash; 5] = [
     Crash {
-        calls: &[7, 8],
+        calls: &[0, 1],
         ..AT_FIRST
     },
     Crash {
-        calls: &[9],
+        calls: &[2],
         all: A,
         ..AT_FIRST
     },
     Crash {
-        calls: &[10, 11],
+        calls: &[3],
         ..AT_LAST
     },
     Crash {
-        calls: &[12],
+        calls: &[4],
         all: AB,
         ..AT_LAST
     },
     Crash {
-        calls: &[13],
+        calls: &[5],
         status: 0,
         lines: b"@0 1 ok\n@0 2 ok 1\n@0 3 ok\n@0 4 list a b\nend commits 2 synced 2\n",
         entries: b"mks1mkl2s2",

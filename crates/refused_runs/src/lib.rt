@@ -5,6 +5,10 @@
 #[cfg(test)]
 mod arguments;
 #[cfg(test)]
+mod losses;
+#[cfg(test)]
 mod mounts;
+#[cfg(test)]
+mod roots;
 #[cfg(test)]
 mod scripts;

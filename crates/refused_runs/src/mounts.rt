@@ -5,9 +5,9 @@ use volume_runs::{
     Ran, copied, one_device, put_session, put_version, run, session_on, two_devices, wipe,
 };
 
-// Whether a run over the devices is refused with this line, and nothing is written: a run over what is left of them, where
-// that is what was flushed, is refused as well, after as many calls.
-fn is_refused(alloc: Global, devices: MemDevices, line: &[u8]) -> Result<bool, AllocError> {
+/// Whether a run over the devices is refused with this line, and nothing is written: a run over what is left of them, where
+/// that is what was flushed, is refused as well, after as many calls.
+pub fn is_refused(alloc: Global, devices: MemDevices, line: &[u8]) -> Result<bool, AllocError> {
     let first = run(alloc, b"mkfile main:/a\nsync\n", devices)?;
     if !has_refused(&first, line) {
         return Ok(false);
@@ -43,7 +43,7 @@ const VERSION: &[u8] = b"mount refused 2\n";
 
 const MIXED: &[u8] = b"mount refused 3\n";
 
-const NO_SESSION: &[u8] = b"mount refused 5\n";
+const NO_ENTRY: &[u8] = b"mount refused 5\n";
 
 #[test]
 fn blank_devices_are_not_mounted(rt: HostRuntime) -> Result<(), Fail> {
@@ -103,7 +103,7 @@ fn devices_without_a_session_are_not_mounted(rt: HostRuntime) -> Result<(), Fail
     let alloc = rt.alloc();
     let mut one = one_device(alloc)?;
     assert!(rt; wipe(alloc, &mut one, 0, 4, 5)?);
-    assert!(rt; is_refused(alloc, one.restart(Pick::AllWritten)?, NO_SESSION)?);
+    assert!(rt; is_refused(alloc, one.restart(Pick::AllWritten)?, NO_ENTRY)?);
     let mut two = two_devices(alloc)?;
     assert!(rt; wipe(alloc, &mut two, 0, 4, 5)?);
     let ran = run(alloc, b"", two.restart(Pick::AllWritten)?)?;
@@ -111,7 +111,7 @@ fn devices_without_a_session_are_not_mounted(rt: HostRuntime) -> Result<(), Fail
     let mut two = two_devices(alloc)?;
     assert!(rt; wipe(alloc, &mut two, 0, 4, 5)?);
     assert!(rt; wipe(alloc, &mut two, 1, 4, 5)?);
-    assert!(rt; is_refused(alloc, two.restart(Pick::AllWritten)?, NO_SESSION)?);
+    assert!(rt; is_refused(alloc, two.restart(Pick::AllWritten)?, NO_ENTRY)?);
     Ok(())
 }
 
@@ -156,7 +156,7 @@ fn the_last_session_is_spent(rt: HostRuntime) -> Result<(), Fail> {
         let mut devices = two_devices(alloc)?;
         assert!(rt; put_session(alloc, &mut devices, dev, 4_294_967_295)?);
         let left = devices.restart(Pick::AllWritten)?;
-        assert!(rt; is_refused(alloc, left, NO_SESSION)?, "at {dev}");
+        assert!(rt; is_refused(alloc, left, NO_ENTRY)?, "at {dev}");
     }
     let mut devices = one_device(alloc)?;
     assert!(rt; put_session(alloc, &mut devices, 0, 4_294_967_293)?);
@@ -167,6 +167,6 @@ fn the_last_session_is_spent(rt: HostRuntime) -> Result<(), Fail> {
     let ran = run(alloc, b"", devices)?;
     assert_eq!(rt; ran.status, 0);
     let left = ran.devices.restart(Pick::NoneWritten)?;
-    assert!(rt; is_refused(alloc, left, NO_SESSION)?);
+    assert!(rt; is_refused(alloc, left, NO_ENTRY)?);
     Ok(())
 }

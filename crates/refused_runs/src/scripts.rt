@@ -23,7 +23,7 @@ fn the_first_cause_is_told(rt: HostRuntime) -> Result<(), Fail> {
     let cases: [(&[&str], &[u64], &[u8], u8, &[u8]); 4] = [
         (&["x"], &[0], b"x\n", 1, b"error 1 usage\n"),
         (&["run"], &[0], b"x\n", 4, b"error 4 source\n"),
-        (&["run"], &[], b"x\n", 2, b"error 2 line 1 not-built\n"),
+        (&["run"], &[], b"x\n", 2, b"error 2 line 1 bad-verb\n"),
         (&["run"], &[], b"sync\n", 6, b"error 6 device 0\n"),
     ];
     for (arguments, failing, script, status, line) in cases {
@@ -40,20 +40,36 @@ fn the_first_cause_is_told(rt: HostRuntime) -> Result<(), Fail> {
     Ok(())
 }
 
-// Two blanks, a CR, an empty line, a comment and a `%`, each after a good line; no line runs.
+// A second line that is none, behind a good one: no line runs. Verbs that other versions run are none of this one; lines for other
+// clients are none, though a barrier is for nobody.
 #[test]
 fn bad_lines_are_refused(rt: HostRuntime) -> Result<(), Fail> {
     let alloc = rt.alloc();
-    for script in [
-        b"mkfile main:/a\nls  main:/\n".as_slice(),
-        b"mkfile main:/a\nls main:/\r\n".as_slice(),
-        b"mkfile main:/a\n\nls main:/\n".as_slice(),
-        b"mkfile main:/a\n# list\nls main:/\n".as_slice(),
-        b"mkfile main:/a\nmkfile main:/b%63\n".as_slice(),
-    ] {
+    let cases: [(&str, &[u8]); 15] = [
+        ("frob main:/a", b"error 2 line 2 bad-verb\n"),
+        ("read main:/a 0 1", b"error 2 line 2 bad-verb\n"),
+        (" sync", b"error 2 line 2 bad-verb\n"),
+        ("sync\r", b"error 2 line 2 bad-verb\n"),
+        ("@0", b"error 2 line 2 bad-verb\n"),
+        ("sync main:/", b"error 2 line 2 bad-args\n"),
+        ("ls  main:/", b"error 2 line 2 bad-args\n"),
+        ("mkfile", b"error 2 line 2 bad-args\n"),
+        ("ls main", b"error 2 line 2 bad-path\n"),
+        ("ls main:/\r", b"error 2 line 2 bad-path\n"),
+        ("mkfile main:/b%6", b"error 2 line 2 bad-path\n"),
+        ("@16 sync", b"error 2 line 2 bad-client\n"),
+        ("@01 frob", b"error 2 line 2 bad-client\n"),
+        ("@1 sync", b"error 2 line 2 bad-client\n"),
+        (
+            "@7 barrier\n@15 mkfile main:/b",
+            b"error 2 line 3 bad-client\n",
+        ),
+    ];
+    for (line, expected) in cases {
+        let script = format!(in alloc; "mkfile main:/a\n{line}\nls main:/\n")?;
         assert!(rt;
-            is_refused(alloc, script, b"error 2 line 2 not-built\n")?,
-            "at {script:?}"
+            is_refused(alloc, script.as_bytes(), expected)?,
+            "at {line}"
         );
     }
     Ok(())
@@ -65,7 +81,7 @@ fn a_script_of_more_than_16_mib_is_refused(rt: HostRuntime) -> Result<(), Fail> 
     let alloc = rt.alloc();
     let text = vec![in alloc; b'a'; 16_777_217]?;
     let (longest, _) = text.as_slice().split_at(16_777_216);
-    assert!(rt; is_refused(alloc, longest, b"error 2 line 1 not-built\n")?);
+    assert!(rt; is_refused(alloc, longest, b"error 2 line 1 bad-verb\n")?);
     assert!(rt; is_refused(alloc, &text, b"error 2 too-long\n")?);
     Ok(())
 }

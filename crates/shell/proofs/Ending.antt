@@ -1,23 +1,25 @@
 -- How a run ends after its lines.
-use Rattle.std.proofs.Common.{◌≡◌, inl, inr, ⊎_elim, ℕ, Bool, true, false, if◌then◌else◌, List, [], ◌∷◌, ◌++◌, map, refl, ap, ◌∙◌, sym, subst, arith}
+use Rattle.std.proofs.Common.{◌≡◌, inl, inr, ⊎_elim, ℕ, Bool, true, false, Some, if◌then◌else◌, List, [], ◌∷◌, ◌++◌, map, refl, ap, ◌∙◌, sym, subst, arith}
 use Rattle.std.specs.Prelude.{◌||◌, max}
 use Rattle.std.specs.List.{cons_option, filter_map, list_any}
 use Rattle.dev_model.specs.Devices.{DevicesState}
 use Rattle.plain_forest.specs.Forest.{Forest}
-use Rattle.plain_forest.specs.History.{History, commit_count}
-use Rattle.plain_forest.specs.declared.operation.Reply.{Reply}
-use Rattle.script_text.specs.Replies.{end_line_of}
-use Rattle.script_text.specs.declared.reading.Line.{Line}
-use Rattle.session_history.specs.declared.acks.Ack.{Ack}
-use Rattle.session_history.specs.Fits.{last_entry}
+use Rattle.forest_ops.specs.History.{History, commit_count}
+use Rattle.forest_ops.specs.HistoryLaws.{EachEntry-none}
+use Rattle.run_history.specs.Acknowledged.{synced_count}
+use Rattle.forest_ops.specs.declared.operation.Reply.{Reply}
+use Rattle.script_lines.specs.Replies.{end_line_of}
+use Rattle.script_lines.specs.declared.reading.Line.{Line}
+use Rattle.run_history.specs.declared.acks.Ack.{Ack}
+use Rattle.run_history.specs.Fits.{last_entry}
 use Rattle.text_io.specs.StreamLaws.{gains_nothing}
-use Rattle.record_log.specs.Log.{Log}
+use Rattle.vol_session.specs.Sessions.{SessionState}
 use Rattle.shell.specs.declared.tally.Tally.{Tally}
 use Rattle.shell.specs.declared.page.Page.{Page}
 use Rattle.shell.specs.Outcome.{ack_by, ack_of, acks_of, entries_of, entry_of, greatest_synced, replies_of, reply_lines, synced_by, text_of}
 use Rattle.shell.specs.Causes.{IsCut, asked_status, is_failure, is_no_memory}
 use Rattle.shell.specs.Printing.{Prints, has_ended, page_status}
-use Rattle.shell.specs.Phases.{EndsPrinting, RunsEnd, RunsLines, RunsScript, tally_after, tally_status, tally_with, text_with_end}
+use Rattle.shell.specs.Phases.{AreSyncsCounted, EndsPrinting, RunsEnd, RunsLines, RunsScript, tally_after, tally_status, tally_with, text_with_end}
 use Rattle.shell.proofs.Printing.{all_given, all_or_part, part_given}
 use Rattle.shell.proofs.Running.{adds_then, tally_then, were_made}
 
@@ -96,15 +98,15 @@ tally_from_none replies = tally_is (tally_of false false 0) replies
 
 module _ {D K : Type 0} (forest : Forest) (state : D → DevicesState) (devices_tell sink_tells : Type 0) (held given_at : K → List ℕ) (faults : K → ℕ) where
   -- a script was run, where its lines and its end were
-  pub script_ran : (status : ℕ) (script : List Line) (start mid last : Log D) (page shown : Page) (sink mid_sink last_sink : K) (trace : History) (acks : List Ack) (devices : D)
-      → start.trace ≡ [] → start.acks ≡ [] → page.tally ≡ tally_of false false 0 → Prints sink_tells held faults sink [] page sink → RunsLines state devices_tell sink_tells held given_at faults script start mid page shown sink mid_sink → RunsEnd forest state devices_tell sink_tells held given_at faults mid last shown mid_sink last_sink status → trace ≡ last.trace → acks ≡ last.acks → devices ≡ last.devices
+  pub script_ran : (status : ℕ) (script : List Line) (start mid last : SessionState D) (page shown : Page) (sink mid_sink last_sink : K) (trace : History) (acks : List Ack) (devices : D)
+      → start.trace ≡ [] → start.acks ≡ [] → page.tally ≡ tally_of false false 0 → Prints sink_tells held faults sink [] page sink → RunsLines forest state devices_tell sink_tells held given_at faults script start mid page shown sink mid_sink → RunsEnd forest state devices_tell sink_tells held given_at faults mid last shown mid_sink last_sink status → trace ≡ last.trace → acks ≡ last.acks → devices ≡ last.core.devices
       → RunsScript forest sink_tells devices_tell held given_at faults script sink last_sink status trace acks (state devices).moment
   script_ran status script start mid last page shown sink mid_sink last_sink trace acks devices begins no_acks none empty runs ends is_trace is_acks is_devices =
       let replies = replies_of runs.answered ends.reply in
-      let adds = adds_then state devices_tell start mid last (filter_map entry_of runs.answered) (last_entry ends.reply) (filter_map ack_of runs.answered) (cons_option (ack_by (state last.devices).moment ends.reply) []) runs.history ends.history in
+      let adds = adds_then forest state start mid last (filter_map entry_of runs.answered) (last_entry ends.reply) (filter_map ack_of runs.answered) (cons_option (ack_by (state last.core.devices).moment ends.reply) []) runs.history ends.history in
       let entries : last.trace ≡ entries_of runs.answered ends.reply = adds.trace ∙ ap (λ list. list ++ entries_of runs.answered ends.reply) begins in
-      let are_acks : last.acks ≡ acks_of runs.answered ends.reply (state last.devices).moment = adds.acks ∙ ap (λ list. list ++ acks_of runs.answered ends.reply (state last.devices).moment) no_acks in
-      let printed = runs.prints sink [] empty (λ told told_too. gains_nothing held given_at sink (state start.devices).moment) in
+      let are_acks : last.acks ≡ acks_of runs.answered ends.reply (state last.core.devices).moment = adds.acks ∙ ap (λ list. list ++ acks_of runs.answered ends.reply (state last.core.devices).moment) no_acks in
+      let printed = runs.prints sink [] empty (λ told told_too. gains_nothing held given_at sink (state start.core.devices).moment) in
       let tally : tally_with shown.tally ends.reply ≡ tally_of (list_any is_no_memory replies) (list_any is_failure replies) (greatest_synced replies) =
       ap (λ t. tally_with t ends.reply) (runs.tally ∙ ap (λ t. tally_after t (map (λ a. a.reply) runs.answered)) none)
       ∙ tally_then (tally_of false false 0) (map (λ a. a.reply) runs.answered) (ends.reply ∷ []) ∙ tally_from_none replies in
@@ -119,7 +121,8 @@ module _ {D K : Type 0} (forest : Forest) (state : D → DevicesState) (devices_
         lines = runs.are;
         entries = is_trace ∙ entries;
         acknowledged = is_acks ∙ are_acks ∙ ap (λ d. acks_of runs.answered ends.reply (state d).moment) (sym is_devices);
-        made = were_made sink_tells devices_tell held given_at sink shown mid_sink last_sink [] (state last.devices).moment runs.answered ends.ended ends.gains printed.made;
+        counted = subst (AreSyncsCounted forest) (sym is_trace) (adds.counted (subst (AreSyncsCounted forest) (sym begins) (EachEntry-none (λ before one. (count : ℕ) → synced_count one.reply ≡ Some count → count ≡ commit_count forest before))));
+        made = were_made sink_tells devices_tell held given_at sink shown mid_sink last_sink [] (state last.core.devices).moment runs.answered ends.ended ends.gains printed.made;
         prefix = ended.prefix;
         whole = ended.whole;
         failed = ended.failed;

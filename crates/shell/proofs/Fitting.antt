@@ -1,25 +1,22 @@
 -- The replies of a run fit its history, phase by phase, where each sync acknowledges all commits before it.
-use Rattle.std.proofs.Common.{◌≡◌, inl, inr, ℕ, zero, suc, ◌≤◌, Bool, true, false, cond, List, [], ◌∷◌, ◌++◌, length, map, take, slice_get, Option, Some, None, refl, ap, ◌∙◌, sym, subst, arith, append_assoc, append-nil, All}
+use Rattle.std.proofs.Common.{◌≡◌, ℕ, zero, suc, ◌≤◌, Bool, true, false, cond, List, [], ◌∷◌, ◌++◌, length, map, take, slice_get, Option, Some, None, refl, ap, ◌∙◌, sym, subst, arith, append_assoc, append-nil, All}
 use Rattle.std.specs.Prelude.{is_none}
 use Rattle.std.specs.List.{AllZip, cons_option, filter_map}
 use Rattle.std.proofs.Math.Seq.{take-append_seam}
 use Rattle.std.proofs.lemmas.List.Elements.{All-cons, All-nil}
 use Rattle.std.proofs.lemmas.Option.{same_Some, none-some as none_some}
 use Rattle.plain_forest.specs.Forest.{Forest}
-use Rattle.plain_forest.specs.History.{History, EachEntry, after_all, after_entry, commits_of, commit_count, is_commit}
-use Rattle.plain_forest.specs.HistoryLaws.{commits_of-push}
-use Rattle.plain_forest.specs.Steps.{listed}
-use Rattle.plain_forest.specs.declared.operation.Op.{Op}
-use Rattle.plain_forest.specs.declared.operation.Op.TheVariants.{Mkfile, Ls, Sync}
-use Rattle.plain_forest.specs.declared.operation.Reply.{Reply}
-use Rattle.plain_forest.specs.declared.operation.Reply.TheVariants.{Okay, Synced, List as Listed, Refused, NoSpace, DeviceFault, Halted, NoMemory}
-use Rattle.plain_forest.specs.declared.operation.Entry.{Entry}
-use Rattle.session_history.specs.Acknowledged.{synced_count}
-use Rattle.session_history.specs.Fits.{AcknowledgesAtLeast, AreOfPhase, Fits, LineReply, entry_by, entry_of, joined, last_entry, phases_of, with_line}
-use Rattle.session_history.specs.declared.halt.Halt.{Halt}
-use Rattle.record_log.specs.Exact.{IsExact, IsExactReply, IsSyncReply, halt_after, is_full_after}
+use Rattle.forest_ops.specs.History.{History, after_entry, commits_of, commit_count, is_commit}
+use Rattle.forest_ops.specs.HistoryLaws.{commits_of-push}
+use Rattle.forest_ops.specs.declared.operation.Op.{Op}
+use Rattle.forest_ops.specs.declared.operation.Op.TheVariants.{Sync}
+use Rattle.forest_ops.specs.declared.operation.Reply.{Reply}
+use Rattle.forest_ops.specs.declared.operation.Reply.TheVariants.{Okay, More, Synced, Content, List as Listed, File, Dir, SubNames, Used, Refused, NoSpace, DeviceFault, DataLost, Halted, Spent, NoMemory}
+use Rattle.forest_ops.specs.declared.operation.Entry.{Entry}
+use Rattle.run_history.specs.Acknowledged.{synced_count}
+use Rattle.run_history.specs.Fits.{AcknowledgesAtLeast, AreOfPhase, Fits, LineReply, entry_by, entry_of, joined, last_entry, phases_of, with_line}
 use Rattle.shell.specs.Outcome.{Answered, entries_of, entry_of as answered_entry, line_reply}
-use Rattle.shell.proofs.Running.{answer_seen, file_seen}
+use Rattle.shell.specs.Phases.{AreSyncsCounted}
 
 -- the entries of a phase
 abbrev part_of : List LineReply → History
@@ -107,19 +104,6 @@ fits_by opening lines last history is least final =
       final = final;
     }
 
--- a session acknowledges just the commits before a sync
-sync_exact : (halt : Halt) (halted : Option Halt) (commits : ℕ) (reply : Reply) → IsSyncReply halt halted commits reply → (count : ℕ) → synced_count reply ≡ Some count → count ≡ commits
-sync_exact halt (Some now) commits reply is count synced = absurd (none_some count (sym (ap synced_count is) ∙ synced))
-sync_exact halt None commits reply (inl is) count synced = same_Some count commits (sym synced ∙ ap synced_count is)
-sync_exact halt None commits reply (inr is) count synced = absurd (none_some count (sym (ap synced_count is) ∙ synced))
-
-reply_exact : (opening : Forest) (base places : ℕ) (halt : Halt) (halted : Option Halt) (before : History) (op : Op) (reply : Reply) → IsExactReply opening base places halt halted before op reply → (count : ℕ) → synced_count reply ≡ Some count → count ≡ commit_count opening before
-reply_exact opening base places halt halted before (Mkfile path) reply is count synced =
-    absurd (none_some count (sym (ap synced_count is ∙ file_seen synced_count None refl (λ cause. refl) (λ short. refl) (λ dev tick. refl) halted (is_full_after base places opening before) path (after_all opening before)) ∙ synced))
-reply_exact opening base places halt halted before (Ls path) reply is count synced =
-    absurd (none_some count (sym (ap synced_count is ∙ answer_seen synced_count None (λ cause. refl) Listed (λ names. refl) (listed path (after_all opening before))) ∙ synced))
-reply_exact opening base places halt halted before Sync reply is count synced = sync_exact halt halted (commit_count opening before) reply is count synced
-
 -- the last sync acknowledges all commits
 final_exact : (opening : Forest) (before : History) (last : Reply) (history : History) → history ≡ before ++ last_entry last
     → ((place : ℕ) (entry : Entry) (count : ℕ) → slice_get history place ≡ Some entry → synced_count entry.reply ≡ Some count → count ≡ commit_count opening (take place history))
@@ -131,6 +115,14 @@ final_exact opening before (Synced commits) history is exact count synced =
     ∙ ap (commit_count opening) (take-append_seam before (entry ∷ []))
     ∙ sym (ap (commit_count opening) is ∙ ap length (commits_of-push opening before entry ∙ append-nil (commits_of opening before)))
 final_exact opening before Okay history is exact count synced = absurd (none_some count synced)
+final_exact opening before (More size) history is exact count synced = absurd (none_some count synced)
+final_exact opening before (Content bytes) history is exact count synced = absurd (none_some count synced)
+final_exact opening before (File number size links) history is exact count synced = absurd (none_some count synced)
+final_exact opening before (Dir number entries) history is exact count synced = absurd (none_some count synced)
+final_exact opening before (SubNames names) history is exact count synced = absurd (none_some count synced)
+final_exact opening before (Used blocks) history is exact count synced = absurd (none_some count synced)
+final_exact opening before (DataLost lost) history is exact count synced = absurd (none_some count synced)
+final_exact opening before Spent history is exact count synced = absurd (none_some count synced)
 final_exact opening before (Listed names) history is exact count synced = absurd (none_some count synced)
 final_exact opening before (Refused cause) history is exact count synced = absurd (none_some count synced)
 final_exact opening before (NoSpace short) history is exact count synced = absurd (none_some count synced)
@@ -142,11 +134,9 @@ mapped : (answered : List Answered) → filter_map answered_entry answered ≡ f
 mapped [] = refl
 mapped (first ∷ answered) = ap (cons_option (answered_entry first)) (mapped answered)
 
--- the replies of a run fit its exact history
-pub run_fits : (opening : Forest) (base places : ℕ) (halt : Halt) (answered : List Answered) (last : Reply) (history : History) → history ≡ entries_of answered last → EachEntry (IsExact opening base places halt) history → Fits opening (map line_reply answered) last history
-run_fits opening base places halt answered last history is exact =
-    let each : (place : ℕ) (entry : Entry) (count : ℕ) → slice_get history place ≡ Some entry → synced_count entry.reply ≡ Some count → count ≡ commit_count opening (take place history) =
-    λ place entry count here synced. reply_exact opening base places halt (halt_after halt (take place history)) (take place history) entry.op entry.reply (exact place entry here) count synced in
+-- the replies of a run fit its history, where each sync acknowledges all commits before it
+pub run_fits : (opening : Forest) (answered : List Answered) (last : Reply) (history : History) → history ≡ entries_of answered last → AreSyncsCounted opening history → Fits opening (map line_reply answered) last history
+run_fits opening answered last history is each =
     fits_by opening (map line_reply answered) last history (is ∙ ap (λ (h : History). h ++ last_entry last) (mapped answered))
-    (λ place entry count here synced. let e : count ≡ commit_count opening (take place history) = each place entry count here synced in omega (arith, e))
-    (final_exact opening (filter_map answered_entry answered) last history is each)
+    (λ place entry count here synced. let e : count ≡ commit_count opening (take place history) = each place entry here count synced in omega (arith, e))
+    (final_exact opening (filter_map answered_entry answered) last history is (λ place entry count here synced. each place entry here count synced))

@@ -2,11 +2,13 @@ pub mod Asking
 pub mod EarlyEnds
 pub mod Ending
 pub mod Fitting
-pub mod FlatScripts
-pub mod Following
+pub mod RunScripts
 pub mod Formatted
+pub mod LoadedFront
 pub mod Mounting
 pub mod Preparing
 pub mod Printing
 pub mod Running
 pub mod EndingEarly
+pub mod Sessions
+pub mod OpenedRuns

@@ -3,27 +3,28 @@ use Rattle.std.specs.Prelude.{◌≡◌, ◌≢◌, ◌⊎◌, ℕ, ◌<◌, Boo
 use Rattle.std.specs.List.{list_any}
 use Rattle.vol_types.specs.Faults.{RoseBy}
 use Rattle.vol_types.specs.declared.layout.Layout.{Layout}
-use Rattle.dev_model.specs.Disk.{as_read}
 use Rattle.dev_model.specs.Devices.{DevicesState, now}
 use Rattle.dev_model.specs.Frames.{AreAfterCalls}
-use Rattle.plain_forest.specs.History.{EachEntry}
-use Rattle.plain_forest.specs.declared.operation.Reply.{Reply}
-use Rattle.plain_forest.specs.declared.operation.Reply.TheVariants.{DeviceFault, Halted, NoMemory}
-use Rattle.script_text.specs.Lines.{lines_of}
-use Rattle.script_text.specs.Scripts.{IsFirstBad}
-use Rattle.script_text.specs.declared.reading.Line.{Line}
+use Rattle.forest_ops.specs.History.{EachEntry}
+use Rattle.forest_ops.specs.declared.operation.Reply.{Reply}
+use Rattle.forest_ops.specs.declared.operation.Reply.TheVariants.{DeviceFault, Halted, NoMemory}
+use Rattle.script_lines.specs.Lines.{lines_of}
+use Rattle.script_lines.specs.Scripts.{IsFirstBad}
+use Rattle.script_lines.specs.declared.reading.Line.{Line}
 use Rattle.geometry.specs.Faults.{fault_device}
 use Rattle.geometry.specs.declared.fault.DiskFault.{DiskFault}
-use Rattle.session_history.specs.Failures.{Halts, HaveCauses, NoCommitAfterHalt}
-use Rattle.session_history.specs.declared.halt.Halt.{Halt}
-use Rattle.log_records.specs.Found.{Mounted}
-use Rattle.record_log.specs.Exact.{IsExact}
-use Rattle.record_log.specs.Log.{halt_or_none}
+use Rattle.run_history.specs.Failures.{Halts, HaveCauses, NoCommitAfterHalt}
+use Rattle.run_history.specs.declared.halt.Halt.{Halt}
+use Rattle.plain_forest.specs.Forest.{Forest}
+use Rattle.image_view.specs.Found.{Found}
+use Rattle.run_safety.specs.Runs.{MayRun}
+use Rattle.vol_session.specs.Sessions.{IsExact}
 use Rattle.shell.specs.declared.early_end.EarlyEnd.{EarlyEnd}
 use Rattle.shell.specs.declared.early_end.EarlyEnd.TheVariants.{Usage, BadLine, TooLong, Source, OutOfMemory}
 use Rattle.shell.specs.Outcome.{Outcome, EndedEarly, Ran, Formatted, Answered, early_status, format_status, replies_of, text_of}
 use Rattle.shell.specs.Tasks.{IsFormat, IsRun, task_of}
-use Rattle.shell.specs.Mounts.{IsUnspent, MountCause, OnlyReadUnmounted}
+use Rattle.shell.specs.Lines.{IsFirstOfOther}
+use Rattle.shell.specs.Mounts.{IsSure, MountCause, OnlyReadUnmounted}
 use Rattle.shell.specs.Runs.{Run, StreamFaults}
 use Rattle.shell.specs.Output.{GaveScript, IsTaken, script_limit}
 
@@ -39,12 +40,12 @@ ArgumentsCause arguments sizes Usage = task_of (length sizes) arguments ≡ None
 ArgumentsCause arguments sizes OutOfMemory = Unit {0}
 ArgumentsCause arguments sizes end = ⊥
 
--- Why the source gave no script: it failed, its text is too long, or a text was taken that has a first bad line. Out of memory
--- may come at any time.
+-- Why the source gave no script: it failed, its text is too long, or a text was taken that has a first bad line, or else a first line for another client than 0. Out of
+-- memory may come at any time.
 abbrev pub TextCause : Type 0 → List ℕ → EarlyEnd → Type 0
 TextCause source_tells left Source = Unit {0}
 TextCause source_tells left TooLong = source_tells → script_limit < length left
-TextCause source_tells left (BadLine line cause) = (text : List ℕ) × IsTaken source_tells left text × IsFirstBad (lines_of text) line cause
+TextCause source_tells left (BadLine line cause) = (text : List ℕ) × IsTaken source_tells left text × (IsFirstBad (lines_of text) line cause ⊎ IsFirstOfOther (lines_of text) line cause)
 TextCause source_tells left OutOfMemory = Unit {0}
 TextCause source_tells left end = ⊥
 
@@ -53,7 +54,7 @@ pub record EndsBefore {D : Type 0} (source_tells : Type 0) (arguments : List (Li
   pub cause : ArgumentsCause arguments sizes end ⊎ (IsRun arguments sizes × TextCause source_tells left end)
   pub untouched : devices_after ≡ devices
 
--- A run ended when it mounted the volume: its arguments ask for a run, and the source gave a script.
+-- A run ended when it opened the volume: its arguments ask for a run, and the source gave a script.
 pub record EndsMounting (source_tells devices_tell : Type 0) (arguments : List (List ℕ)) (left : List ℕ) (old new : DevicesState) (end : EarlyEnd) : Type 0 where
   pub run : IsRun arguments old.sizes
   pub script : List Line
@@ -61,7 +62,7 @@ pub record EndsMounting (source_tells devices_tell : Type 0) (arguments : List (
   pub cause : MountCause devices_tell old new end
 
 -- Why a run ended early, in the order of the tests: arguments that ask for nothing, a source that gives no script, devices
--- that aren't mounted. Before the last one no device is touched, whatever the end.
+-- that hold no volume to open. Before the last one no device is touched, whatever the end.
 abbrev pub EarlyCause : {D : Type 0} → Type 0 → Type 0 → List (List ℕ) → List ℕ → DevicesState → DevicesState → D → D → EarlyEnd → Type 0
 EarlyCause source_tells devices_tell arguments left old new devices devices_after end =
     EndsBefore source_tells arguments old.sizes left devices devices_after end ⊎ EndsMounting source_tells devices_tell arguments left old new end
@@ -99,29 +100,27 @@ pub record IsStatus (IsAsFor : ℕ → Type 0) (status : ℕ) (faults : StreamFa
   pub printed : status ≢ 5 → faults.sink_after ≡ faults.sink
   pub otherwise : status ≢ 5 → IsAsFor status
 
--- Why no line ran. Where the image doesn't mount the devices were only read, whatever the end.
+-- Why no line ran. Where nothing is found in the image the devices were only read, whatever the end.
 pub record HasEndedEarly {D K : Type 0} (source_tells devices_tell : Type 0) (run : Run D K) (end : EarlyEnd) : Type 0 where
   pub cause : EarlyCause source_tells devices_tell run.arguments run.streams.left run.state run.state_after run.devices run.devices_after end
   pub source : SourceFailed end run.faults.source run.faults.source_after
   pub ends : IsStatus (λ n. n ≡ early_status end) run.status run.faults
   pub unmounted : OnlyReadUnmounted devices_tell run.state run.state_after
 
--- Why the lines were answered as they were. The arguments ask for a run, the image mounts, and a number was left for the
--- session.
+-- Why the lines were answered as they were, over a volume that was opened with this forest. The arguments ask for a run.
 --
--- Failures: once a device has failed in a sync the session has halted, by one device and at one moment of the run (`halts`);
+-- Failures: once a device has failed at a write or a flush the session has halted, by one device and at one moment of the run (`halts`);
 -- no later entry is a commit; of each device at most as many entries say that it failed as its calls, and its writes and
--- flushes, failed (`faults`). Each reply is the one that a session gives at its place (`exact`).
-pub record HasAnswered {D K : Type 0} (sink_tells devices_tell : Type 0) (run : Run D K) (opening : Mounted) (answered : List Answered) (last : Reply) : Type 0 where
+-- flushes, failed (`faults`). Where the image may be run, and was read for certain, an operation that would change the forest fails only where this wouldn't refuse it (`exact`).
+pub record HasAnswered {D K : Type 0} (sink_tells devices_tell : Type 0) (run : Run D K) (mounted : DevicesState) (forest : Forest) (answered : List Answered) (last : Reply) : Type 0 where
   pub arguments : IsRun run.arguments run.state.sizes
   pub source : run.faults.source_after ≡ run.faults.source
-  pub unspent : devices_tell → IsUnspent (as_read (now run.state)) opening.layout
-  pub ends : IsStatus (IsRunStatus sink_tells (replies_of answered last) (text_of opening.forest answered last) run.streams.held run.streams.held_after) run.status run.faults
+  pub ends : IsStatus (IsRunStatus sink_tells (replies_of answered last) (text_of forest answered last) run.streams.held run.streams.held_after) run.status run.faults
   pub halt : Option Halt
   pub halts : Halts halt run.state run.state_after run.trace
-  pub no_commit : NoCommitAfterHalt opening.forest run.trace
+  pub no_commit : NoCommitAfterHalt forest run.trace
   pub faults : HaveCauses run.state.faults run.state_after.faults run.trace
-  pub exact : EachEntry (IsExact opening.forest opening.commits opening.layout.journal (halt_or_none halt)) run.trace
+  pub exact : devices_tell → (f : Found) → MayRun f (now run.state) → IsSure f run.state mounted → EachEntry (IsExact forest) run.trace
 
 -- The arguments ask for a format with this layout, and the source wasn't touched. A format fails where one of the devices does,
 -- and no other failed; or where it is out of memory.
@@ -133,7 +132,7 @@ pub record HasFormatted {D K : Type 0} (run : Run D K) (layout : Layout) (fault 
   pub ends : IsStatus (λ n. n ≡ format_status fault) run.status run.faults
 
 -- the causes of a run, by how it went
-abbrev pub HasCauses : {D K : Type 0} → Type 0 → Type 0 → Type 0 → Run D K → Mounted → Outcome → Type 0
-HasCauses source_tells sink_tells devices_tell run opening (EndedEarly end) = HasEndedEarly source_tells devices_tell run end
-HasCauses source_tells sink_tells devices_tell run opening (Ran script answered last) = HasAnswered sink_tells devices_tell run opening answered last
-HasCauses source_tells sink_tells devices_tell run opening (Formatted layout fault) = HasFormatted run layout fault
+abbrev pub HasCauses : {D K : Type 0} → Type 0 → Type 0 → Type 0 → Run D K → DevicesState → Forest → Outcome → Type 0
+HasCauses source_tells sink_tells devices_tell run mounted forest (EndedEarly end) = HasEndedEarly source_tells devices_tell run end
+HasCauses source_tells sink_tells devices_tell run mounted forest (Ran script answered last) = HasAnswered sink_tells devices_tell run mounted forest answered last
+HasCauses source_tells sink_tells devices_tell run mounted forest (Formatted layout fault) = HasFormatted run layout fault

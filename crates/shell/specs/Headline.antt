@@ -1,34 +1,38 @@
 -- What a run promises, whatever arguments, script and devices it is given.
 use Rattle.std.specs.Prelude.{◌≡◌, ℕ, List, []}
-use Rattle.dev_model.specs.Devices.{DevicesState}
-use Rattle.plain_forest.specs.History.{IsLegal}
-use Rattle.session_history.specs.Acknowledged.{AreAcks}
-use Rattle.log_records.specs.Found.{Mounted}
+use Rattle.dev_model.specs.Devices.{DevicesState, now}
+use Rattle.forest_ops.specs.History.{IsLegal}
+use Rattle.image_view.specs.Found.{Found}
+use Rattle.run_history.specs.Acknowledged.{AreAcks}
+use Rattle.run_safety.specs.Runs.{MayRun}
+use Rattle.vol_session.specs.Marks.{forest_found}
 use Rattle.shell.specs.Outcome.{Outcome, early_end_of}
 use Rattle.shell.specs.Runs.{Run}
 use Rattle.shell.specs.Output.{HasOutput}
 use Rattle.shell.specs.Causes.{HasCauses}
+use Rattle.shell.specs.Mounts.{IsSure}
 use Rattle.shell.specs.Survived.{OpensVolume, IsSurvived}
 
--- The headline: one field for each promise. The run went in one way, and where it ran a script it opened a volume, which was
--- mounted when its devices showed this.
+-- The headline: one field for each promise. The run went in one way, and where it ran a script it opened a volume, in its next session, when its devices showed this. What is said of an image that
+-- may be run is said of one in which a volume is found in order, sound and tidy, each of its btrees one leaf: as format makes it, and as each crash of a run leaves it. Where a call failed while it was
+-- opened, what its lines do to it is said where the places of its nodes agree.
 pub record Headline {D K : Type 0} (source_tells sink_tells devices_tell : Type 0) (held given_at : K → List ℕ) (run : Run D K) : Type 0 where
-  pub opening : Mounted
+  pub opening : Found
   pub mounted : DevicesState
   pub outcome : Outcome
   -- the volume opened is the one that the image means
   pub means : OpensVolume devices_tell run.state mounted run.state_after opening outcome
-  -- each reply is the plain forest's at its place in one history, but for failures that the operation may have
-  pub legal : IsLegal opening.forest run.trace
+  -- each reply is the plain forest's at its place in one history, from the forest of that volume on, but for failures that the operation may have
+  pub legal : devices_tell → (f : Found) → MayRun f (now run.state) → IsSure f run.state mounted → IsLegal (forest_found opening mounted) run.trace
   -- per client the operations are the script's, in order, and the text printed is theirs, each acknowledgement when it was made
-  pub told : HasOutput source_tells sink_tells devices_tell held given_at run opening.forest outcome
-  -- every image that a crash may leave, at every moment of the run, mounts to a prefix that has all that was acknowledged; or,
-  -- of a format, means what it meant before, or doesn't mount, or is the fresh volume
-  pub survives : devices_tell → IsSurvived run.state run.state_after run.trace run.acks outcome
+  pub told : HasOutput source_tells sink_tells devices_tell held given_at run (forest_found opening mounted) outcome
+  -- every image that a crash may leave, at every moment of the run, mounts to a prefix that has all that was acknowledged, whole on every metadata device, and may be run again; or,
+  -- of a format, means what it meant before, or nothing, or is the fresh volume
+  pub survives : devices_tell → IsSurvived run.state mounted run.state_after run.trace run.acks outcome
   -- one acknowledgement for each sync that succeeded, in order, with its number and its moment
   pub acknowledged : AreAcks run.state.moment run.state_after.moment run.trace run.acks
   -- the status and every failure has its cause
-  pub caused : HasCauses source_tells sink_tells devices_tell run opening outcome
+  pub caused : HasCauses source_tells sink_tells devices_tell run mounted (forest_found opening mounted) outcome
   -- whoever called it learns why it ended early, if it did
   pub early : run.early_end ≡ early_end_of outcome
   -- no answer that there was no space counts what was free

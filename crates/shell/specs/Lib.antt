@@ -1,4 +1,4 @@
-pub mod Flat
+pub mod Lines
 pub mod Outcome
 pub mod EarlyEnds
 pub mod Tasks

@@ -1,78 +1,68 @@
--- Which images are mounted for a session, and why one is refused.
-use Rattle.std.specs.Prelude.{◌≡◌, ◌⊎◌, ℕ, ◌+◌, ◌<◌, ◌≤◌, Some, Ok, Err, IsErr, length}
-use Rattle.vol_types.specs.declared.layout.Layout.{Layout}
+-- Which images are opened for a session, and why one is refused.
+use Rattle.std.specs.Prelude.{◌≡◌, ◌⊎◌, ⊤, ◌+◌, Ok, Err, IsErr}
 use Rattle.dev_model.specs.Disk.{Image, as_read}
 use Rattle.dev_model.specs.Devices.{DevicesState, now}
-use Rattle.dev_model.specs.Crashes.{EachCrash, IsCrashImageBut}
-use Rattle.dev_model.specs.Frames.{AreNoFewer, AreOnlyRead, GoOn}
-use Rattle.geometry.specs.Faults.{DeviceFailed}
-use Rattle.geometry.specs.Sessions.{IsSessionPlace, session_in}
-use Rattle.log_records.specs.Found.{log_in, mounted_as, mounts}
-use Rattle.log_records.specs.declared.fault.MountFault.TheVariants as faults
+use Rattle.dev_model.specs.Frames.{AreOnlyRead, GoOn}
+use Rattle.geometry.specs.Faults.{DeviceFailed, SomeFailed}
+use Rattle.image_view.specs.Found.{Found, found, with_session}
+use Rattle.image_view.specs.declared.fault.MountFault.TheVariants as faults
+use Rattle.replay.specs.Mending.{IsInOrderOn, IsReady, KeepsMeaning, KeepsPast}
+use Rattle.plain_reader.specs.Answers.{NodesAgree}
+use Rattle.replay.specs.Opening.{IsSpent, in_next_session}
 use Rattle.shell.specs.declared.early_end.Refusal.{Refusal}
-use Rattle.shell.specs.declared.early_end.Refusal.TheVariants.{NoSuper, Version, Mixed, BadLayout, NoSession}
+use Rattle.shell.specs.declared.early_end.Refusal.TheVariants.{NoSuper, Version, Mixed, BadLayout, NoEntry, MissingEntry, BadNode, Unsound}
 use Rattle.shell.specs.declared.early_end.EarlyEnd.{EarlyEnd}
 use Rattle.shell.specs.declared.early_end.EarlyEnd.TheVariants.{Refused, Device, OutOfMemory}
 
--- The image holds a volume that lies so, and this is the last session that it names.
-pub record IsMountable (image : Image) (layout : Layout) (session : ℕ) : Type 0 where
-  pub volume : mounts image ≡ Ok (mounted_as layout (log_in layout image))
-  pub named : session_in layout image ≡ Some session
-
--- the greatest number of a session
-abbrev pub last_session : ℕ
-last_session = 4294967295
-
--- The image holds a volume, and no number is left for a session.
-abbrev pub IsSpent : Image → Type 0
-IsSpent image = (layout : Layout) × (session : ℕ) × IsMountable image layout session × (last_session ≤ session)
-
--- The image holds a volume that lies so, and a number is left for a session.
-abbrev pub IsUnspent : Image → Layout → Type 0
-IsUnspent image layout = (session : ℕ) × IsMountable image layout session × (session < last_session)
-
--- The image isn't mounted, for this reason: it doesn't mount, or no number is left.
+-- The image isn't opened, for this reason: nothing is found in it but this fault, or no number is left for a session. Whether keys are sound isn't tested.
 abbrev pub IsRefused : Image → Refusal → Type 0
-IsRefused image NoSuper = mounts image ≡ Err faults.NoSuper
-IsRefused image Version = mounts image ≡ Err faults.Version
-IsRefused image Mixed = mounts image ≡ Err faults.Mixed
-IsRefused image BadLayout = mounts image ≡ Err faults.BadLayout
-IsRefused image NoSession = (mounts image ≡ Err faults.NoSession) ⊎ IsSpent image
+IsRefused image NoSuper = found image ≡ Err faults.NoSuper
+IsRefused image Version = found image ≡ Err faults.Version
+IsRefused image Mixed = found image ≡ Err faults.Mixed
+IsRefused image BadLayout = found image ≡ Err faults.BadLayout
+IsRefused image NoEntry = (found image ≡ Err faults.NoEntry) ⊎ IsSpent image
+IsRefused image (MissingEntry sequence) = found image ≡ Err (faults.MissingEntry sequence)
+IsRefused image (BadNode place) = found image ≡ Err (faults.BadNode place)
+IsRefused image (Unsound check) = ⊥
 
--- Mounting was refused for this reason, and the devices were only read.
+-- The reason shows before any node is read.
+abbrev pub ShowsEarly : Refusal → Type 0
+ShowsEarly (BadNode place) = ⊥
+ShowsEarly refusal = ⊤
+
+-- Opening was refused for this reason, which is the image's, unless a call failed and it is a bad node; and the devices were only read.
 pub record HasRefused (devices_tell : Type 0) (old new : DevicesState) (refusal : Refusal) : Type 0 where
-  pub reason : devices_tell → IsRefused (as_read (now old)) refusal
+  pub reason : devices_tell → (SomeFailed old.faults new.faults → ShowsEarly refusal) → IsRefused (as_read (now old)) refusal
   pub read : AreOnlyRead devices_tell old new
 
--- It is one of the devices, and a call of it failed in between.
-pub record IsFailedDevice (old new : DevicesState) (dev : ℕ) : Type 0 where
-  pub device : dev < length old.sizes
-  pub rose : DeviceFailed dev old.faults new.faults
-
--- Why the volume wasn't mounted: it was refused, or this device failed. Out of memory may come at any time.
+-- Why the volume wasn't opened: it was refused, or a call of this device failed. Out of memory may come at any time.
 abbrev pub MountCause : Type 0 → DevicesState → DevicesState → EarlyEnd → Type 0
 MountCause devices_tell old new (Refused refusal) = HasRefused devices_tell old new refusal
-MountCause devices_tell old new (Device dev) = IsFailedDevice old new dev
+MountCause devices_tell old new (Device dev) = DeviceFailed dev old.faults new.faults
 MountCause devices_tell old new OutOfMemory = Unit {0}
 MountCause devices_tell old new end = ⊥
 
--- Where the image doesn't mount, the devices were only read.
+-- Where nothing is found in the image, the devices were only read, unless a call failed.
 abbrev pub OnlyReadUnmounted : Type 0 → DevicesState → DevicesState → Type 0
-OnlyReadUnmounted devices_tell old new = devices_tell → IsErr (mounts (as_read (now old))) → AreOnlyRead devices_tell old new
+OnlyReadUnmounted devices_tell old new = devices_tell → ¬ SomeFailed old.faults new.faults → IsErr (found (as_read (now old))) → AreOnlyRead devices_tell old new
 
--- From one state to a later one no device changed its size, and no count of failures fell. Where the devices tell it, what
--- their disks were they still are at that moment.
-pub record ComesAfter (devices_tell : Type 0) (old new : DevicesState) : Type 0 where
-  pub sizes : new.sizes ≡ old.sizes
-  pub calls : AreNoFewer old.faults.calls new.faults.calls
-  pub writes : AreNoFewer old.faults.writes new.faults.writes
-  pub later : devices_tell → old.moment ≤ new.moment
-  pub past : devices_tell → (m : ℕ) → m ≤ old.moment → new.disks m ≡ old.disks m
-
--- The volume was mounted at this state between two others: until then the devices were read, and of their blocks only those
--- of the next session were written, without a fault at a write or a flush.
-pub record IsMountedAt (devices_tell : Type 0) (layout : Layout) (session : ℕ) (old mounted new : DevicesState) : Type 0 where
-  pub before : GoOn old mounted
+-- The volume was opened, in its next session, without a fault at a write or a flush. It is the one that is found in the image where no call failed (`means`), and also where a node
+-- couldn't be read on some place, of an image on whose nodes their places agree (`made_up`). Where the image was in order it is ready for a session that writes.
+pub record IsOpenedFrom (devices_tell : Type 0) (opening : Found) (old mounted : DevicesState) : Type 0 where
   pub unfailed : mounted.faults.writes ≡ old.faults.writes
-  pub begun : devices_tell → EachCrash (λ _ _ image. IsCrashImageBut (IsSessionPlace layout (session + 1)) (now old) image) old mounted
-  pub after : ComesAfter devices_tell mounted new
+  pub means : devices_tell → ¬ SomeFailed old.faults mounted.faults → in_next_session (found (as_read (now old))) ≡ Ok opening
+  pub made_up : devices_tell → (f : Found) → found (as_read (now old)) ≡ Ok f → NodesAgree (as_read (now old)) f → in_next_session (Ok f) ≡ Ok opening
+  pub ready : devices_tell → (f : Found) → IsInOrderOn f (now old) → IsReady (with_session (f.session + 1) f) (now mounted)
+
+-- What is found in the image is what was opened for certain: no call failed meanwhile, or the places of each node agree on it.
+abbrev pub IsSure : Found → DevicesState → DevicesState → Type 0
+IsSure f old mounted = (¬ SomeFailed old.faults mounted.faults) ⊎ NodesAgree (as_read (now old)) f
+
+-- While a volume was opened, whatever a crash left means what the image did, where that is in order.
+abbrev pub OpeningKeeps : Type 0 → DevicesState → DevicesState → Type 0
+OpeningKeeps devices_tell old new = devices_tell → (f : Found) → IsInOrderOn f (now old) → KeepsMeaning f old new
+
+-- From one state to a later one devices were read, written and flushed, and, where they tell it, what their disks were they still are at that moment.
+pub record ComesAfter (devices_tell : Type 0) (old new : DevicesState) : Type 0 where
+  pub goes_on : GoOn old new
+  pub past : devices_tell → KeepsPast old new

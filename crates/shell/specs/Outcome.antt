@@ -3,23 +3,23 @@ use Rattle.std.specs.Prelude.{ℕ, length, slice_index, List, [], ◌∷◌, ◌
 use Rattle.std.specs.List.{cons_option, filter_map, flat_map}
 use Rattle.std.specs.Fmt.{decimal}
 use Rattle.plain_forest.specs.Forest.{Forest}
-use Rattle.plain_forest.specs.History.{History, commit_count}
-use Rattle.plain_forest.specs.declared.operation.Op.{Op}
-use Rattle.plain_forest.specs.declared.operation.Reply.{Reply}
-use Rattle.plain_forest.specs.declared.operation.Reply.TheVariants.{Synced}
-use Rattle.plain_forest.specs.declared.operation.Entry.{Entry}
-use Rattle.session_history.specs.declared.acks.Ack.{Ack}
-use Rattle.session_history.specs.Fits.{LineReply, entry_by, last_entry}
-use Rattle.script_text.specs.Replies.{reply_line_of, end_line_of}
-use Rattle.script_text.specs.declared.reading.Line.{Line}
-use Rattle.script_text.specs.declared.reading.LineFault.{LineFault}
-use Rattle.script_text.specs.declared.reading.LineFault.TheVariants.{NotBuilt}
+use Rattle.forest_ops.specs.History.{History, commit_count}
+use Rattle.forest_ops.specs.declared.operation.Op.{Op}
+use Rattle.forest_ops.specs.declared.operation.Reply.{Reply}
+use Rattle.forest_ops.specs.declared.operation.Reply.TheVariants.{Synced}
+use Rattle.forest_ops.specs.declared.operation.Entry.{Entry}
+use Rattle.run_history.specs.declared.acks.Ack.{Ack}
+use Rattle.run_history.specs.Fits.{LineReply, entry_by, last_entry}
+use Rattle.script_lines.specs.Replies.{reply_line_of, end_line_of}
+use Rattle.script_lines.specs.declared.reading.Line.{Line}
+use Rattle.script_lines.specs.declared.reading.LineFault.{LineFault}
+use Rattle.script_lines.specs.declared.reading.LineFault.TheVariants.{BadVerb, BadArgs, BadPath, BadClient}
 use Rattle.uuid.specs.Text.{hyphenated_text, lower}
 use Rattle.vol_types.specs.declared.layout.Layout.{Layout}
 use Rattle.geometry.specs.declared.fault.DiskFault.{DiskFault}
 use Rattle.shell.specs.EarlyEnds.{end_of_disk}
 use Rattle.shell.specs.declared.early_end.Refusal.{Refusal}
-use Rattle.shell.specs.declared.early_end.Refusal.TheVariants.{NoSuper, Version, Mixed, BadLayout, NoSession}
+use Rattle.shell.specs.declared.early_end.Refusal.TheVariants.{NoSuper, Version, Mixed, BadLayout, NoEntry, MissingEntry, BadNode, Unsound}
 use Rattle.shell.specs.declared.early_end.EarlyEnd.{EarlyEnd}
 use Rattle.shell.specs.declared.early_end.EarlyEnd.TheVariants.{Usage, BadLine, TooLong, Source, Refused, Device, OutOfMemory}
 
@@ -48,22 +48,28 @@ early_status OutOfMemory = 7
 
 -- why a line is bad, at the end of the line that says so
 abbrev pub bad_end : LineFault → List ℕ
-bad_end NotBuilt = codes " not-built\n"
+bad_end BadVerb = codes " bad-verb\n"
+bad_end BadArgs = codes " bad-args\n"
+bad_end BadPath = codes " bad-path\n"
+bad_end BadClient = codes " bad-client\n"
 
--- the number of a reason why devices aren't mounted
-abbrev pub refusal_number : Refusal → ℕ
-refusal_number NoSuper = 1
-refusal_number Version = 2
-refusal_number Mixed = 3
-refusal_number BadLayout = 4
-refusal_number NoSession = 5
+-- the line of a refusal: the number of its reason, with what it names
+abbrev pub refusal_line : Refusal → List ℕ
+refusal_line NoSuper = codes "mount refused 1\n"
+refusal_line Version = codes "mount refused 2\n"
+refusal_line Mixed = codes "mount refused 3\n"
+refusal_line BadLayout = codes "mount refused 4\n"
+refusal_line NoEntry = codes "mount refused 5\n"
+refusal_line (MissingEntry sequence) = codes "mount refused 6 seq " ++ decimal sequence ++ codes "\n"
+refusal_line (BadNode place) = codes "mount refused 7 at " ++ decimal place.dev ++ codes ":" ++ decimal place.block ++ codes "\n"
+refusal_line (Unsound check) = codes "mount refused 8 check " ++ decimal check ++ codes "\n"
 
 -- the line of an early end
 abbrev pub early_line : EarlyEnd → List ℕ
 early_line Usage = codes "error 1 usage\n"
 early_line (BadLine line cause) = codes "error 2 line " ++ decimal line ++ bad_end cause
 early_line TooLong = codes "error 2 too-long\n"
-early_line (Refused refusal) = codes "mount refused " ++ decimal (refusal_number refusal) ++ codes "\n"
+early_line (Refused refusal) = refusal_line refusal
 early_line Source = codes "error 4 source\n"
 early_line (Device dev) = codes "error 6 device " ++ decimal dev ++ codes "\n"
 early_line OutOfMemory = codes "error 7 memory\n"

@@ -1,14 +1,15 @@
 -- Which script ran, what its lines were answered, and what was printed.
-use Rattle.std.specs.Prelude.{◌≡◌, ◌≢◌, ◌⊎◌, ℕ, ◌^◌, ◌≤◌, true, List, [], ◌∷◌, ◌++◌, length, map}
+use Rattle.std.specs.Prelude.{◌≡◌, ◌≢◌, ◌⊎◌, ℕ, ◌^◌, ◌≤◌, true, None, List, [], ◌∷◌, ◌++◌, length, map}
 use Rattle.text_io.specs.Streams.{GainsTextBy, GivesPrefix}
 use Rattle.plain_forest.specs.Forest.{Forest}
-use Rattle.plain_forest.specs.History.{History}
-use Rattle.plain_forest.specs.declared.operation.Reply.{Reply}
-use Rattle.session_history.specs.declared.acks.Ack.{Ack}
-use Rattle.script_text.specs.Lines.{lines_of}
-use Rattle.script_text.specs.Scripts.{IsScript}
-use Rattle.script_text.specs.declared.reading.Line.{Line}
-use Rattle.session_history.specs.Fits.{Fits}
+use Rattle.forest_ops.specs.History.{History}
+use Rattle.forest_ops.specs.declared.operation.Reply.{Reply}
+use Rattle.run_history.specs.declared.acks.Ack.{Ack}
+use Rattle.script_lines.specs.Lines.{lines_of}
+use Rattle.script_lines.specs.Scripts.{IsScript}
+use Rattle.script_lines.specs.declared.reading.Line.{Line}
+use Rattle.run_history.specs.Fits.{Fits}
+use Rattle.shell.specs.Lines.{first_of_other}
 use Rattle.shell.specs.Outcome.{Outcome, EndedEarly, Ran, Formatted, Answered, acks_of, acknowledges, early_line, format_line, entries_of, line_reply, reply_line, text_of}
 use Rattle.shell.specs.Runs.{Run, Streams}
 
@@ -21,11 +22,12 @@ pub record IsTaken (source_tells : Type 0) (left text : List ℕ) : Type 0 where
   pub told : source_tells → text ≡ left
   pub short : length text ≤ script_limit
 
--- A text was taken of the source, and it has this script.
+-- A text was taken of the source, and it has this script, in which no line is for another client than 0.
 pub record GaveScript (source_tells : Type 0) (left : List ℕ) (script : List Line) : Type 0 where
   pub text : List ℕ
   pub taken : IsTaken source_tells left text
   pub reads : IsScript (lines_of text) script
+  pub own : first_of_other script ≡ None
 
 -- No line of a script ran: the history is empty, and the sink has gained this line, or a prefix of it with status 5.
 pub record HasLine (sink_tells : Type 0) (streams : Streams) (status : ℕ) (trace : History) (line : List ℕ) : Type 0 where

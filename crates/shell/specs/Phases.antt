@@ -1,32 +1,38 @@
 -- How lines are answered, one after another, and what their replies amount to.
-use Rattle.std.specs.Prelude.{◌≡◌, ◌≢◌, ◌⊎◌, ◌<◌, ◌≤◌, ℕ, length, IfSome, option_and_then, option_map, ◌||◌, true, max, List, [], ◌∷◌, ◌++◌, map, Option, None, Ok}
+use Rattle.std.specs.Prelude.{◌≡◌, ◌≢◌, ◌⊎◌, ◌<◌, ◌≤◌, ℕ, length, IfSome, option_and_then, option_map, ◌||◌, true, max, List, [], ◌∷◌, ◌++◌, map, Option, Some, None}
 use Rattle.std.specs.List.{cons_option, filter_map}
 use Rattle.vol_types.specs.Faults.{RoseBy}
 use Rattle.dev_model.specs.Devices.{DevicesState}
-use Rattle.dev_model.specs.Crashes.{EachCrashNow}
-use Rattle.dev_model.specs.Frames.{AreAfterCalls}
+use Rattle.dev_model.specs.Frames.{AreAfterCalls, GoOn}
 use Rattle.plain_forest.specs.Forest.{Forest}
 use Rattle.text_io.specs.Streams.{GainsBy, GainsTextBy, GivesPrefix}
-use Rattle.script_text.specs.Replies.{end_line_of}
-use Rattle.plain_forest.specs.History.{History, commit_count}
-use Rattle.plain_forest.specs.declared.operation.Reply.{Reply}
-use Rattle.script_text.specs.declared.reading.Line.{Line}
-use Rattle.record_log.specs.Log.{Log}
+use Rattle.script_lines.specs.Replies.{end_line_of}
+use Rattle.forest_ops.specs.History.{EachEntry, History, IsLegal, commit_count}
+use Rattle.forest_ops.specs.declared.operation.Reply.{Reply}
+use Rattle.script_lines.specs.declared.reading.Line.{Line}
+use Rattle.vol_session.specs.Marks.{forest_found}
+use Rattle.vol_session.specs.Sessions.{IsExact, SessionState}
+use Rattle.vol_session.specs.Survivors.{BeginsWell, Survive}
 use Rattle.vol_types.specs.declared.layout.Layout.{Layout}
 use Rattle.geometry.specs.declared.fault.DiskFault.{DiskFault}
-use Rattle.log_records.specs.Found.{mounts}
-use Rattle.log_format.specs.Formatting.{FormatSurvives, fresh_volume}
-use Rattle.session_history.specs.declared.acks.Ack.{Ack}
+use Rattle.vol_format.specs.Formatting.{FormatSurvives}
+use Rattle.run_history.specs.declared.acks.Ack.{Ack}
 use Rattle.shell.specs.declared.tally.Tally.{Tally}
 use Rattle.shell.specs.declared.page.Page.{Page}
-use Rattle.session_history.specs.Fits.{last_entry}
+use Rattle.image_view.specs.Found.{Found}
+use Rattle.run_history.specs.Acknowledged.{AreAcks, synced_count}
+use Rattle.run_history.specs.Failures.{Halts, HaveCauses, NoCommitAfterHalt}
+use Rattle.run_history.specs.declared.halt.Halt.{Halt}
+use Rattle.run_history.specs.Fits.{last_entry}
 use Rattle.geometry.specs.Faults.{fault_device}
 use Rattle.shell.specs.declared.early_end.EarlyEnd.{EarlyEnd}
 use Rattle.shell.specs.EarlyEnds.{end_of_disk}
-use Rattle.shell.specs.Outcome.{Answered, ack_by, ack_of, acks_of, acknowledges, entries_of, entry_of, format_line, format_status, replies_of, reply_line, reply_lines, synced_by, text_of}
+use Rattle.shell.specs.declared.early_end.EarlyEnd.TheVariants.{OutOfMemory}
+use Rattle.shell.specs.Mounts.{ComesAfter}
+use Rattle.shell.specs.Outcome.{Answered, ack_by, ack_of, acks_of, acknowledges, early_line, early_status, entries_of, entry_of, format_line, format_status, replies_of, reply_line, reply_lines, synced_by, text_of}
 use Rattle.shell.specs.Printing.{Prints, has_ended}
 use Rattle.shell.specs.Output.{WereMade}
-use Rattle.shell.specs.Mounts.{ComesAfter}
+use Rattle.shell.specs.Survived.{HoldsFresh}
 use Rattle.shell.specs.Causes.{IsCut, IsRunStatus, asked_status, is_failure, is_no_memory}
 
 -- a tally of replies, with one reply more
@@ -46,13 +52,16 @@ tally_after tally (reply ∷ replies) = tally_after (tally_with tally reply) rep
 abbrev pub tally_status : Tally → ℕ
 tally_status tally = asked_status tally.lacks_memory tally.has_failed
 
--- A session's history goes on by these entries, and these acknowledgements were made.
-pub record AddsEntries {D : Type 0} (state : D → DevicesState) (devices_tell : Type 0) (old new : Log D) (more : History) (acknowledged : List Ack) : Type 0 where
+-- Each sync of the history that acknowledges commits acknowledges all before it.
+abbrev pub AreSyncsCounted : Forest → History → Type 0
+AreSyncsCounted forest trace = EachEntry (λ before entry. (count : ℕ) → synced_count entry.reply ≡ Some count → count ≡ commit_count forest before) trace
+
+-- A session's history goes on by these entries, with syncs that acknowledge all commits, and these acknowledgements were made.
+pub record AddsEntries {D : Type 0} (forest : Forest) (state : D → DevicesState) (old new : SessionState D) (more : History) (acknowledged : List Ack) : Type 0 where
   pub trace : new.trace ≡ old.trace ++ more
   pub acks : new.acks ≡ old.acks ++ acknowledged
-  pub base : new.base ≡ old.base
-  pub layout : new.layout ≡ old.layout
-  pub after : ComesAfter devices_tell (state old.devices) (state new.devices)
+  pub counted : AreSyncsCounted forest old.trace → AreSyncsCounted forest new.trace
+  pub after : GoOn (state old.core.devices) (state new.core.devices)
 
 -- Where it is an acknowledgement, the sink had gained the lines up to it by the moment at which it was made; or printing has
 -- ended, and the sink has gained a prefix of them.
@@ -69,8 +78,8 @@ AreMade sink_tells devices_tell held given_at start page last text (first ∷ an
     × AreMade sink_tells devices_tell held given_at start page last (text ++ reply_line first) answered
 
 -- What a sink gained between two states of a session it gained by the moment of the second.
-abbrev pub Gains : {D K : Type 0} → (D → DevicesState) → Type 0 → Type 0 → (K → List ℕ) → (K → List ℕ) → K → K → Log D → Type 0
-Gains state devices_tell sink_tells held given_at first last log = sink_tells → devices_tell → GainsBy held given_at first last (state log.devices).moment
+abbrev pub Gains : {D K : Type 0} → (D → DevicesState) → Type 0 → Type 0 → (K → List ℕ) → (K → List ℕ) → K → K → SessionState D → Type 0
+Gains state devices_tell sink_tells held given_at first last log = sink_tells → devices_tell → GainsBy held given_at first last (state log.core.devices).moment
 
 -- The lines of these answers were printed after a text, each acknowledgement when it was made.
 pub record PrintsLines {K : Type 0} (sink_tells devices_tell : Type 0) (held given_at : K → List ℕ) (faults : K → ℕ) (start : K) (text : List ℕ) (answered : List Answered) (page : Page) (sink : K) : Type 0 where
@@ -78,10 +87,10 @@ pub record PrintsLines {K : Type 0} (sink_tells devices_tell : Type 0) (held giv
   pub made : AreMade sink_tells devices_tell held given_at start page sink text answered
 
 -- Each of the lines was answered, in order, and printed: the history has the entries, and the page the tally of the answers.
-pub record RunsLines {D K : Type 0} (state : D → DevicesState) (devices_tell sink_tells : Type 0) (held given_at : K → List ℕ) (faults : K → ℕ) (lines : List Line) (old new : Log D) (page new_page : Page) (sink new_sink : K) : Type 0 where
+pub record RunsLines {D K : Type 0} (forest : Forest) (state : D → DevicesState) (devices_tell sink_tells : Type 0) (held given_at : K → List ℕ) (faults : K → ℕ) (lines : List Line) (old new : SessionState D) (page new_page : Page) (sink new_sink : K) : Type 0 where
   pub answered : List Answered
   pub are : map (λ a. a.line) answered ≡ lines
-  pub history : AddsEntries state devices_tell old new (filter_map entry_of answered) (filter_map ack_of answered)
+  pub history : AddsEntries forest state old new (filter_map entry_of answered) (filter_map ack_of answered)
   pub gains : Gains state devices_tell sink_tells held given_at sink new_sink new
   pub prints : (start : K) (text : List ℕ) → Prints sink_tells held faults start text page sink → Gains state devices_tell sink_tells held given_at start sink old
       → PrintsLines sink_tells devices_tell held given_at faults start text answered new_page new_sink
@@ -89,9 +98,9 @@ pub record RunsLines {D K : Type 0} (state : D → DevicesState) (devices_tell s
   pub tally : new_page.tally ≡ tally_after page.tally (map (λ a. a.reply) answered)
 
 -- A last sync was answered: its entry comes after the history, and nothing is printed for it.
-pub record RunsSync {D : Type 0} (state : D → DevicesState) (devices_tell : Type 0) (old new : Log D) (page new_page : Page) : Type 0 where
+pub record RunsSync {D : Type 0} (forest : Forest) (state : D → DevicesState) (old new : SessionState D) (page new_page : Page) : Type 0 where
   pub reply : Reply
-  pub history : AddsEntries state devices_tell old new (last_entry reply) (cons_option (ack_by (state new.devices).moment reply) [])
+  pub history : AddsEntries forest state old new (last_entry reply) (cons_option (ack_by (state new.core.devices).moment reply) [])
   pub noted : new_page ≡ record page { tally = tally_with page.tally reply }
 
 -- what a run prints whose lines have this text, after a history and with the tally of its replies
@@ -108,9 +117,9 @@ pub record EndsPrinting {K : Type 0} (sink_tells : Type 0) (held : K → List �
   pub otherwise : status ≢ 5 → (status ≡ tally_status tally) ⊎ ((status ≡ 7) × (sink_tells → IsCut text (held start) (held sink)))
 
 -- A run has ended after its lines: a last sync was answered, and the last line was printed.
-pub record RunsEnd {D K : Type 0} (forest : Forest) (state : D → DevicesState) (devices_tell sink_tells : Type 0) (held given_at : K → List ℕ) (faults : K → ℕ) (old new : Log D) (page : Page) (sink new_sink : K) (status : ℕ) : Type 0 where
+pub record RunsEnd {D K : Type 0} (forest : Forest) (state : D → DevicesState) (devices_tell sink_tells : Type 0) (held given_at : K → List ℕ) (faults : K → ℕ) (old new : SessionState D) (page : Page) (sink new_sink : K) (status : ℕ) : Type 0 where
   pub reply : Reply
-  pub history : AddsEntries state devices_tell old new (last_entry reply) (cons_option (ack_by (state new.devices).moment reply) [])
+  pub history : AddsEntries forest state old new (last_entry reply) (cons_option (ack_by (state new.core.devices).moment reply) [])
   pub gains : Gains state devices_tell sink_tells held given_at sink new_sink new
   pub ends : (start : K) (text : List ℕ) → Prints sink_tells held faults start text page sink
       → EndsPrinting sink_tells held faults start (text_with_end forest new.trace (tally_with page.tally reply) text) (tally_with page.tally reply) new_sink status
@@ -123,6 +132,7 @@ pub record RunsScript {K : Type 0} (forest : Forest) (sink_tells devices_tell : 
   pub lines : map (λ a. a.line) answered ≡ script
   pub entries : trace ≡ entries_of answered last
   pub acknowledged : acks ≡ acks_of answered last moment_after
+  pub counted : AreSyncsCounted forest trace
   pub made : WereMade sink_tells devices_tell held given_at sink sink_after [] answered
   pub prefix : sink_tells → GivesPrefix (text_of forest answered last) (held sink) (held sink_after)
   pub whole : sink_tells → status ≢ 5 → status ≢ 7 → held sink_after ≡ held sink ++ text_of forest answered last
@@ -140,11 +150,31 @@ pub record EndsEarly (sink_tells : Type 0) (line : List ℕ) (as_asked : ℕ) (h
   pub printed : status ≢ 5 → sink_faults_after ≡ sink_faults
   pub otherwise : status ≢ 5 → status ≡ as_asked
 
+-- A session over the volume that was opened ran a script to its end, from this state of the devices on.
+pub record RunsOpened {D K : Type 0} (state : D → DevicesState) (devices_tell sink_tells : Type 0) (held given_at : K → List ℕ) (faults : K → ℕ) (begun : Found) (start : DevicesState) (script : List Line) (sink sink_after : K) (devices_after : D) (status : ℕ) (early_end : Option EarlyEnd) (trace : History) (acks : List Ack) : Type 0 where
+  pub ran : RunsScript (forest_found begun start) sink_tells devices_tell held given_at faults script sink sink_after status trace acks (state devices_after).moment
+  pub halt : Option Halt
+  pub halts : Halts halt start (state devices_after) trace
+  pub no_commit : NoCommitAfterHalt (forest_found begun start) trace
+  pub causes : HaveCauses start.faults (state devices_after).faults trace
+  pub acknowledged : AreAcks start.moment (state devices_after).moment trace acks
+  pub legal : devices_tell → BeginsWell begun start → IsLegal (forest_found begun start) trace
+  pub exact : devices_tell → BeginsWell begun start → EachEntry (IsExact (forest_found begun start)) trace
+  pub survive : devices_tell → BeginsWell begun start → Survive begun start (state devices_after) trace acks
+  pub after : ComesAfter devices_tell start (state devices_after)
+  pub early : early_end ≡ None
+
+-- There was no memory to keep the volume that was opened: no line ran, and the devices are as they were.
+pub record EndsUnopened {D K : Type 0} (sink_tells : Type 0) (held : K → List ℕ) (faults : K → ℕ) (devices devices_after : D) (sink sink_after : K) (status : ℕ) (early_end : Option EarlyEnd) (trace : History) (acks : List Ack) : Type 0 where
+  pub same : devices_after ≡ devices
+  pub ends : EndsEarly sink_tells (early_line OutOfMemory) (early_status OutOfMemory) (held sink) (held sink_after) (faults sink) (faults sink_after) status trace acks
+  pub early : early_end ≡ Some OutOfMemory
+
 -- The devices were formatted, or that failed by a fault, and the sink has gained the line that says so.
 pub record Formats (sink_tells devices_tell : Type 0) (layout : Layout) (old new : DevicesState) (held held_after : List ℕ) (sink_faults sink_faults_after status : ℕ) (early_end : Option EarlyEnd) (trace : History) (acks : List Ack) : Type 0 where
   pub fault : Option DiskFault
   pub survives : devices_tell → FormatSurvives layout old new
-  pub done : devices_tell → fault ≡ None → EachCrashNow (λ image. mounts image ≡ Ok (fresh_volume layout)) new
+  pub done : devices_tell → fault ≡ None → HoldsFresh layout new
   pub device : IfSome (option_and_then fault_device fault) (λ dev. dev < length old.sizes)
   pub cause : AreAfterCalls (option_and_then fault_device fault) old.faults new.faults
   pub later : old.moment ≤ new.moment

@@ -2,8 +2,8 @@
 use Rattle.std.specs.Prelude.{ℕ, List, Option}
 use Rattle.vol_types.specs.declared.space.Short.{Short}
 use Rattle.dev_model.specs.Devices.{DevicesState}
-use Rattle.plain_forest.specs.History.{History}
-use Rattle.session_history.specs.declared.acks.Ack.{Ack}
+use Rattle.forest_ops.specs.History.{History}
+use Rattle.run_history.specs.declared.acks.Ack.{Ack}
 use Rattle.shell.specs.declared.early_end.EarlyEnd.{EarlyEnd}
 
 -- what the source gave and the sink took, where they tell it

@@ -1,33 +1,45 @@
 -- What the run opened, and what a crash at each of its moments leaves.
-use Rattle.std.specs.Prelude.{◌≡◌, ℕ, List, None, Ok}
+use Rattle.std.specs.Prelude.{◌≡◌, List, None}
+use Rattle.vol_types.specs.declared.layout.Layout.{Layout}
 use Rattle.dev_model.specs.Disk.{as_read}
 use Rattle.dev_model.specs.Devices.{DevicesState, now}
 use Rattle.dev_model.specs.Crashes.{EachCrashNow}
-use Rattle.geometry.specs.Faults.{SomeFailed}
-use Rattle.plain_forest.specs.History.{History}
-use Rattle.session_history.specs.declared.acks.Ack.{Ack}
-use Rattle.log_records.specs.Found.{AreMirrored, Mounted, mounts}
-use Rattle.log_format.specs.Formatting.{FormatSurvives, fresh_volume}
-use Rattle.record_log.specs.Survives.{Survives}
-use Rattle.shell.specs.Mounts.{IsMountedAt}
+use Rattle.dev_model.specs.Frames.{GoOn}
+use Rattle.replay.specs.Mending.{IsUntorn}
+use Rattle.forest_ops.specs.History.{History}
+use Rattle.run_history.specs.declared.acks.Ack.{Ack}
+use Rattle.image_view.specs.Found.{Found}
+use Rattle.run_safety.specs.Runs.{MayRun, RunSurvives}
+use Rattle.vol_format.specs.Formatting.{FormatSurvives, IsFormatted, IsFresh}
+use Rattle.vol_format.specs.Fresh.{fresh_found}
+use Rattle.vol_session.specs.Marks.{forest_found}
+use Rattle.shell.specs.Mounts.{ComesAfter, IsOpenedFrom, IsSure, OpeningKeeps}
 use Rattle.shell.specs.Outcome.{Outcome, EndedEarly, Ran, Formatted}
 
--- The run mounted this volume, at this state of its devices. It is the one that the image means, unless a device had failed
--- by then and the image's mirrors don't agree.
-pub record Opened (devices_tell : Type 0) (opening : Mounted) (old mounted new : DevicesState) : Type 0 where
-  pub session : ℕ
-  pub between : IsMountedAt devices_tell opening.layout session old mounted new
-  pub means : devices_tell → (SomeFailed old.faults mounted.faults → AreMirrored opening.layout (as_read (now old))) → mounts (as_read (now old)) ≡ Ok opening
+-- The run opened this volume at this state of its devices, and they went on from there. Its forest is the image's, where that may be run and was read for certain, and no torn block of the journal
+-- areas opened by chance meanwhile.
+pub record Opened (devices_tell : Type 0) (opening : Found) (old mounted new : DevicesState) : Type 0 where
+  pub opened : IsOpenedFrom devices_tell opening old mounted
+  pub keeps : OpeningKeeps devices_tell old mounted
+  pub before : GoOn old mounted
+  pub after : ComesAfter devices_tell mounted new
+  pub forest : devices_tell → (f : Found) → MayRun f (now old) → IsSure f old mounted → IsUntorn f.layout old.moment mounted.moment mounted (as_read (now mounted)) → forest_found opening mounted ≡ forest_found f old
 
 -- A run of a script opened a volume; no other run did.
-abbrev pub OpensVolume : Type 0 → DevicesState → DevicesState → DevicesState → Mounted → Outcome → Type 0
+abbrev pub OpensVolume : Type 0 → DevicesState → DevicesState → DevicesState → Found → Outcome → Type 0
 OpensVolume devices_tell old mounted new opening (EndedEarly end) = Unit {0}
 OpensVolume devices_tell old mounted new opening (Ran script answered last) = Opened devices_tell opening old mounted new
 OpensVolume devices_tell old mounted new opening (Formatted layout fault) = Unit {0}
 
--- A crash at each moment leaves, of a volume, a prefix that has all that was acknowledged; of devices that are formatted, what
--- they meant, or nothing that mounts, or the fresh volume, and that one where they were formatted.
-abbrev pub IsSurvived : DevicesState → DevicesState → History → List Ack → Outcome → Type 0
-IsSurvived old new trace acks (EndedEarly end) = (volume : Mounted) → Survives volume old new trace acks
-IsSurvived old new trace acks (Ran script answered last) = (volume : Mounted) → Survives volume old new trace acks
-IsSurvived old new trace acks (Formatted layout fault) = FormatSurvives layout old new × (fault ≡ None → EachCrashNow (λ image. mounts image ≡ Ok (fresh_volume layout)) new)
+-- The devices hold the fresh volume, whatever a crash leaves of them, and it may be run.
+pub record HoldsFresh (layout : Layout) (state : DevicesState) : Type 0 where
+  pub is_formatted : IsFormatted layout (now state)
+  pub crashes : EachCrashNow (IsFresh layout) state
+  pub may_run : MayRun (fresh_found layout) (now state)
+
+-- A crash at each moment leaves, of a volume that may be run, and that was read for certain where lines ran, one that may be run again: that after a prefix of the history's commits, with all that was acknowledged by then, which stands whole on
+-- every metadata device; of devices that are formatted, what they meant, or nothing, or the fresh volume, and that one where they were formatted.
+abbrev pub IsSurvived : DevicesState → DevicesState → DevicesState → History → List Ack → Outcome → Type 0
+IsSurvived old mounted new trace acks (EndedEarly end) = (f : Found) → MayRun f (now old) → RunSurvives f old new trace acks
+IsSurvived old mounted new trace acks (Ran script answered last) = (f : Found) → MayRun f (now old) → IsSure f old mounted → RunSurvives f old new trace acks
+IsSurvived old mounted new trace acks (Formatted layout fault) = FormatSurvives layout old new × (fault ≡ None → HoldsFresh layout new)

@@ -1,18 +1,18 @@
-ghost use Rattle.std.specs.Prelude.{◌≡◌, ◌++◌, OnOk, OnErr, decimal};
+ghost use Rattle.std.specs.Prelude.{◌≡◌, ◌++◌, OnOk, OnErr, codes, decimal};
 ghost use Rattle.vol_types.specs.Faults.{CountsFaults};
 ghost use Rattle.text_io.specs.Streams.{GivesPrefix};
-ghost use Rattle.shell.specs.Outcome.{bad_end, early_line, early_status, refusal_number};
+ghost use Rattle.shell.specs.Outcome.{bad_end, early_line, early_status, refusal_line};
 
 use command_words::WordsFault;
 use dev_model::Devices;
 use geometry::DiskFault;
+use image_view::MountFault;
 use itoa::Buffer;
-use log_records::MountFault;
-use script_text::{LineFault, ScriptFault};
+use script_lines::{LineFault, ScriptFault};
 use text_io::{Sink, TakeFault, give_all};
-use vol_types::Failed;
+use vol_types::{Failed, Place};
 
-/// Why devices aren't mounted.
+/// Why the volume on devices isn't opened.
 #[derive(Clone, Copy, Debug, PartialEq, Eq)]
 pub enum Refusal {
     /// A device has no superblock.
@@ -23,8 +23,14 @@ pub enum Refusal {
     Mixed,
     /// A superblock has another form, or a number out of its range, or a device has fewer blocks than it says.
     BadLayout,
-    /// No session is named, or no number is left for a new one.
-    NoSession,
+    /// No session is named, or no entry of the journal is whole, or no number is left for a new session.
+    NoEntry,
+    /// The journal's entry of this sequence is needed, and isn't whole.
+    MissingEntry(u64),
+    /// At this place a node of a btree is bad.
+    BadNode(Place),
+    /// The keys fail this one of the eight checks. No command tests them yet.
+    Unsound(u8),
 }
 
 /// Why nothing is run or formatted.
@@ -38,9 +44,9 @@ pub enum EarlyEnd {
     TooLong,
     /// The script couldn't be read.
     Source,
-    /// The devices aren't mounted, for this reason.
+    /// The volume isn't opened, for this reason.
     Refused(Refusal),
-    /// This device failed while its volume was mounted, or while it was formatted.
+    /// This device failed while its volume was opened, or while it was formatted.
     Device(u8),
     /// Out of memory.
     OutOfMemory,
@@ -77,35 +83,51 @@ pub fn print_early_end<K: Sink<D>, D: Devices>(
             sink,
             devices,
             b"error 2 line ",
-            line,
+            u64::from(line),
             bad_end(cause),
         ),
         EarlyEnd::TooLong => give_all(sink, b"error 2 too-long\n", devices),
         EarlyEnd::Source => give_all(sink, b"error 4 source\n", devices),
-        EarlyEnd::Refused(refusal) => {
-            give_number(sink, devices, b"mount refused ", number_of(refusal), b"\n")
-        }
+        EarlyEnd::Refused(refusal) => print_refusal(refusal, sink, devices),
         EarlyEnd::Device(dev) => give_number(
             sink,
             devices,
             b"error 6 device ",
-            u32::from(dev),
+            u64::from(dev),
             b"\n",
         ),
         EarlyEnd::OutOfMemory => give_all(sink, b"error 7 memory\n", devices),
     }
 }
 
-// The number of a reason why devices aren't mounted.
-fn number_of(refusal: Refusal) -> u32
-    ensures { result ≡ refusal_number refusal }
+// Prints the line of a refusal.
+fn print_refusal<K: Sink<D>, D: Devices>(
+    refusal: Refusal,
+    sink: &mut K,
+    devices: &D,
+) -> Result<(), Failed>
+    ensures ok { K.tells → OnOk result (K.held sink.new ≡ K.held sink.old ++ refusal_line refusal) }
+    ensures failed { K.tells → OnErr result (GivesPrefix (refusal_line refusal) (K.held sink.old)
+        (K.held sink.new)) }
+    ensures cause { CountsFaults result (K.faults sink.old) (K.faults sink.new) }
 {
     match refusal {
-        Refusal::NoSuper => 1,
-        Refusal::Version => 2,
-        Refusal::Mixed => 3,
-        Refusal::BadLayout => 4,
-        Refusal::NoSession => 5,
+        Refusal::NoSuper => give_all(sink, b"mount refused 1\n", devices),
+        Refusal::Version => give_all(sink, b"mount refused 2\n", devices),
+        Refusal::Mixed => give_all(sink, b"mount refused 3\n", devices),
+        Refusal::BadLayout => give_all(sink, b"mount refused 4\n", devices),
+        Refusal::NoEntry => give_all(sink, b"mount refused 5\n", devices),
+        Refusal::MissingEntry(sequence) => {
+            give_number(sink, devices, b"mount refused 6 seq ", sequence, b"\n")
+        }
+        Refusal::BadNode(place) => give_place(sink, devices, b"mount refused 7 at ", place),
+        Refusal::Unsound(check) => give_number(
+            sink,
+            devices,
+            b"mount refused 8 check ",
+            u64::from(check),
+            b"\n",
+        ),
     }
 }
 
@@ -114,7 +136,10 @@ fn bad_end(cause: LineFault) -> &'static [u8]
     ensures { result.now ≡ bad_end cause }
 {
     match cause {
-        LineFault::NotBuilt => b" not-built\n",
+        LineFault::BadVerb => b" bad-verb\n",
+        LineFault::BadArgs => b" bad-args\n",
+        LineFault::BadPath => b" bad-path\n",
+        LineFault::BadClient => b" bad-client\n",
     }
 }
 
@@ -123,7 +148,7 @@ fn give_number<K: Sink<D>, D: Devices>(
     sink: &mut K,
     devices: &D,
     before: &[u8],
-    number: u32,
+    number: u64,
     after: &[u8],
 ) -> Result<(), Failed>
     ensures ok { K.tells → OnOk result (K.held sink.new ≡ K.held
@@ -136,6 +161,24 @@ fn give_number<K: Sink<D>, D: Devices>(
     let mut buffer = Buffer::new();
     give_all(sink, buffer.format(number).as_bytes(), devices)?;
     give_all(sink, after, devices)
+}
+
+// Gives a place behind a text, as the device and the block, and ends the line.
+fn give_place<K: Sink<D>, D: Devices>(
+    sink: &mut K,
+    devices: &D,
+    before: &[u8],
+    place: Place,
+) -> Result<(), Failed>
+    ensures ok { K.tells → OnOk result (K.held sink.new ≡ K.held
+        sink.old ++ (before.now ++ decimal place.dev ++ codes ":" ++ decimal place.block ++ codes "\n")) }
+    ensures failed { K.tells → OnErr result (GivesPrefix
+        (before.now ++ decimal place.dev ++ codes ":" ++ decimal place.block ++ codes "\n")
+        (K.held sink.old) (K.held sink.new)) }
+    ensures cause { CountsFaults result (K.faults sink.old) (K.faults sink.new) }
+{
+    give_number(sink, devices, before, u64::from(place.dev), b":")?;
+    give_number(sink, devices, b"", u64::from(place.block), b"\n")
 }
 
 impl From<TakeFault> for EarlyEnd {
@@ -193,7 +236,12 @@ impl From<MountFault> for EarlyEnd {
             MountFault::Version => EarlyEnd::Refused(Refusal::Version),
             MountFault::Mixed => EarlyEnd::Refused(Refusal::Mixed),
             MountFault::BadLayout => EarlyEnd::Refused(Refusal::BadLayout),
-            MountFault::NoSession => EarlyEnd::Refused(Refusal::NoSession),
+            MountFault::NoEntry => EarlyEnd::Refused(Refusal::NoEntry),
+            MountFault::MissingEntry(sequence) => {
+                EarlyEnd::Refused(Refusal::MissingEntry(sequence))
+            }
+            MountFault::BadNode(place) => EarlyEnd::Refused(Refusal::BadNode(place)),
+            MountFault::Unsound(check) => EarlyEnd::Refused(Refusal::Unsound(check)),
             MountFault::DeviceFault(dev) => EarlyEnd::Device(dev),
             MountFault::NoMemory => EarlyEnd::OutOfMemory,
         }

@@ -1,6 +1,7 @@
 use crate::early_end::EarlyEnd;
-use plain_forest::Trace;
-use session_history::{Acks, Shorts};
+use crate::shorts::Shorts;
+use forest_ops::Trace;
+use run_history::Acks;
 
 /// How a run ended.
 #[derive(Drop)]
@@ -15,6 +16,6 @@ pub struct Ended<D> {
     pub trace: Trace,
     /// The acknowledgements, in order: one for each sync that succeeded.
     pub acks: Acks,
-    /// The answers that there was no space, in order. The log has no free space to count, so the list is empty.
+    /// The answers that there was no space, in order. Free space isn't counted yet, so the list is empty.
     pub shorts: Shorts,
 }

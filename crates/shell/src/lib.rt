@@ -9,10 +9,12 @@ mod page;
 mod phases;
 mod prepare;
 mod run;
+mod shorts;
 mod tally;
 mod task;
 
 pub use early_end::{EarlyEnd, Refusal};
 pub use ended::Ended;
 pub use run::{run_task, run_words};
+pub use shorts::Shorts;
 pub use task::{Task, read_task};

@@ -1,14 +1,14 @@
 ghost use Rattle.std.specs.Prelude.{◌≡◌, ◌<◌, ◌++◌, [], true, false, ℕ, List, length};
 ghost use Rattle.text_io.specs.Streams.{GainsBy};
-ghost use Rattle.script_text.specs.Replies.{reply_line_of, end_line_of};
+ghost use Rattle.script_lines.specs.Replies.{reply_line_of, end_line_of};
 ghost use Rattle.shell.specs.Outcome.{acknowledges};
 ghost use Rattle.shell.specs.Printing.{Prints, has_ended, page_status};
 ghost use Rattle.shell.specs.Phases.{tally_with};
 
 use crate::tally::Tally;
 use dev_model::Devices;
-use plain_forest::Reply;
-use script_text::{end_line, reply_line};
+use forest_ops::Reply;
+use script_lines::{end_line, reply_line};
 use std::alloc::Global;
 use text_io::{Sink, give_all};
 use vol_types::Bytes;
@@ -147,7 +147,7 @@ fn print_line<K: Sink<D>, D: Devices>(
         return;
     }
     let alloc = page.alloc;
-    if reply_line(&mut page.lines, alloc, client, line, reply).is_err() {
+    if reply_line(alloc, &mut page.lines, client, line, reply).is_err() {
         cut(page, sink, devices);
         return;
     }
@@ -194,7 +194,7 @@ pub fn print_end<K: Sink<D>, D: Devices>(page: &mut Page, sink: &mut K, devices:
     }
     let alloc = page.alloc;
     let synced = page.tally.synced;
-    if end_line(&mut page.lines, alloc, commits, synced).is_err() {
+    if end_line(alloc, &mut page.lines, commits, synced).is_err() {
         cut(page, sink, devices);
         return;
     }

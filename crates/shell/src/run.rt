@@ -1,27 +1,13 @@
-ghost use Rattle.std.specs.Prelude.{◌≡◌, ◌+◌, ◌<◌, ◌≤◌, ℕ, [], List, None, Option, Some, length, map, true};
+ghost use Rattle.std.specs.Prelude.{◌≡◌, ◌⊎◌, ℕ, [], List, None, Some, length, map, true};
 ghost use Rattle.std.specs.Rc.{rc_str_bytes};
-ghost use Rattle.dev_model.specs.Disk.{as_read};
-ghost use Rattle.dev_model.specs.Devices.{now};
-ghost use Rattle.dev_model.specs.Frames.{GoOn};
-ghost use Rattle.dev_model.specs.Crashes.{EachCrash, EachCrashNow, IsCrashImageBut};
 ghost use Rattle.vol_types.specs.Layouts.{is_layout};
 ghost use Rattle.geometry.specs.Layouts.{is_layout_of};
-ghost use Rattle.geometry.specs.Sessions.{IsSessionPlace, session_in};
-ghost use Rattle.plain_forest.specs.History.{EachEntry, IsLegal};
-ghost use Rattle.session_history.specs.Acknowledged.{AreAcks};
-ghost use Rattle.session_history.specs.Failures.{Halts, HaveCauses, NoCommitAfterHalt};
-ghost use Rattle.session_history.specs.declared.halt.Halt.{Halt};
-ghost use Rattle.log_records.specs.Found.{mounted_as};
-ghost use Rattle.record_log.specs.Durable.{NamesSession};
-ghost use Rattle.record_log.specs.Exact.{IsExact};
-ghost use Rattle.record_log.specs.Survives.{Survives};
-ghost use Rattle.record_log.specs.Log.{halt_or_none};
+ghost use Rattle.replay.specs.Volumes.{found_in};
 ghost use Rattle.shell.specs.Outcome.{early_line, early_status, formatted_line};
 ghost use Rattle.shell.specs.Tasks.{IsAsked, IsRun, task_of};
-ghost use Rattle.shell.specs.Flat.{AreFlat};
+ghost use Rattle.shell.specs.Lines.{AreRunLines};
 ghost use Rattle.shell.specs.Headline.{Headline};
-ghost use Rattle.shell.specs.Mounts.{ComesAfter, last_session};
-ghost use Rattle.shell.specs.Phases.{EndsEarly, Formats, RunsScript};
+ghost use Rattle.shell.specs.Phases.{EndsEarly, EndsUnopened, Formats, RunsOpened};
 
 use crate::early_end::{EarlyEnd, print_early_end, status_of};
 use crate::ended::Ended;
@@ -29,23 +15,27 @@ use crate::formatting::formatted_line;
 use crate::page::Page;
 use crate::phases::{end_run, run_lines};
 use crate::prepare::{Plan, prepare};
+use crate::shorts::Shorts;
 use crate::task::{Task, read_task};
 use dev_model::{Devices, Gate};
-use log_format::format;
-use plain_forest::Trace;
-use record_log::{Finished, RecordLog, reading_is_survived};
-use session_history::{Acks, Opening, Shorts};
+use forest_ops::Trace;
+use run_history::Acks;
+use run_safety::{fresh_volumes_may_run, runs_are_safe};
+use script_lines::Line;
 use std::alloc::Global;
 use std::marker::Brand;
 use std::rc::RcStr;
 use text_io::{Sink, Source, give_all};
+use vol_core::Opening;
+use vol_format::format;
 use vol_types::{Bytes, Layout};
+use volume::{Finished, VolState};
 
 /// Does what the arguments ask for, on the devices. Every line, error lines too, goes to the sink.
 ///
-/// `run` reads the script, mounts the volume, answers each line, and syncs. `format` makes a new volume of the devices, and
+/// `run` reads the script, opens the volume, answers each line, and syncs. `format` makes a new volume of the devices, and
 /// doesn't touch the source. The status is 0 where all went well, 1 for other arguments, or a layout that no volume may have, 2
-/// for a script with a line that is no operation or of more than 16 MiB, 3 where the volume isn't mounted, 4 where the source
+/// for a script with a line that is no operation or of more than 16 MiB, 3 where no volume is opened, 4 where the source
 /// failed, 5 where the sink failed, 6 where a device failed, and 7 where it was out of memory.
 pub fn run_words<R, S: Source, K: Sink<D>, D: Devices + Send, G: Gate + Sync>(
     rt: &R,
@@ -79,7 +69,7 @@ pub fn run_words<R, S: Source, K: Sink<D>, D: Devices + Send, G: Gate + Sync>(
           shorts = result.shorts;
         }) }
 {
-    reading_is_survived();
+    runs_are_safe();
     match read_task(alloc, words, devices.count()) {
         Ok(task) => run_task(rt, alloc, task, source, sink, devices, gate),
         Err(fault) => end_early(alloc, EarlyEnd::from(fault), sink, devices),
@@ -123,9 +113,9 @@ pub fn run_task<R, S: Source, K: Sink<D>, D: Devices + Send, G: Gate + Sync>(
           shorts = result.shorts;
         }) }
 {
-    reading_is_survived();
+    runs_are_safe();
     match task {
-        Task::Run => run_script::<S, K, D, G, Brand>(alloc, source, sink, devices, gate),
+        Task::Run => run_script(alloc, source, sink, devices, gate),
         Task::Format(layout) => match formatted_line(alloc, &layout) {
             Ok(line) => format_devices(alloc, &layout, &line, sink, devices),
             Err(_) => end_early(alloc, EarlyEnd::OutOfMemory, sink, devices),
@@ -200,6 +190,7 @@ fn format_devices<K: Sink<D>, D: Devices>(
         result.early_end result.trace result.acks }
     ensures shorts { result.shorts ≡ [] }
 {
+    fresh_volumes_may_run();
     let mut devices = devices;
     match format(alloc, &mut devices, layout) {
         Ok(()) => end_formatted(alloc, line, sink, devices),
@@ -207,15 +198,14 @@ fn format_devices<K: Sink<D>, D: Devices>(
     }
 }
 
-// Runs the script of the source. `B` stands for what the devices show when the run begins.
-fn run_script<S: Source, K: Sink<D>, D: Devices, G: Gate, B: Opening>(
+// Runs the script of the source.
+fn run_script<S: Source, K: Sink<D>, D: Devices, G: Gate>(
     alloc: Global,
     source: &mut S,
     sink: &mut K,
     devices: D,
     gate: &G,
 ) -> Ended<D>
-    requires { B.start ≡ D.state devices }
     ensures { (arguments : List (List ℕ)) → IsRun arguments (D.state devices).sizes
         → Headline S.tells K.tells D.tells K.held K.given_at
         (record {
@@ -240,6 +230,7 @@ fn run_script<S: Source, K: Sink<D>, D: Devices, G: Gate, B: Opening>(
           shorts = result.shorts;
         }) }
 {
+    runs_are_safe();
     let mut devices = devices;
     match prepare(alloc, source, &mut devices) {
         Ok(plan) => run_plan::<K, D, G, Brand>(alloc, plan, sink, devices, gate),
@@ -247,7 +238,7 @@ fn run_script<S: Source, K: Sink<D>, D: Devices, G: Gate, B: Opening>(
     }
 }
 
-// Runs each line, and then a sync. What holds of the session holds from the moments on when its volume wasn't loaded yet.
+// Keeps the volume that was opened, and runs the script over it. `O` stands for what was opened, and what the devices show.
 fn run_plan<K: Sink<D>, D: Devices, G: Gate, O: Opening>(
     alloc: Global,
     plan: Plan,
@@ -255,47 +246,49 @@ fn run_plan<K: Sink<D>, D: Devices, G: Gate, O: Opening>(
     devices: D,
     gate: &G,
 ) -> Ended<D>
-    requires opening { plan.loaded.forest ≡ O.forest }
+    requires opening { found_in plan.loaded ≡ O.found }
+    requires start { D.state devices ≡ O.start }
     requires fits { is_layout_of (D.state devices).sizes plan.loaded.layout ≡ true }
-    requires room { plan.loaded.records ≤ plan.loaded.layout.journal }
-    requires unspent { plan.loaded.session < last_session }
-    requires named { D.tells → session_in plan.loaded.layout (as_read (now O.start)) ≡ Some
-        plan.loaded.session }
-    requires numbered { D.tells → EachCrashNow (NamesSession plan.loaded.layout
-        (plan.loaded.session + 1)) (D.state devices) }
-    requires begun { D.tells → EachCrash (λ _ _ image. IsCrashImageBut
-        (IsSessionPlace plan.loaded.layout (plan.loaded.session + 1)) (now O.start) image) O.start
-        (D.state devices) }
-    requires unfailed { (D.state devices).faults.writes ≡ O.start.faults.writes }
-    requires goes_on { GoOn O.start (D.state devices) }
-    requires flat { AreFlat plan.script }
-    ensures legal { IsLegal O.forest result.trace }
-    ensures ran { RunsScript O.forest K.tells D.tells K.held K.given_at K.faults plan.script
-        sink.old sink.new result.status result.trace result.acks (D.state result.devices).moment }
-    ensures halts { (halt : Option Halt) × Halts halt O.start (D.state result.devices) result.trace
-        × EachEntry (IsExact O.forest plan.loaded.records plan.loaded.layout.journal
-        (halt_or_none halt)) result.trace }
-    ensures no_commit { NoCommitAfterHalt O.forest result.trace }
-    ensures faults { HaveCauses O.start.faults (D.state result.devices).faults result.trace }
-    ensures acknowledged { AreAcks O.start.moment (D.state result.devices).moment result.trace
-        result.acks }
-    ensures survives { D.tells → Survives (mounted_as plan.loaded.layout
-        (plan.loaded.records, O.forest)) O.start (D.state result.devices) result.trace result.acks }
-    ensures after { ComesAfter D.tells (D.state devices) (D.state result.devices) }
-    ensures early { result.early_end ≡ None }
+    requires runs { AreRunLines plan.script }
+    ensures ran { RunsOpened D.state D.tells K.tells K.held K.given_at K.faults O.found O.start
+        plan.script sink.old sink.new result.devices result.status result.early_end result.trace
+        result.acks ⊎ EndsUnopened K.tells K.held K.faults devices result.devices sink.old sink.new
+        result.status result.early_end result.trace result.acks }
     ensures shorts { result.shorts ≡ [] }
 {
     let Plan { script, loaded } = plan;
-    let mut log = RecordLog::<D, O>::start(alloc, devices, loaded);
+    match VolState::<D, O>::start(alloc, loaded, devices) {
+        Ok(volume) => run_opened(alloc, volume, script.as_slice(), sink, gate),
+        Err(unopened) => end_early(alloc, EarlyEnd::OutOfMemory, sink, unopened.devices),
+    }
+}
+
+// Runs each line, and then a sync.
+fn run_opened<K: Sink<D>, D: Devices, G: Gate, O: Opening>(
+    alloc: Global,
+    volume: VolState<D, O>,
+    script: &[Line],
+    sink: &mut K,
+    gate: &G,
+) -> Ended<D>
+    requires trace { volume.trace ≡ [] }
+    requires acks { volume.acks ≡ [] }
+    requires runs { AreRunLines script.now }
+    ensures ran { RunsOpened D.state D.tells K.tells K.held K.given_at K.faults O.found O.start
+        script.now sink.old sink.new result.devices result.status result.early_end result.trace
+        result.acks }
+    ensures shorts { result.shorts ≡ [] }
+{
+    let mut volume = volume;
     let mut page = Page::new(alloc);
-    run_lines(&mut log, script.as_slice(), gate, &mut page, sink);
-    let status = end_run(&mut log, &mut page, sink);
+    run_lines(&mut volume, script, gate, &mut page, sink);
+    let status = end_run(&mut volume, &mut page, sink);
     let Finished {
         devices,
         trace,
         acks,
         ..
-    } = log.finish();
+    } = volume.finish();
     Ended {
         status,
         early_end: None,

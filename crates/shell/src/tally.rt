@@ -3,7 +3,7 @@ ghost use Rattle.shell.specs.Outcome.{synced_by};
 ghost use Rattle.shell.specs.Causes.{is_failure, is_no_memory};
 ghost use Rattle.shell.specs.Phases.{tally_with};
 
-use plain_forest::Reply;
+use forest_ops::Reply;
 
 /// What the replies of a run amount to.
 #[derive(Clone, Copy, Debug, PartialEq, Eq)]

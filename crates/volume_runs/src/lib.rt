@@ -7,6 +7,6 @@ mod volumes;
 
 pub use runs::{Ran, has_acks, letters, run, run_over};
 pub use volumes::{
-    ID, ID_TEXT, ONE, ONE_LINE, TWO, TWO_LINE, block_of, copied, do_arguments, fail, one_device,
-    put_block, put_session, put_version, session_on, two_devices, wipe,
+    ID, ID_TEXT, MOUNTING, ONE, ONE_LINE, TWO, TWO_LINE, block_of, copied, do_arguments, fail,
+    one_device, put_block, put_session, put_version, session_on, two_devices, wipe,
 };

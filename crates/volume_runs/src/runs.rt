@@ -1,6 +1,6 @@
 use dev_model::{MemDevices, NoGate};
-use plain_forest::{Cause, Op, Reply, Trace};
-use session_history::Acks;
+use forest_ops::{Cause, Op, Reply, Trace};
+use run_history::Acks;
 use shell::{Ended, run_words};
 use std::alloc::{AllocError, Global};
 use std::rc::RcStr;
@@ -61,9 +61,8 @@ pub fn run_over(
 }
 
 /// The history as two letters for each entry. The first is the operation: `m` makes a file, `l` lists, and `s` syncs. The
-/// second is the reply: `k` for Okay, `e` for a name that exists, `b` for a bad path, `f` for a full log, `d` and `D` for
-/// device 0 and 1 that failed, `h` and `H` for a session that has halted since, and the number of names of a listing or of
-/// commits of a sync.
+/// second is the reply: `k` for Okay, `e` for a name that exists, `b` for a bad path, `d` and `D` for device 0 and 1 that
+/// failed, `h` and `H` for a session that has halted since, and the number of names of a listing or of commits of a sync.
 pub fn letters(alloc: Global, trace: &Trace) -> Result<Bytes, AllocError> {
     let mut letters = Bytes::new(alloc);
     for entry in trace.as_slice() {
@@ -77,6 +76,7 @@ fn letter_of(op: &Op) -> u8 {
         Op::Mkfile { .. } => b'm',
         Op::Ls { .. } => b'l',
         Op::Sync => b's',
+        _ => b'?',
     }
 }
 
@@ -85,7 +85,6 @@ fn letter(reply: &Reply) -> u8 {
         Reply::Okay => b'k',
         Reply::Refused(Cause::Exists) => b'e',
         Reply::Refused(Cause::BadPath) => b'b',
-        Reply::NoSpace(_) => b'f',
         Reply::DeviceFault(0) => b'd',
         Reply::DeviceFault(1) => b'D',
         Reply::Halted { dev: 0, .. } => b'h',

@@ -34,6 +34,11 @@ pub const TWO: &[&str] = &[
 pub const TWO_LINE: &[u8] =
     b"formatted 00000000-0000-4000-8000-000000000001 devices 2 blocks 1024 journal 256\n";
 
+/// How many calls a run on a fresh volume of one device makes before its first line. 2 superblock copies, 2 sessions, 256 blocks of
+/// the journal and 16 of each of nine roots are read; the next session is written and flushed; and the only entry is read once
+/// more, as the journal is mended. On two devices with two replicas of everything it makes twice as many.
+pub const MOUNTING: u64 = 407;
+
 /// Does what the arguments ask for, over a source whose first call fails. So a run that asks the source ends with the status 4.
 pub fn do_arguments(
     alloc: Global,
@@ -168,8 +173,11 @@ pub fn put_version(
     Ok(put_block(devices, dev, block, &bytes))
 }
 
-// Copies what a run reads of a device whose log is empty: its superblocks, its sessions and the first block of its journal
-// area. Whether all was read and written.
+// How many blocks of a device of a fresh volume hold something: its first bucket, its journal area, and a bucket for each of
+// nine roots.
+const USED: u32 = 16 + 256 + 9 * 16;
+
+// Copies what a device of a fresh volume holds. Whether all was read and written.
 fn copy_device(
     alloc: Global,
     from: &mut MemDevices,
@@ -177,7 +185,7 @@ fn copy_device(
     to: &mut MemDevices,
     to_dev: u8,
 ) -> Result<bool, AllocError> {
-    for block in [0, 4, 5, 8, 16] {
+    for block in 0..USED {
         let Some(bytes) = block_of(alloc, from, from_dev, block)? else {
             return Ok(false);
         };

@@ -1,10 +1,13 @@
 use std::alloc::{AllocError, Global};
 use std::test::Fail;
 use text_io::{MemSink, MemSource};
-use volume_runs::{fail, has_acks, one_device, run_over};
+use volume_runs::{MOUNTING, fail, has_acks, one_device, run_over};
+
+// How many calls there are where none fails: before the entry the device is flushed, it is written, and flushed.
+const ALL: u64 = MOUNTING + 3;
 
 // Whether a run that makes a file ends so, over a volume without files: its status, how many entries its history has, how
-// many calls of the device there were, and what the sink holds. No commit is acknowledged but where all ten calls succeed.
+// many calls of the device there were, and what the sink holds. No commit is acknowledged but where all calls succeed.
 fn ends_so(
     alloc: Global,
     failing_takes: &[u64],
@@ -21,7 +24,7 @@ fn ends_so(
     let sink = MemSink::new(alloc, failing_gives)?;
     let ran = run_over(alloc, &["run"], &mut source, sink, devices)?;
     let (status, entries, calls) = expected;
-    let is_acknowledged = calls == 10 && failing_call.is_none();
+    let is_acknowledged = calls == ALL && failing_call.is_none();
     Ok(
         ran.status == status
             && ran.trace.len() == entries
@@ -31,29 +34,51 @@ fn ends_so(
     )
 }
 
-// The run goes on: the volume is mounted, and the record is written and flushed.
+// The run goes on: the volume is mounted, and the entry is written and flushed.
 #[test]
 fn a_sink_that_fails_stops_no_run(rt: HostRuntime) -> Result<(), Fail> {
     let alloc = rt.alloc();
-    assert!(rt; ends_so(alloc, &[], &[0], None, (5, 2, 10), b"")?);
-    assert!(rt; ends_so(alloc, &[], &[1], None, (5, 2, 10), b"@0 1 ok\n")?);
+    assert!(rt; ends_so(alloc, &[], &[0], None, (5, 2, ALL), b"")?);
+    assert!(rt; ends_so(alloc, &[], &[1], None, (5, 2, ALL), b"@0 1 ok\n")?);
     Ok(())
 }
 
-// Calls 0 to 4 read both superblocks, both sessions and the first record, 5 and 6 write the new session and flush it, 7
-// flushes before the record, 8 writes it, and 9 flushes after it.
+// The calls before the first line: superblocks, sessions, the journal from call 4 on, nine roots from call 260 on, the next session, and
+// the entry. All 16 blocks of a root are read before it is judged. Then come the three of the entry.
 #[test]
 fn a_device_that_fails_is_told(rt: HostRuntime) -> Result<(), Fail> {
     let alloc = rt.alloc();
-    for call in 0..7u64 {
-        let expected = (6, 0, call.saturating_add(1));
+    let early = [
+        (0, 1),
+        (1, 2),
+        (2, 3),
+        (3, 4),
+        (4, 5),
+        (100, 101),
+        (259, 260),
+        (260, 276),
+        (275, 276),
+        (276, 292),
+        (403, 404),
+        (404, 405),
+        (405, 406),
+        (406, 407),
+    ];
+    for (call, calls) in early {
         assert!(rt;
-            ends_so(alloc, &[], &[], Some(call), expected, b"error 6 device 0\n")?,
+            ends_so(
+                alloc,
+                &[],
+                &[],
+                Some(call),
+                (6, 0, calls),
+                b"error 6 device 0\n"
+            )?,
             "at {call}"
         );
     }
     let lines = b"@0 1 ok\nend commits 1 synced 0\n".as_slice();
-    for call in 7..10u64 {
+    for call in MOUNTING..ALL {
         let expected = (6, 2, call.saturating_add(1));
         assert!(rt;
             ends_so(alloc, &[], &[], Some(call), expected, lines)?,
@@ -71,7 +96,7 @@ fn of_several_failures_the_sink_gives_the_status(rt: HostRuntime) -> Result<(), 
     assert!(rt; ends_so(alloc, &[1], &[], Some(0), (4, 0, 0), b"error 4 source\n")?);
     assert!(rt; ends_so(alloc, &[0], &[0], None, (5, 0, 0), b"")?);
     assert!(rt; ends_so(alloc, &[], &[0], Some(0), (5, 0, 1), b"")?);
-    assert!(rt; ends_so(alloc, &[], &[0], Some(8), (5, 2, 9), b"")?);
-    assert!(rt; ends_so(alloc, &[], &[1], Some(9), (5, 2, 10), b"@0 1 ok\n")?);
+    assert!(rt; ends_so(alloc, &[], &[0], Some(408), (5, 2, 409), b"")?);
+    assert!(rt; ends_so(alloc, &[], &[1], Some(409), (5, 2, 410), b"@0 1 ok\n")?);
     Ok(())
 }

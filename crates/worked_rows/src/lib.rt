@@ -3,13 +3,13 @@
 #![tactic(auto)]
 
 #[cfg(test)]
+mod entries;
+#[cfg(test)]
 mod failures;
 #[cfg(test)]
 mod first_runs;
 #[cfg(test)]
 mod formats;
-#[cfg(test)]
-mod full_journal;
 #[cfg(test)]
 mod halted;
 #[cfg(test)]

@@ -1,6 +1,6 @@
 use std::alloc::{AllocError, Global};
 use std::test::Fail;
-use volume_runs::{Ran, has_acks, letters, one_device, run};
+use volume_runs::{MOUNTING, Ran, has_acks, letters, one_device, run};
 
 // Whether the run ended so: its status, what it printed, its history as two letters for each entry, the commits of its
 // acknowledgements, and how many calls of the device there were.
@@ -22,9 +22,9 @@ fn has_ended(
     )
 }
 
-// Each sync says how many commits of the run are durable, and costs a write and two flushes for each that wasn't. The next
-// run counts its own commits alone. The first run reads five blocks, and the second two more; each writes its session and
-// flushes it.
+// Each sync says how many commits of the run are durable, and costs the write of an entry and a flush behind it, and the first of a run
+// a flush before it; where all are durable it costs nothing. The next run counts its own commits alone. It needs two entries, and so
+// reads one more of them as it mends the journal.
 #[test]
 fn each_sync_is_acknowledged(rt: HostRuntime) -> Result<(), Fail> {
     let alloc = rt.alloc();
@@ -43,7 +43,7 @@ fn each_sync_is_acknowledged(rt: HostRuntime) -> Result<(), Fail> {
             lines,
             b"s0mks1s1mkl2s2",
             &[0, 1, 1, 2],
-            13
+            MOUNTING + 5
         )?
     );
     let second = run(
@@ -53,6 +53,16 @@ fn each_sync_is_acknowledged(rt: HostRuntime) -> Result<(), Fail> {
     )?;
     let lines =
         b"@0 1 err exists\n@0 2 ok\n@0 3 ok 1\n@0 4 list a b c\nend commits 1 synced 1\n".as_slice();
-    assert!(rt; has_ended(alloc, &second, 0, lines, b"memks1l3s1", &[1, 1], 12)?);
+    assert!(rt;
+        has_ended(
+            alloc,
+            &second,
+            0,
+            lines,
+            b"memks1l3s1",
+            &[1, 1],
+            MOUNTING + 4
+        )?
+    );
     Ok(())
 }

@@ -1,38 +1,53 @@
-use Rattle.std.proofs.Common.{◌≡◌, ◌++◌, sym, subst}
-use Rattle.std.specs.Prelude.{OnOk, OnErr, codes, decimal}
-use Rattle.text_io.specs.Streams.{GivesPrefix}
-use Rattle.shell.specs.Outcome.{early_line}
-use Rattle.shell.specs.declared.early_end.EarlyEnd.TheVariants.{Device}
+use Rattle.std.proofs.Common.{◌≡◌, ◌++◌, ap, ◌∙◌, ℕ, List, sym}
+use Rattle.std.specs.Prelude.{codes, decimal}
+use Rattle.script_lines.specs.declared.reading.LineFault.{LineFault}
+use Rattle.shell.specs.Outcome.{bad_end, early_line}
+use Rattle.shell.specs.declared.early_end.EarlyEnd.{EarlyEnd}
+use Rattle.shell.specs.declared.early_end.EarlyEnd.TheVariants.{BadLine, Device, Source}
+use Rattle.shell.proofs.EarlyEnds.{given_as, prefix_as}
 use Rattle.shell.proofs.early_end.print_early_end.Goals as goal
 
-pub returns-in-Source-clause-ok : goal.returns-in-Source-clause-ok
-returns-in-Source-clause-ok g c tells = subst (λ end. OnOk c.give_all-in-Source.result (g.K.Sink.held c.give_all-in-Source.new.sink ≡ g.K.Sink.held c.args.sink.now ++ early_line end)) (sym c.in-Source.is) (c.give_all-in-Source.ensures.ok tells)
+-- the line of a bad line
+bad_line : (end : EarlyEnd) (line : ℕ) (cause : LineFault) (number : ℕ) (text : List ℕ) → end ≡ BadLine line cause → number ≡ line → text ≡ bad_end cause → codes "error 2 line " ++ decimal number ++ text ≡ early_line end
+bad_line end line cause number text is same ends =
+    ap (λ (n : ℕ). codes "error 2 line " ++ decimal n ++ text) same ∙ ap (λ (list : List ℕ). codes "error 2 line " ++ decimal line ++ list) ends ∙ ap early_line (sym is)
 
-pub returns-in-Source-clause-failed : goal.returns-in-Source-clause-failed
-returns-in-Source-clause-failed g c tells = subst (λ end. OnErr c.give_all-in-Source.result (GivesPrefix (early_line end) (g.K.Sink.held c.args.sink.now) (g.K.Sink.held c.give_all-in-Source.new.sink))) (sym c.in-Source.is) (c.give_all-in-Source.ensures.failed tells)
-
-pub returns-in-Device-clause-ok : goal.returns-in-Device-clause-ok
-returns-in-Device-clause-ok g c tells = subst (λ end. OnOk c.give_number-in-Device.result (g.K.Sink.held c.give_number-in-Device.new.sink ≡ g.K.Sink.held c.args.sink.now ++ early_line end)) (sym c.in-Device.is) (subst (λ n. OnOk c.give_number-in-Device.result (g.K.Sink.held c.give_number-in-Device.new.sink ≡ g.K.Sink.held c.args.sink.now ++ early_line (Device n))) c.from.ensures (c.give_number-in-Device.ensures.ok tells))
-
-pub returns-in-Device-clause-failed : goal.returns-in-Device-clause-failed
-returns-in-Device-clause-failed g c tells = subst (λ end. OnErr c.give_number-in-Device.result (GivesPrefix (early_line end) (g.K.Sink.held c.args.sink.now) (g.K.Sink.held c.give_number-in-Device.new.sink))) (sym c.in-Device.is) (subst (λ n. OnErr c.give_number-in-Device.result (GivesPrefix (early_line (Device n)) (g.K.Sink.held c.args.sink.now) (g.K.Sink.held c.give_number-in-Device.new.sink))) c.from.ensures (c.give_number-in-Device.ensures.failed tells))
+-- the line of a device that failed
+device_line : (end : EarlyEnd) (dev number : ℕ) → end ≡ Device dev → number ≡ dev → codes "error 6 device " ++ decimal number ++ codes "\n" ≡ early_line end
+device_line end dev number is same = ap (λ (n : ℕ). codes "error 6 device " ++ decimal n ++ codes "\n") same ∙ ap early_line (sym is)
 
 pub returns-in-BadLine-clause-ok : goal.returns-in-BadLine-clause-ok
 returns-in-BadLine-clause-ok g c tells =
-    subst (λ end. OnOk c.give_number.result (g.K.Sink.held c.give_number.new.sink ≡ g.K.Sink.held c.args.sink.now ++ early_line end)) (sym c.in-BadLine.is)
-    (subst (λ list. OnOk c.give_number.result (g.K.Sink.held c.give_number.new.sink ≡ g.K.Sink.held c.args.sink.now ++ (codes "error 2 line " ++ decimal c.in-BadLine.line ++ list))) c.bad_end.ensures (c.give_number.ensures.ok tells))
+    let K = g.K.Sink in
+    given_as c.give_number.result (K.held c.args.sink.now) (K.held c.give_number.new.sink) (codes "error 2 line " ++ decimal c.from.result ++ c.bad_end.result.now) (early_line c.args.end)
+    (bad_line c.args.end c.in-BadLine.line c.in-BadLine.cause c.from.result c.bad_end.result.now c.in-BadLine.is c.from.ensures c.bad_end.ensures) (c.give_number.ensures.ok tells)
 
 pub returns-in-BadLine-clause-failed : goal.returns-in-BadLine-clause-failed
 returns-in-BadLine-clause-failed g c tells =
-    subst (λ end. OnErr c.give_number.result (GivesPrefix (early_line end) (g.K.Sink.held c.args.sink.now) (g.K.Sink.held c.give_number.new.sink))) (sym c.in-BadLine.is)
-    (subst (λ list. OnErr c.give_number.result (GivesPrefix (codes "error 2 line " ++ decimal c.in-BadLine.line ++ list) (g.K.Sink.held c.args.sink.now) (g.K.Sink.held c.give_number.new.sink))) c.bad_end.ensures (c.give_number.ensures.failed tells))
+    let K = g.K.Sink in
+    prefix_as c.give_number.result (K.held c.args.sink.now) (K.held c.give_number.new.sink) (codes "error 2 line " ++ decimal c.from.result ++ c.bad_end.result.now) (early_line c.args.end)
+    (bad_line c.args.end c.in-BadLine.line c.in-BadLine.cause c.from.result c.bad_end.result.now c.in-BadLine.is c.from.ensures c.bad_end.ensures) (c.give_number.ensures.failed tells)
 
-pub returns-in-Refused-clause-ok : goal.returns-in-Refused-clause-ok
-returns-in-Refused-clause-ok g c tells =
-    subst (λ end. OnOk c.give_number-in-Refused.result (g.K.Sink.held c.give_number-in-Refused.new.sink ≡ g.K.Sink.held c.args.sink.now ++ early_line end)) (sym c.in-Refused.is)
-    (subst (λ n. OnOk c.give_number-in-Refused.result (g.K.Sink.held c.give_number-in-Refused.new.sink ≡ g.K.Sink.held c.args.sink.now ++ (codes "mount refused " ++ decimal n ++ codes "\n"))) c.number_of.ensures (c.give_number-in-Refused.ensures.ok tells))
+pub returns-in-Source-clause-ok : goal.returns-in-Source-clause-ok
+returns-in-Source-clause-ok g c tells =
+    let K = g.K.Sink in
+    given_as c.give_all-in-Source.result (K.held c.args.sink.now) (K.held c.give_all-in-Source.new.sink) (early_line Source) (early_line c.args.end)
+    (ap early_line (sym c.in-Source.is)) (c.give_all-in-Source.ensures.ok tells)
 
-pub returns-in-Refused-clause-failed : goal.returns-in-Refused-clause-failed
-returns-in-Refused-clause-failed g c tells =
-    subst (λ end. OnErr c.give_number-in-Refused.result (GivesPrefix (early_line end) (g.K.Sink.held c.args.sink.now) (g.K.Sink.held c.give_number-in-Refused.new.sink))) (sym c.in-Refused.is)
-    (subst (λ n. OnErr c.give_number-in-Refused.result (GivesPrefix (codes "mount refused " ++ decimal n ++ codes "\n") (g.K.Sink.held c.args.sink.now) (g.K.Sink.held c.give_number-in-Refused.new.sink))) c.number_of.ensures (c.give_number-in-Refused.ensures.failed tells))
+pub returns-in-Source-clause-failed : goal.returns-in-Source-clause-failed
+returns-in-Source-clause-failed g c tells =
+    let K = g.K.Sink in
+    prefix_as c.give_all-in-Source.result (K.held c.args.sink.now) (K.held c.give_all-in-Source.new.sink) (early_line Source) (early_line c.args.end)
+    (ap early_line (sym c.in-Source.is)) (c.give_all-in-Source.ensures.failed tells)
+
+pub returns-in-Device-clause-ok : goal.returns-in-Device-clause-ok
+returns-in-Device-clause-ok g c tells =
+    let K = g.K.Sink in
+    given_as c.give_number-in-Device.result (K.held c.args.sink.now) (K.held c.give_number-in-Device.new.sink) (codes "error 6 device " ++ decimal c.from-in-Device.result ++ codes "\n") (early_line c.args.end)
+    (device_line c.args.end c.in-Device.dev c.from-in-Device.result c.in-Device.is c.from-in-Device.ensures) (c.give_number-in-Device.ensures.ok tells)
+
+pub returns-in-Device-clause-failed : goal.returns-in-Device-clause-failed
+returns-in-Device-clause-failed g c tells =
+    let K = g.K.Sink in
+    prefix_as c.give_number-in-Device.result (K.held c.args.sink.now) (K.held c.give_number-in-Device.new.sink) (codes "error 6 device " ++ decimal c.from-in-Device.result ++ codes "\n") (early_line c.args.end)
+    (device_line c.args.end c.in-Device.dev c.from-in-Device.result c.in-Device.is c.from-in-Device.ensures) (c.give_number-in-Device.ensures.failed tells)

@@ -1,19 +1,25 @@
-use Rattle.std.proofs.Common.{◌≡◌, ◌+◌, ◌<◌, ◌≤◌, ℕ, Err, length, inr, ap, ◌∙◌, sym, subst}
-use Rattle.std.specs.Prelude.{IfSome}
+use Rattle.std.proofs.Common.{◌+◌, ℕ, Err, inr, refl, ap, ◌∙◌, sym, subst, arith}
+use Rattle.dev_model.specs.Devices.{now}
 use Rattle.dev_model.specs.Disk.{as_read}
-use Rattle.dev_model.specs.Devices.{FaultCounts, now}
-use Rattle.dev_model.specs.Frames.{after_writes}
 use Rattle.dev_model.specs.FrameLaws.{go_on_reading, go_on_then}
-use Rattle.geometry.specs.Faults.{DeviceFailed, SomeFailed}
-use Rattle.geometry.specs.Sessions.{IsSessionPlace}
-use Rattle.log_records.specs.Found.{IsMountAnswer, failed_mount_device}
-use Rattle.record_log.specs.Beginning.{failed_begin_device}
-use Rattle.record_log.specs.declared.beginning.BeginFault.{BeginFault}
-use Rattle.shell.specs.Mounts.{IsMountable, MountCause}
+use Rattle.geometry.specs.LayoutFacts.{has_places}
+use Rattle.image_view.specs.Found.{with_session}
+use Rattle.image_view.specs.declared.fault.MountFault.{MountFault}
+use Rattle.replay.specs.Mending.{IsReady}
+use Rattle.replay.specs.declared.beginning.BeginFault.{BeginFault}
+use Rattle.replay.specs.declared.beginning.BeginFault.TheVariants.{Spent}
+use Rattle.replay.proofs.OpenedVolume.{in_order_now, is_begun, none_before, stay_means, stay_then_means}
 use Rattle.shell.specs.EarlyEnds.{end_of_mount}
+use Rattle.shell.specs.Mounts.{MountCause}
+use Rattle.shell.proofs.LoadedFront.{front_is}
+use Rattle.shell.proofs.Mounting.{begin_ended, found_not, is_opened, load_ended, read_only}
 use Rattle.shell.proofs.Preparing.{handed_on}
-use Rattle.shell.proofs.Mounting.{load_ended, begin_ended, begin_same, beginning_survives, begun_since, is_mountable, mounts_not, read_only, unfailed_then}
 use Rattle.shell.proofs.mounted.mount.Goals as goal
+
+pub returns-in_err-loaded-clause-keeps : goal.returns-in_err-loaded-clause-keeps
+returns-in_err-loaded-clause-keeps g c tells f on =
+    let D = g.D.Devices in
+    stay_means f (D.state c.args.devices.now) (D.state c.load.new.devices) on (c.load.ensures.read.disks tells)
 
 pub returns-in_err-loaded-clause-cause : goal.returns-in_err-loaded-clause-cause
 returns-in_err-loaded-clause-cause g c =
@@ -22,80 +28,89 @@ returns-in_err-loaded-clause-cause g c =
     let new = D.state c.load.new.devices in
     let fault = c.in_err-loaded.field-0.0 in
     handed_on c.from_residual.result (MountCause D.tells old new) (end_of_mount fault) c.from_residual.ensures.1
-    (load_ended D.tells (SomeFailed old.faults new.faults) old new fault
-    (λ told. subst (λ result. IsMountAnswer (SomeFailed old.faults new.faults) (as_read (now old)) result) c.in_err-loaded.was (c.load.ensures.found told))
-    (subst (λ result. IfSome (failed_mount_device result) (λ dev. (dev < length old.sizes) × DeviceFailed dev old.faults new.faults)) c.in_err-loaded.was c.load.ensures.cause)
-    c.load.ensures.read)
+    (load_ended D.tells old new fault c.in_err-loaded.ensures.found
+    (λ told is. c.load.ensures.early told fault c.in_err-loaded.was is)
+    (λ check is. c.load.ensures.untested check (c.in_err-loaded.was ∙ ap (λ (f : MountFault). Err f) is))
+    c.in_err-loaded.ensures.cause c.load.ensures.read)
 
 pub returns-in_err-loaded-clause-goes_on : goal.returns-in_err-loaded-clause-goes_on
 returns-in_err-loaded-clause-goes_on g c =
     let D = g.D.Devices in
     go_on_reading D.tells (D.state c.args.devices.now) (D.state c.load.new.devices) c.load.ensures.read
 
-pub returns-in-Ok-clause-found : goal.returns-in-Ok-clause-found
-returns-in-Ok-clause-found g c tells mirrors =
+pub returns-in-Ok-clause-opened : goal.returns-in-Ok-clause-opened
+returns-in-Ok-clause-opened g c =
     let D = g.D.Devices in
-    c.in_ok-loaded.ensures.found tells (λ failed. mirrors (subst (λ (f : FaultCounts). SomeFailed (D.state c.args.devices.now).faults f) (sym (begin_same c.begin_session.result (D.state c.load.new.devices) (D.state c.begin_session.new.devices) c.in-Ok.is c.begin_session.ensures.cause)) failed))
-
-pub returns-in-Ok-clause-mountable : goal.returns-in-Ok-clause-mountable
-returns-in-Ok-clause-mountable g c tells =
-    is_mountable (as_read (now (g.D.Devices.state c.args.devices.now))) c.in_ok-loaded.loaded.layout c.in_ok-loaded.loaded.session (c.in_ok-loaded.ensures.layout tells) (c.in_ok-loaded.ensures.session tells)
-
-pub returns-in-Ok-clause-begun : goal.returns-in-Ok-clause-begun
-returns-in-Ok-clause-begun g c tells =
-    let D = g.D.Devices in
+    let old = D.state c.args.devices.now in
+    let mid = D.state c.load.new.devices in
+    let new = D.state c.begin_and_mend.new.devices in
     let loaded = c.in_ok-loaded.loaded in
-    begun_since (IsSessionPlace loaded.layout (loaded.session + 1)) (D.state c.args.devices.now) (D.state c.load.new.devices) (D.state c.begin_session.new.devices) (c.load.ensures.read.disks tells) (c.begin_session.ensures.crashes tells)
+    let session = c.in-Ok.session in
+    is_opened D.tells old mid new loaded (record loaded { session = session }) session c.load.ensures.read c.in-Ok.ensures.cause
+    c.in_ok-loaded.ensures.found c.in_ok-loaded.ensures.made_up
+    (λ past. is_begun session Spent (c.in-Ok.ensures.spent.1 past)) c.in-Ok.ensures.next refl
+    (λ tells f on.
+    let order = in_order_now f old mid on (c.load.ensures.read.disks tells) in
+    let front = front_is (as_read (now old)) f on.on.finds loaded.layout loaded.session loaded.needed (c.in_ok-loaded.ensures.front tells) in
+    subst (λ (s : ℕ). IsReady (with_session (s + 1) f) (now new)) (sym front.sessions) (c.in-Ok.ensures.ready tells f order front.layouts front.sessions (front.needs ∙ sym c.as_slice.ensures)))
 
-pub returns-in-Ok-clause-unfailed : goal.returns-in-Ok-clause-unfailed
-returns-in-Ok-clause-unfailed g c =
+pub returns-in-Ok-clause-keeps : goal.returns-in-Ok-clause-keeps
+returns-in-Ok-clause-keeps g c tells f on =
     let D = g.D.Devices in
-    unfailed_then (D.state c.args.devices.now) (D.state c.load.new.devices) (D.state c.begin_session.new.devices) c.load.ensures.read.writes
-    (begin_same c.begin_session.result (D.state c.load.new.devices) (D.state c.begin_session.new.devices) c.in-Ok.is c.begin_session.ensures.cause)
+    let old = D.state c.args.devices.now in
+    let mid = D.state c.load.new.devices in
+    let loaded = c.in_ok-loaded.loaded in
+    let stay = c.load.ensures.read.disks tells in
+    let order = in_order_now f old mid on stay in
+    let front = front_is (as_read (now old)) f on.on.finds loaded.layout loaded.session loaded.needed (c.in_ok-loaded.ensures.front tells) in
+    let needs = front.needs ∙ sym c.as_slice.ensures in
+    stay_then_means f old mid (D.state c.begin_and_mend.new.devices) on stay
+    (c.begin_and_mend.ensures.past tells f order front.layouts front.sessions needs)
+    (c.begin_and_mend.ensures.crashes tells f order front.layouts front.sessions needs)
 
 pub returns-in-Ok-clause-unmounted : goal.returns-in-Ok-clause-unmounted
-returns-in-Ok-clause-unmounted g c tells error =
-    let image = as_read (now (g.D.Devices.state c.args.devices.now)) in
-    let is : IsMountable image c.in_ok-loaded.loaded.layout c.in_ok-loaded.loaded.session = is_mountable image c.in_ok-loaded.loaded.layout c.in_ok-loaded.loaded.session (c.in_ok-loaded.ensures.layout tells) (c.in_ok-loaded.ensures.session tells) in
-    absurd (mounts_not image _ is.volume error)
-
-pub returns-in-Ok-clause-survives : goal.returns-in-Ok-clause-survives
-returns-in-Ok-clause-survives g c tells =
+returns-in-Ok-clause-unmounted g c tells none error =
     let D = g.D.Devices in
-    let loaded = c.in_ok-loaded.loaded in
     let old = D.state c.args.devices.now in
-    let new = D.state c.begin_session.new.devices in
-    beginning_survives c.beginning_is_survived.ensures old new loaded.layout loaded.session (length new.sizes)
-    (is_mountable (as_read (now old)) loaded.layout loaded.session (c.in_ok-loaded.ensures.layout tells) (c.in_ok-loaded.ensures.session tells))
-    (begun_since (IsSessionPlace loaded.layout (loaded.session + 1)) old (D.state c.load.new.devices) new (c.load.ensures.read.disks tells) (c.begin_session.ensures.crashes tells))
-    (g.met.D.Devices.steady tells c.begin_session.new.devices)
+    let mid = D.state c.load.new.devices in
+    let new = D.state c.begin_and_mend.new.devices in
+    absurd (found_not (as_read (now old)) _ (c.in_ok-loaded.ensures.found tells (none_before old.faults mid.faults new.faults c.begin_and_mend.ensures.goes_on.calls none)) error)
 
 pub returns-in-Ok-clause-goes_on : goal.returns-in-Ok-clause-goes_on
 returns-in-Ok-clause-goes_on g c =
     let D = g.D.Devices in
-    go_on_then (D.state c.args.devices.now) (D.state c.load.new.devices) (D.state c.begin_session.new.devices) (go_on_reading D.tells (D.state c.args.devices.now) (D.state c.load.new.devices) c.load.ensures.read) c.begin_session.ensures.goes_on
+    let old = D.state c.args.devices.now in
+    let mid = D.state c.load.new.devices in
+    go_on_then old mid (D.state c.begin_and_mend.new.devices) (go_on_reading D.tells old mid c.load.ensures.read) c.begin_and_mend.ensures.goes_on
+
+pub returns-in-Err-clause-keeps : goal.returns-in-Err-clause-keeps
+returns-in-Err-clause-keeps g c tells f on =
+    let D = g.D.Devices in
+    let old = D.state c.args.devices.now in
+    let mid = D.state c.load.new.devices in
+    let loaded = c.in_ok-loaded.loaded in
+    let stay = c.load.ensures.read.disks tells in
+    let order = in_order_now f old mid on stay in
+    let front = front_is (as_read (now old)) f on.on.finds loaded.layout loaded.session loaded.needed (c.in_ok-loaded.ensures.front tells) in
+    let needs = front.needs ∙ sym c.as_slice.ensures in
+    stay_then_means f old mid (D.state c.begin_and_mend.new.devices) on stay
+    (c.begin_and_mend.ensures.past tells f order front.layouts front.sessions needs)
+    (c.begin_and_mend.ensures.crashes tells f order front.layouts front.sessions needs)
 
 pub returns-in-Err-clause-unmounted : goal.returns-in-Err-clause-unmounted
-returns-in-Err-clause-unmounted g c tells error =
-    let image = as_read (now (g.D.Devices.state c.args.devices.now)) in
-    let is : IsMountable image c.in_ok-loaded.loaded.layout c.in_ok-loaded.loaded.session = is_mountable image c.in_ok-loaded.loaded.layout c.in_ok-loaded.loaded.session (c.in_ok-loaded.ensures.layout tells) (c.in_ok-loaded.ensures.session tells) in
-    absurd (mounts_not image _ is.volume error)
-
-pub returns-in-Err-clause-survives : goal.returns-in-Err-clause-survives
-returns-in-Err-clause-survives g c tells =
+returns-in-Err-clause-unmounted g c tells none error =
     let D = g.D.Devices in
-    let loaded = c.in_ok-loaded.loaded in
     let old = D.state c.args.devices.now in
-    let new = D.state c.begin_session.new.devices in
-    beginning_survives c.beginning_is_survived.ensures old new loaded.layout loaded.session (length new.sizes)
-    (is_mountable (as_read (now old)) loaded.layout loaded.session (c.in_ok-loaded.ensures.layout tells) (c.in_ok-loaded.ensures.session tells))
-    (begun_since (IsSessionPlace loaded.layout (loaded.session + 1)) old (D.state c.load.new.devices) new (c.load.ensures.read.disks tells) (c.begin_session.ensures.crashes tells))
-    (g.met.D.Devices.steady tells c.begin_session.new.devices)
+    let mid = D.state c.load.new.devices in
+    let new = D.state c.begin_and_mend.new.devices in
+    absurd (found_not (as_read (now old)) _ (c.in_ok-loaded.ensures.found tells (none_before old.faults mid.faults new.faults c.begin_and_mend.ensures.goes_on.calls none)) error)
 
 pub returns-in-Err-clause-goes_on : goal.returns-in-Err-clause-goes_on
 returns-in-Err-clause-goes_on g c =
     let D = g.D.Devices in
-    go_on_then (D.state c.args.devices.now) (D.state c.load.new.devices) (D.state c.begin_session.new.devices) (go_on_reading D.tells (D.state c.args.devices.now) (D.state c.load.new.devices) c.load.ensures.read) c.begin_session.ensures.goes_on
+    let old = D.state c.args.devices.now in
+    let mid = D.state c.load.new.devices in
+    go_on_then old mid (D.state c.begin_and_mend.new.devices) (go_on_reading D.tells old mid c.load.ensures.read) c.begin_and_mend.ensures.goes_on
 
 pub returns-in-Err-clause-cause : goal.returns-in-Err-clause-cause
 returns-in-Err-clause-cause g c =
@@ -103,17 +118,14 @@ returns-in-Err-clause-cause g c =
     let loaded = c.in_ok-loaded.loaded in
     let first = c.args.devices.now in
     let mid = c.load.new.devices in
-    let last = c.begin_session.new.devices in
-    let error : c.begin_session.result ≡ Err c.in-Err.fault = c.in-Err.is in
+    let last = c.begin_and_mend.new.devices in
+    let few = (has_places (D.state mid).sizes loaded.layout c.in_ok-loaded.ensures.fits).mirrors_few in
     subst (MountCause D.tells (D.state first) (D.state last)) (sym c.unbegun.ensures)
-    (begin_ended D.tells (D.state first) (D.state mid) (D.state last) c.in-Err.fault
+    (begin_ended D.tells (D.state first) (D.state mid) (D.state last) loaded.layout.metadata_replicas c.in-Err.fault
     (λ none.
-    let spent = error ∙ ap (λ (f : BeginFault). Err f) none in
+    let spent = ap (λ (f : BeginFault). Err f) none in
     record {
-      reason = λ tells. inr (loaded.layout, loaded.session, is_mountable (as_read (now (D.state first))) loaded.layout loaded.session (c.in_ok-loaded.ensures.layout tells) (c.in_ok-loaded.ensures.session tells), c.begin_session.ensures.spent.0 spent);
-      read = read_only D.state D.tells first mid last (c.begin_session.ensures.nothing spent) c.load.ensures.read;
+      reason = λ tells shows. inr (record { layout = loaded.layout; session = loaded.session; needed = loaded.needed; front = c.in_ok-loaded.ensures.front tells; last = c.in-Err.ensures.spent.0 spent });
+      read = read_only D.state D.tells first mid last (c.in-Err.ensures.nothing spent) c.load.ensures.read;
     })
-    (go_on_reading D.tells (D.state first) (D.state mid) c.load.ensures.read) (g.met.D.Devices.counted mid)
-    (subst (λ (n : ℕ). n ≤ 8) (c.count.ensures.count) c.count.ensures.range.1)
-    (c.begin_session.ensures.cause ∙ ap (λ result. after_writes (failed_begin_device result) (D.state mid).faults) error)
-    (subst (λ result. IfSome (failed_begin_device result) (λ dev. dev < length (D.state mid).sizes)) error c.begin_session.ensures.device))
+    c.load.ensures.read.calls c.in-Err.ensures.cause (g.met.D.Devices.counted mid) (omega (arith, few)) c.in-Err.ensures.device)

@@ -1,6 +1,7 @@
+use Rattle.vol_session.specs.Marks.{forest_found}
 use Rattle.std.proofs.Common.{◌≡◌, true, ℕ, ◌++◌, ap, ◌∙◌, sym, subst}
-use Rattle.script_text.specs.Replies.{end_line_of}
-use Rattle.plain_forest.specs.History.{commit_count}
+use Rattle.script_lines.specs.Replies.{end_line_of}
+use Rattle.forest_ops.specs.History.{commit_count}
 use Rattle.shell.specs.declared.tally.Tally.{Tally}
 use Rattle.shell.specs.declared.page.Page.{Page}
 use Rattle.shell.specs.Phases.{EndsPrinting, tally_with, text_with_end}
@@ -14,7 +15,7 @@ use Rattle.shell.proofs.phases.end_run.Goals as goal
 pub returns : goal.returns
 returns g c =
     let K = g.K.Sink in
-    let forest = g.O.Opening.forest in
+    let forest = (forest_found g.O.Opening.found g.O.Opening.start) in
     let page = c.args.page.now in
     let given = c.give_lines.new.page in
     let synced = c.final_sync.new.page in
@@ -22,7 +23,7 @@ returns g c =
     let mid_sink = c.give_lines.new.sink in
     let last_sink = c.print_end.new.sink in
     let sync = c.final_sync.ensures in
-    let trace = c.final_sync.new.log.trace in
+    let trace = c.final_sync.new.volume.trace in
     let tally : synced.tally ≡ tally_with page.tally sync.reply = ap (λ (p : Page). p.tally) sync.noted ∙ ap (λ (t : Tally). tally_with t sync.reply) c.give_lines.ensures.tally in
     let line : end_line_of c.commits.result synced.tally.synced ≡ end_line_of (commit_count forest trace) (tally_with page.tally sync.reply).synced =
     ap (λ n. end_line_of n synced.tally.synced) c.commits.ensures ∙ ap (λ (t : Tally). end_line_of (commit_count forest trace) t.synced) tally in
@@ -39,9 +40,9 @@ returns g c =
       gains = λ told told_too.
           let D = g.D.Devices in
           let first = c.args.sink.now in
-          gains_then K.held K.given_at first mid_sink last_sink (D.state c.args.log.now.devices).moment (D.state c.final_sync.new.log.devices).moment (sync.history.after.later told_too)
-          (same_moment K.held K.given_at first mid_sink c.devices.result.now c.args.log.now.devices D.state c.devices.ensures (c.give_lines.ensures.gains told))
-          (same_moment K.held K.given_at mid_sink last_sink c.devices-2.result.now c.final_sync.new.log.devices D.state c.devices-2.ensures (c.print_end.ensures.gains told));
+          gains_then K.held K.given_at first mid_sink last_sink (D.state c.args.volume.now.core.devices).moment (D.state c.final_sync.new.volume.core.devices).moment sync.history.after.later
+          (same_moment K.held K.given_at first mid_sink c.devices.result.now c.args.volume.now.core.devices D.state c.devices.ensures (c.give_lines.ensures.gains told))
+          (same_moment K.held K.given_at mid_sink last_sink c.devices-2.result.now c.final_sync.new.volume.core.devices D.state c.devices-2.ensures (c.print_end.ensures.gains told));
       ended = λ end.
           let mid_end : has_ended synced ≡ true = ap has_ended sync.noted ∙ c.give_lines.ensures.ended end in
           c.print_end.ensures.same mid_end ∙ c.give_lines.ensures.same end;

@@ -1,6 +1,7 @@
+use Rattle.vol_session.specs.Marks.{forest_found}
 use Rattle.std.proofs.Common.{[], subst}
 use Rattle.std.specs.List.{cons_option}
-use Rattle.plain_forest.specs.declared.operation.Reply.TheVariants.{NoMemory}
+use Rattle.forest_ops.specs.declared.operation.Reply.TheVariants.{NoMemory}
 use Rattle.shell.specs.Outcome.{ack_by}
 use Rattle.shell.specs.Phases.{AddsEntries}
 use Rattle.shell.proofs.Running.{last_is}
@@ -11,7 +12,7 @@ returns-in-Ok g c =
     let D = g.D.Devices in
     record {
       reply = c.in-Ok.reply;
-      history = subst (λ more. AddsEntries D.state D.tells c.args.log.now c.ask.new.log more (cons_option (ack_by (D.state c.ask.new.log.devices).moment c.in-Ok.reply) [])) (last_is c.in-Ok.reply) c.in-Ok.ensures.answered;
+      history = subst (λ more. AddsEntries (forest_found g.O.Opening.found g.O.Opening.start) D.state c.args.volume.now c.ask.new.volume more (cons_option (ack_by (D.state c.ask.new.volume.core.devices).moment c.in-Ok.reply) [])) (last_is c.in-Ok.reply) c.in-Ok.ensures.answered;
       noted = c.note.ensures;
     }
 

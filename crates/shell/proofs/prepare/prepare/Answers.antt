@@ -1,20 +1,21 @@
 use Rattle.std.proofs.Common.{inl, inr, refl}
 use Rattle.dev_model.specs.FrameLaws.{go_on_here, only_read_here, stay_here}
+use Rattle.replay.proofs.OpenedVolume.{stay_means}
 use Rattle.shell.specs.Causes.{EarlyCause, SourceFailed}
+use Rattle.shell.proofs.Mounting.{mount_source}
 use Rattle.shell.proofs.Preparing.{handed_on}
-use Rattle.shell.proofs.EndingEarly.{mount_source}
 use Rattle.shell.proofs.prepare.prepare.Goals as goal
 
+pub returns-in_err-script-clause-keeps : goal.returns-in_err-script-clause-keeps
+returns-in_err-script-clause-keeps g c tells f on =
+    let old = g.D.Devices.state c.args.devices.now in
+    stay_means f old old on (stay_here old)
+
 pub returns-in_err-script-clause-unmounted : goal.returns-in_err-script-clause-unmounted
-returns-in_err-script-clause-unmounted g c tells error = only_read_here g.D.Devices.tells (g.D.Devices.state c.args.devices.now)
+returns-in_err-script-clause-unmounted g c tells none error = only_read_here g.D.Devices.tells (g.D.Devices.state c.args.devices.now)
 
 pub returns-in_err-script-clause-goes_on : goal.returns-in_err-script-clause-goes_on
 returns-in_err-script-clause-goes_on g c = go_on_here (g.D.Devices.state c.args.devices.now)
-
-pub returns-in_err-script-clause-survives : goal.returns-in_err-script-clause-survives
-returns-in_err-script-clause-survives g c tells volume =
-    let old = g.D.Devices.state c.args.devices.now in
-    c.reading_is_survived.ensures volume old old (stay_here old)
 
 pub returns-in_err-script-clause-cause : goal.returns-in_err-script-clause-cause
 returns-in_err-script-clause-cause g c arguments run =

@@ -2,7 +2,7 @@ use Rattle.std.proofs.Common.{◌<◌, length, subst}
 use Rattle.std.specs.Prelude.{IfSome}
 use Rattle.dev_model.specs.Frames.{AreAfterCalls}
 use Rattle.geometry.specs.Faults.{failed_device}
-use Rattle.shell.proofs.Formatted.{format_done, format_failed}
+use Rattle.shell.proofs.Formatted.{format_done, format_failed, holds_fresh}
 use Rattle.shell.proofs.run.format_devices.Goals as goal
 
 pub returns-in-Ok-clause-formats : goal.returns-in-Ok-clause-formats
@@ -11,7 +11,7 @@ returns-in-Ok-clause-formats g c =
     let K = g.K.Sink in
     format_done D.state K.tells D.tells c.args.layout.now c.args.devices c.format.new.devices c.end_formatted.result.devices c.args.line.now
     (K.held c.args.sink.now) (K.held c.end_formatted.new.sink) (K.faults c.args.sink.now) (K.faults c.end_formatted.new.sink) c.end_formatted.result.status c.end_formatted.result.early_end c.end_formatted.result.trace c.end_formatted.result.acks
-    c.requires.line c.format.ensures.moment c.format.ensures.survives c.in-Ok.ensures.done
+    c.requires.line c.format.ensures.moment c.format.ensures.survives (λ told. holds_fresh c.fresh_volumes_may_run.ensures c.args.layout.now (D.state c.format.new.devices) c.requires.layout (c.in-Ok.ensures.done told))
     (subst (λ result. AreAfterCalls (failed_device result) (D.state c.args.devices).faults (D.state c.format.new.devices).faults) c.in-Ok.is c.format.ensures.cause)
     c.end_formatted.ensures.devices c.end_formatted.ensures.early c.end_formatted.ensures.ends
 

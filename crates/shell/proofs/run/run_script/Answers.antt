@@ -1,97 +1,37 @@
-use Rattle.std.proofs.Common.{◌≡◌, ◌+◌, ◌≤◌, [], Some, refl, ap, ◌∙◌, sym, subst}
-use Rattle.dev_model.specs.Disk.{as_read}
-use Rattle.dev_model.specs.Devices.{DevicesState, now}
-use Rattle.dev_model.specs.Crashes.{EachCrash, IsCrashImageBut}
-use Rattle.dev_model.specs.Frames.{GoOn}
-use Rattle.geometry.specs.Sessions.{IsSessionPlace, session_in}
-use Rattle.session_history.specs.Acknowledged.{AreAcks}
-use Rattle.session_history.specs.Failures.{Halts, HaveCauses}
-use Rattle.log_records.specs.Found.{Mounted, volume_of}
-use Rattle.record_log.specs.Survives.{Survives}
-use Rattle.record_log.specs.Log.{halt_or_none}
-use Rattle.shell.specs.Outcome.{Ran}
+use Rattle.std.proofs.Common.{◌≤◌, ⊎_elim, [], sym, subst}
+use Rattle.replay.specs.Volumes.{found_in}
+use Rattle.run_safety.specs.Runs.{RunSurvives}
 use Rattle.shell.specs.Causes.{EarlyCause}
 use Rattle.shell.specs.Mounts.{OnlyReadUnmounted}
+use Rattle.shell.specs.Phases.{EndsUnopened, RunsOpened}
 use Rattle.shell.specs.Runs.{Run}
-use Rattle.shell.proofs.Fitting.{run_fits}
-use Rattle.shell.proofs.Mounting.{session_survives}
 use Rattle.shell.proofs.EndingEarly.{ended_early}
+use Rattle.shell.proofs.OpenedRuns.{ended_unopened, ran_opened}
 use Rattle.shell.proofs.run.run_script.Goals as goal
-
-pub run_plan-requires-clause-named : goal.run_plan-requires-clause-named
-run_plan-requires-clause-named g c told =
-    subst (λ (s : DevicesState). session_in c.in-Ok.plan.loaded.layout (as_read (now s)) ≡ Some c.in-Ok.plan.loaded.session) (sym c.requires) (c.in-Ok.ensures.mountable told).named
-
-pub run_plan-requires-clause-begun : goal.run_plan-requires-clause-begun
-run_plan-requires-clause-begun g c told =
-    let loaded = c.in-Ok.plan.loaded in
-    subst (λ (s : DevicesState). EachCrash (λ _ _ image. IsCrashImageBut (IsSessionPlace loaded.layout (loaded.session + 1)) (now s) image) s (g.D.Devices.state c.prepare.new.devices)) (sym c.requires) (c.in-Ok.ensures.begun told)
-
-pub run_plan-requires-clause-goes_on : goal.run_plan-requires-clause-goes_on
-run_plan-requires-clause-goes_on g c =
-    subst (λ (s : DevicesState). GoOn s (g.D.Devices.state c.prepare.new.devices)) (sym c.requires) c.prepare.ensures.goes_on
-
-pub run_plan-requires-clause-unfailed : goal.run_plan-requires-clause-unfailed
-run_plan-requires-clause-unfailed g c =
-    c.in-Ok.ensures.unfailed ∙ sym (ap (λ (s : DevicesState). s.faults.writes) c.requires)
 
 pub returns-in-Ok : goal.returns-in-Ok
 returns-in-Ok g c arguments run =
     let D = g.D.Devices in
+    let S = g.S.Source in
+    let K = g.K.Sink in
     let plan = c.in-Ok.plan in
-    let opening : Mounted = volume_of plan.loaded in
-    let ran = c.run_plan.ensures.ran in
-    let trace = c.run_plan.result.trace in
-    let acks = c.run_plan.result.acks in
     let first = c.args.devices in
     let mid = c.prepare.new.devices in
-    let last = c.run_plan.result.devices in
-    let old = D.state first in
-    let new = D.state last in
-    let halts = c.run_plan.ensures.halts in
-    record {
-      opening = opening;
-      mounted = D.state mid;
-      outcome = Ran plan.script ran.answered ran.last;
-      means = record {
-        session = plan.loaded.session;
-        between = record {
-          before = c.prepare.ensures.goes_on;
-          unfailed = c.in-Ok.ensures.unfailed;
-          begun = c.in-Ok.ensures.begun;
-          after = c.run_plan.ensures.after;
-        };
-        means = c.in-Ok.ensures.found;
-      };
-      legal = c.run_plan.ensures.legal;
-      told = record {
-        reads = c.in-Ok.ensures.gave;
-        lines = ran.lines;
-        entries = ran.entries;
-        fits = run_fits opening.forest plan.loaded.records plan.loaded.layout.journal (halt_or_none halts.0) ran.answered ran.last trace ran.entries halts.2;
-        acknowledged = ran.acknowledged;
-        made = ran.made;
-        prefix = ran.prefix;
-        whole = ran.whole;
-      };
-      survives = λ told.
-          session_survives old new plan.loaded.layout plan.loaded.session opening trace acks (c.in-Ok.ensures.mountable told) refl (λ agree. c.in-Ok.ensures.found told (λ failed. agree))
-          (subst (λ (s : DevicesState). Survives opening s new trace acks) c.requires (c.run_plan.ensures.survives told));
-      acknowledged = subst (λ (s : DevicesState). AreAcks s.moment new.moment trace acks) c.requires c.run_plan.ensures.acknowledged;
-      caused = record {
-        arguments = run;
-        source = c.in-Ok.ensures.still;
-        unspent = λ told. (plan.loaded.session, c.in-Ok.ensures.mountable told, c.in-Ok.ensures.unspent);
-        ends = record { failed = ran.failed; printed = ran.printed; otherwise = ran.otherwise };
-        halt = halts.0;
-        halts = subst (λ (s : DevicesState). Halts halts.0 s new trace) c.requires halts.1;
-        no_commit = c.run_plan.ensures.no_commit;
-        faults = subst (λ (s : DevicesState). HaveCauses s.faults new.faults trace) c.requires c.run_plan.ensures.faults;
-        exact = halts.2;
-      };
-      early = c.run_plan.ensures.early;
-      shorts = c.run_plan.ensures.shorts;
-    }
+    let sink = c.args.sink.now in
+    let sink_after = c.run_plan.new.sink in
+    let ended = c.run_plan.result in
+    let left = S.left c.args.source.now in
+    let failed = S.faults c.args.source.now in
+    let failed_after = S.faults c.prepare.new.source in
+    ⊎_elim
+    (λ (ran : RunsOpened D.state D.tells K.tells K.held K.given_at K.faults (found_in plan.loaded) (D.state mid) plan.script sink sink_after ended.devices ended.status ended.early_end ended.trace ended.acks).
+    ran_opened S.tells K.tells D.tells D.state K.held K.given_at K.faults arguments left failed failed_after sink sink_after first ended.devices ended.status ended.early_end ended.trace ended.acks ended.shorts
+    (found_in plan.loaded) (D.state mid) plan.script c.runs_are_safe.ensures.begins c.runs_are_safe.ensures.session (λ told. g.met.D.Devices.sound told mid)
+    c.in-Ok.ensures.opened c.prepare.ensures.keeps c.prepare.ensures.goes_on c.in-Ok.ensures.gave c.in-Ok.ensures.still run ran c.run_plan.ensures.shorts)
+    (λ (unopened : EndsUnopened K.tells K.held K.faults mid ended.devices sink sink_after ended.status ended.early_end ended.trace ended.acks).
+    ended_unopened S.tells K.tells D.tells D.state K.held K.given_at K.faults arguments left failed failed_after sink sink_after first ended.devices ended.status ended.early_end ended.trace ended.acks ended.shorts
+    mid plan.script c.runs_are_safe.ensures.opening c.prepare.ensures.keeps c.prepare.ensures.goes_on c.prepare.ensures.unmounted c.in-Ok.ensures.gave c.in-Ok.ensures.still run unopened c.run_plan.ensures.shorts)
+    c.run_plan.ensures.ran
 
 pub returns-in-Err : goal.returns-in-Err
 returns-in-Err g c arguments run =
@@ -125,6 +65,6 @@ returns-in-Err g c arguments run =
     (subst (λ d. EarlyCause S.tells D.tells arguments left old (D.state d) first d end) (sym early.devices) (c.in-Err.ensures.cause arguments run))
     c.in-Err.ensures.source
     (subst (λ d. OnlyReadUnmounted D.tells old (D.state d)) (sym early.devices) c.prepare.ensures.unmounted)
-    (λ told volume. subst (λ d. Survives volume old (D.state d) [] []) (sym early.devices) (c.prepare.ensures.survives told volume))
+    (λ told f may. subst (λ d. RunSurvives f old (D.state d) [] []) (sym early.devices) (c.runs_are_safe.ensures.opening f old (D.state mid) may (c.prepare.ensures.keeps told f may.on)))
     (subst (λ d. old.moment ≤ (D.state d).moment) (sym early.devices) c.prepare.ensures.goes_on.later)
     early.early early.shorts

@@ -1,5 +1,6 @@
+use Rattle.replay.specs.Volumes.{found_in}
 use Rattle.shell.proofs.run.run_script.Given as goal
 
--- the session opens the forest that was loaded, and what holds of it holds from the moments on at which the run began
+-- the session is over the volume that was loaded, and begins with what the devices show then
 abbrev pub ghosts-run_plan : goal.ghosts-run_plan
-ghosts-run_plan g a = record { forest = a.plan.loaded.forest; start = g.B.Opening.start }
+ghosts-run_plan g a = record { found = found_in a.plan.loaded; start = g.D.Devices.state a.devices }

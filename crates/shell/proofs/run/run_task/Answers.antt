@@ -1,15 +1,15 @@
-use Rattle.std.proofs.Common.{◌≡◌, ◌≤◌, inl, [], Some, None, refl, ap, ◌∙◌, sym, subst, arith}
+use Rattle.std.proofs.Common.{◌≤◌, inl, [], Some, refl, ap, ◌∙◌, sym, subst, arith}
 use Rattle.std.specs.Prelude.{length}
-use Rattle.dev_model.specs.FrameLaws.{only_read_here, stay_here}
-use Rattle.record_log.specs.Survives.{Survives}
+use Rattle.dev_model.specs.FrameLaws.{only_read_here}
+use Rattle.run_safety.specs.Runs.{RunSurvives}
 use Rattle.shell.specs.declared.early_end.EarlyEnd.TheVariants.{OutOfMemory}
 use Rattle.shell.specs.declared.task.Task.{Task}
-use Rattle.shell.specs.declared.task.Task.TheVariants.{Run as ToRun, Format as ToFormat}
-use Rattle.shell.specs.Tasks.{IsFormat, task_of}
+use Rattle.shell.specs.Tasks.{IsFormat}
 use Rattle.shell.specs.Mounts.{OnlyReadUnmounted}
 use Rattle.shell.specs.Runs.{Run}
 use Rattle.shell.proofs.Asking.{Fits, format_fits}
 use Rattle.shell.proofs.EndingEarly.{ended_early, formatted}
+use Rattle.shell.proofs.Sessions.{untouched_survives}
 use Rattle.shell.proofs.run.run_task.Goals as goal
 
 pub returns-in-Run : goal.returns-in-Run
@@ -87,7 +87,7 @@ returns g c arguments asked =
     } in
     ended_early S.tells K.tells D.tells K.held K.given_at all OutOfMemory early.ends
     (inl (record { cause = inl tt; untouched = early.devices })) refl
-    (subst (λ d. OnlyReadUnmounted D.tells old (D.state d)) (sym early.devices) (λ told error. only_read_here D.tells old))
-    (λ told volume. subst (λ d. Survives volume old (D.state d) [] []) (sym early.devices) (c.reading_is_survived.ensures volume old old (stay_here old)))
+    (subst (λ d. OnlyReadUnmounted D.tells old (D.state d)) (sym early.devices) (λ told unfailed error. only_read_here D.tells old))
+    (λ told f may. subst (λ d. RunSurvives f old (D.state d) [] []) (sym early.devices) (untouched_survives c.runs_are_safe.ensures.opening f old may))
     (subst (λ d. old.moment ≤ (D.state d).moment) (sym early.devices) (omega arith))
     early.early early.shorts

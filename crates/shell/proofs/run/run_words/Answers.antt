@@ -1,12 +1,13 @@
-use Rattle.std.proofs.Common.{◌≡◌, ◌≤◌, inl, [], Some, None, Global, map, refl, ◌∙◌, sym, subst, arith}
+use Rattle.std.proofs.Common.{◌≡◌, ◌≤◌, inl, [], Some, None, Global, map, sym, subst, arith}
 use Rattle.std.specs.Rc.{rc_str_bytes}
-use Rattle.dev_model.specs.FrameLaws.{only_read_here, stay_here}
-use Rattle.record_log.specs.Survives.{Survives}
+use Rattle.dev_model.specs.FrameLaws.{only_read_here}
+use Rattle.run_safety.specs.Runs.{RunSurvives}
 use Rattle.shell.specs.Tasks.{IsAsked, task_of}
 use Rattle.shell.specs.Causes.{ArgumentsCause, SourceFailed}
 use Rattle.shell.specs.Mounts.{OnlyReadUnmounted}
 use Rattle.shell.specs.Runs.{Run}
 use Rattle.shell.proofs.EndingEarly.{arguments_cause, arguments_source, ended_early}
+use Rattle.shell.proofs.Sessions.{untouched_survives}
 use Rattle.shell.proofs.run.run_words.Goals as goal
 
 pub run_task-requires-after_bounds : goal.run_task-requires-after_bounds
@@ -53,7 +54,7 @@ returns-in-Err g c =
       untouched = early.devices;
     }))
     (subst (λ end. SourceFailed end (S.faults c.args.source.now) (S.faults c.args.source.now)) (sym c.from.ensures) (arguments_source c.in-Err.fault (S.faults c.args.source.now)))
-    (subst (λ d. OnlyReadUnmounted D.tells old (D.state d)) (sym early.devices) (λ told error. only_read_here D.tells old))
-    (λ told volume. subst (λ d. Survives volume old (D.state d) [] []) (sym early.devices) (c.reading_is_survived.ensures volume old old (stay_here old)))
+    (subst (λ d. OnlyReadUnmounted D.tells old (D.state d)) (sym early.devices) (λ told unfailed error. only_read_here D.tells old))
+    (λ told f may. subst (λ d. RunSurvives f old (D.state d) [] []) (sym early.devices) (untouched_survives c.runs_are_safe.ensures.opening f old may))
     (subst (λ d. old.moment ≤ (D.state d).moment) (sym early.devices) (omega arith))
     early.early early.shorts

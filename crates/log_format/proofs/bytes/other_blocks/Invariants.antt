@@ -1,9 +1,0 @@
-use Rattle.std.proofs.Common.{◌≡◌, ◌<◌, ◌-◌, ℕ, length}
-use Rattle.std.specs.Prelude.{slice_index}
-use Rattle.log_format.proofs.bytes.other_blocks.Given as goal
-
-abbrev pub invariant-loop-dev : goal.invariant-loop-dev
-invariant-loop-dev l = record {
-  count : length l.others.items ≡ l.dev;
-  others : (dev : ℕ) → dev < l.dev → slice_index l.others.items dev ≡ 8 - slice_index l.spares dev;
-}
