@@ -18,6 +18,3 @@ pub use laws::{births_differ, exchanges_are_kept, indexes_are_kept};
 pub use making::IndexFault;
 pub use name::{Exchange, Named, NodeName};
 pub use nodes::IndexedNodes;
-
-#[cfg(test)]
-mod tests;

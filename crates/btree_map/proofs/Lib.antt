@@ -6,4 +6,3 @@ mod Meeting
 mod Planning
 mod Bearing
 mod Choosing
-mod Unused

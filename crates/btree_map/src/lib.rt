@@ -18,8 +18,3 @@ pub use laws::btrees_hold_a_key_map;
 pub use map::KeyMap;
 pub use parts::NotAKeyMap;
 pub use sizes::NodeSize;
-
-#[cfg(test)]
-mod exchange_tests;
-#[cfg(test)]
-mod tests;

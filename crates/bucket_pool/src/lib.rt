@@ -20,6 +20,3 @@ pub use laws::{
     buckets_stay, nodes_keep_their_buckets, reservations_are_whole, reserved_blocks_are_unused,
 };
 pub use pool::Pool;
-
-#[cfg(test)]
-mod tests;

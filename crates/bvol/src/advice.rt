@@ -119,6 +119,7 @@ fn odd_argument(arguments: &[RcStr]) -> (Option<&str>, &'static str) {
     match command.as_str() {
         "format" => (odd_option(arguments), "bvol help format"),
         "run" => (arguments.get(1).map(|odd| odd.as_str()), "bvol help run"),
+        "info" => (arguments.get(1).map(|odd| odd.as_str()), "bvol help info"),
         odd => (Some(odd), "bvol --help"),
     }
 }

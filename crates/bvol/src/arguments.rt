@@ -3,7 +3,7 @@ ghost use Rattle.std.specs.Rc.{rc_str_bytes};
 ghost use Rattle.bvol.specs.Arguments.{is_dashes, first_dashes, words_and_files};
 
 use crate::devices::MOST_DEVICES;
-use crate::help::{FORMAT_HELP, HELP, RUN_HELP, VERSION};
+use crate::help::{FORMAT_HELP, HELP, INFO_HELP, RUN_HELP, VERSION};
 use std::rc::RcStr;
 
 /// The text that the arguments ask for, where they ask for help or for the version.
@@ -27,6 +27,7 @@ fn help_of(command: &RcStr) -> Option<&'static str> {
     match command.as_str() {
         "format" => Some(FORMAT_HELP),
         "run" => Some(RUN_HELP),
+        "info" => Some(INFO_HELP),
         _ => None,
     }
 }

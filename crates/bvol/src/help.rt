@@ -8,8 +8,10 @@ bvol keeps files in a copy-on-write volume over one to eight image files.
 usage:
   bvol format OPTIONS -- IMAGE..   make a new volume of the IMAGEs
   bvol run -- IMAGE.. < SCRIPT     run a script on the volume in the IMAGEs
+  bvol info -- IMAGE..             say what the IMAGEs hold, without a write
   bvol help format                 the options, and the statuses
   bvol help run                    the script, its replies and the statuses
+  bvol help info                   the lines, and the statuses
   bvol help, bvol --help, bvol -h  this text; also after a command
   bvol --version                   the program's version
 
@@ -69,6 +71,65 @@ example:
     --meta-replicas 2 -- a.img b.img
 prints
   formatted 00000000-0000-4000-8000-000000000001 devices 2 blocks 1024 journal 256
+";
+
+/// What `bvol help info` prints.
+pub const INFO_HELP: &str = "\
+bvol info -- IMAGE..
+
+Says what the volume in the IMAGEs holds, and writes nothing. `info` has no
+options, and reads no input. The IMAGEs are all files that `bvol format` made the
+volume of, in the same order. They are read whole as far as the volume uses them:
+what `bvol run` refuses, `info` refuses too.
+
+prints
+  volume U devices D blocks N journal J data-replicas R meta-replicas M
+                     as `bvol format` made it
+  session S commits C sequence Q
+                     S: the last run that opened it (1: `format` alone); C commits
+                     since it was made; Q: the newest entry of its journal
+  journal from O entries E blocks B
+                     entries O to Q are needed, E of them; they take B blocks
+                     of the J
+  btree NAME level L nodes N keys K
+                     for each of nine btrees: its root is of level L (0: it is one
+                     leaf); K counts the keys that the journal alone has yet
+  device D buckets B free F used U
+                     for each file, from 0: of its B buckets of 16 blocks F are
+                     free, and in U a btree node or blocks of files lie; the
+                     others have the superblocks and the journal, or are retired
+  end                all was said
+
+exit status:
+  0  it was
+  1  error 1 usage: other arguments than `info -- IMAGE..`
+  3  mount refused ..: no volume is found; `bvol help run` has the reasons
+  5  standard output couldn't be written
+  6  error 6 device D: file D, from 0, isn't there, is in use, or can't be read
+  7  error 7 memory: out of memory
+
+example:
+  touch a.img b.img
+  bvol format --id 00000000-0000-4000-8000-000000000001 --blocks 1024 \\
+    --meta-replicas 2 -- a.img b.img
+  bvol info -- a.img b.img
+prints
+  formatted 00000000-0000-4000-8000-000000000001 devices 2 blocks 1024 journal 256
+  volume 00000000-0000-4000-8000-000000000001 devices 2 blocks 1024 journal 256 data-replicas 1 meta-replicas 2
+  session 1 commits 0 sequence 1
+  journal from 1 entries 1 blocks 1
+  btree extents level 0 nodes 1 keys 0
+  btree inodes level 0 nodes 1 keys 1
+  btree dirents level 0 nodes 1 keys 0
+  btree subvols level 0 nodes 1 keys 1
+  btree snapshots level 0 nodes 1 keys 1
+  btree alloc level 0 nodes 1 keys 0
+  btree backptrs level 0 nodes 1 keys 0
+  btree deleted level 0 nodes 1 keys 0
+  btree counters level 0 nodes 1 keys 17
+  device 0 buckets 64 free 38 used 9
+  device 1 buckets 64 free 38 used 9
+  end
 ";
 
 /// What `bvol help run` prints.

@@ -6,7 +6,7 @@ use Rattle.command_words.specs.Numbers.{number}
 use Rattle.command_words.specs.Options.{Text, options_of, value_of}
 use Rattle.command_words.specs.declared.request.FormatRequest.{FormatRequest}
 use Rattle.command_words.specs.declared.request.Request.{Request}
-use Rattle.command_words.specs.declared.request.Request.TheVariants.{Run, Format}
+use Rattle.command_words.specs.declared.request.Request.TheVariants.{Run, Format, Info}
 
 -- the number of a text, or this one where there is no text
 abbrev pub number_or : ℕ → Option Text → Option ℕ
@@ -31,15 +31,16 @@ format_with value =
 abbrev pub format_of : List Text → Option FormatRequest
 format_of words = option_and_then (λ given. format_with (λ name. value_of name given)) (options_of words)
 
--- what the arguments after `run` ask for: there are none
-abbrev pub run_of : List Text → Option Request
-run_of [] = Some Run
-run_of (word ∷ words) = None
+-- what the arguments after a command ask for that has no options: what it does, where there are none
+abbrev pub without_options : Request → List Text → Option Request
+without_options request [] = Some request
+without_options request (word ∷ words) = None
 
 -- what the arguments ask for, by the first of them
 abbrev pub request_of : List Text → Option Request
 request_of [] = None
 request_of (command ∷ words) =
-    if bytes_eq command (codes "run") then run_of words
+    if bytes_eq command (codes "run") then without_options Run words
+    else if bytes_eq command (codes "info") then without_options Info words
     else if bytes_eq command (codes "format") then option_map Format (format_of words)
     else None

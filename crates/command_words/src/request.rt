@@ -1,6 +1,6 @@
 ghost use Rattle.std.specs.Prelude.{◌≡◌, IfErr, IfOk, Some, None, map};
 ghost use Rattle.std.specs.Rc.{rc_str_bytes};
-ghost use Rattle.command_words.specs.Requests.{request_of, run_of};
+ghost use Rattle.command_words.specs.Requests.{request_of, without_options};
 
 use crate::format::read_format;
 use std::alloc::{AllocError, Global};
@@ -14,6 +14,9 @@ pub enum Request {
 
     /// To make a new volume.
     Format(FormatRequest),
+
+    /// To say what the images hold.
+    Info,
 }
 
 /// A new volume, as it is asked for. No number is judged against the devices.
@@ -63,23 +66,23 @@ pub fn read_words(alloc: Global, words: &[RcStr]) -> Result<Request, WordsFault>
         → request_of (map rc_str_bytes words.now) ≡ None) }
 {
     let (command, options) = words.split_first().ok_or(WordsFault::Usage)?;
-    if command.as_str() == "run" {
-        read_run(options)
-    } else if command.as_str() == "format" {
-        Ok(Request::Format(read_format(alloc, options)?))
-    } else {
-        Err(WordsFault::Usage)
+    match command.as_str() {
+        "run" => without_options(options, Request::Run),
+        "info" => without_options(options, Request::Info),
+        "format" => Ok(Request::Format(read_format(alloc, options)?)),
+        _ => Err(WordsFault::Usage),
     }
 }
 
-// What the arguments after `run` ask for.
-fn read_run(options: &[RcStr]) -> Result<Request, WordsFault>
-    ensures ok { IfOk result (λ request. run_of (map rc_str_bytes options.now) ≡ Some request) }
+// What the arguments after a command ask for that has no options.
+fn without_options(options: &[RcStr], request: Request) -> Result<Request, WordsFault>
+    ensures ok { IfOk result (λ asked. without_options request (map rc_str_bytes options.now)
+        ≡ Some asked) }
     ensures usage { IfErr result (λ fault. fault ≡ WordsFault.Usage
-        → run_of (map rc_str_bytes options.now) ≡ None) }
+        → without_options request (map rc_str_bytes options.now) ≡ None) }
 {
     if options.is_empty() {
-        Ok(Request::Run)
+        Ok(request)
     } else {
         Err(WordsFault::Usage)
     }

@@ -14,8 +14,3 @@ pub use laws::{
     other_updates_leave_ids,
 };
 pub use splits::{NeedSplit, split_needed};
-
-#[cfg(test)]
-mod dirty_tests;
-#[cfg(test)]
-mod tests;

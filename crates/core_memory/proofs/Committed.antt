@@ -69,6 +69,18 @@ committed-volume updates counted old new is made marked followed pin turn leads 
       lead = subst (λ (keys : KeyMap). LeadTo (changes_in old.writer.flight ++ waiting (joined (changes_of updates (keys_in old.trees)) counted old.queue)) is.durable_keys keys) (sym made.keys) (leads is.durable_keys (keys_in old.trees) is.lead);
     })
 
+-- What a commit makes, part by part.
+pub made-told : (old : Volume) (updates : List Update) (counted : Bool) (trees : Trees) (queue : Queue) (pins marks later : List (ℕ × ℕ)) → keys_in trees ≡ with_updates updates (keys_in old.trees) → trees.nodes ≡ old.trees.nodes
+    → queue ≡ joined (changes_of updates (keys_in old.trees)) counted old.queue
+    → pins ≡ with_pins (entry_of old updates) (changed_nodes old.trees.nodes updates) old.pins → marks ≡ with_pins (entry_of old updates) (paths_of old.trees.nodes updates) old.marks
+    → later ≡ with_pins (entry_of old updates) (changed_nodes old.trees.nodes updates) old.later
+    → IsCommitted updates counted old (record old { trees = trees; queue = queue; pins = pins; marks = marks; later = later; changes = old.changes + 1 })
+made-told old updates counted trees queue pins marks later keys nodes joins pinned marks_are later_is = record {
+  keys = keys;
+  nodes = nodes;
+  rest = λ i. record old { trees = trees; queue = joins i; pins = pinned i; marks = marks_are i; later = later_is i; changes = old.changes + 1 };
+}
+
 module _ (old : Volume) (is : IsVolume old) (updates : List Update) (counted : Bool) (trees : Trees) (queue : Queue) (pins marks later : List (ℕ × ℕ)) where
   -- What a commit makes, part by part, is kept.
   pub made-kept : keys_in trees ≡ with_updates updates (keys_in old.trees) → trees.nodes ≡ old.trees.nodes
@@ -80,12 +92,7 @@ module _ (old : Volume) (is : IsVolume old) (updates : List Update) (counted : B
       → IsVolume (record old { trees = trees; queue = queue; pins = pins; marks = marks; later = later; changes = old.changes + 1 })
   made-kept keys nodes joins pinned marks_are later_is marked followed pin turn leads =
       committed-volume updates counted old (record old { trees = trees; queue = queue; pins = pins; marks = marks; later = later; changes = old.changes + 1 }) is
-      (record {
-        keys = keys;
-        nodes = nodes;
-        rest = λ i. record old { trees = trees; queue = joins i; pins = pinned i; marks = marks_are i; later = later_is i; changes = old.changes + 1 };
-      })
-      marked followed pin turn leads
+      (made-told old updates counted trees queue pins marks later keys nodes joins pinned marks_are later_is) marked followed pin turn leads
 
 -- What an actor has under way that has no transaction goes with any keys.
 free-actor : (volume : Volume) (turn : Option ℕ) (number : ℕ) (actor : Actor) → holds actor ≡ false → IfSome actor.intended (AreIntended volume.layout.metadata_replicas) → IsActor volume turn number actor

@@ -30,6 +30,3 @@ pub use entry_writer::{Durable, Stage};
 pub use event::{Event, Work};
 pub use memory::Memory;
 pub use nodes::node_places;
-
-#[cfg(test)]
-mod tests;

@@ -1,4 +1,5 @@
 ghost use Rattle.std.specs.Prelude.{◌≡◌, ◌<◌, ◌↔◌, IsTrue, None};
+ghost use Rattle.btree_map.specs.Trees.{IsTrees};
 ghost use Rattle.core_memory.specs.Events.{CommitGives, CommitNodesGives, EventGives, Fits, FitsActor, FreezeGives, IsNoted, IsOfMemory, IsTold, IsToldNodes, IsToldOf, MayBegin, SealGives, SettleGives, failed_by};
 ghost use Rattle.core_memory.specs.States.{IsState, actor_count, mine, other_holder, with_halt};
 ghost use Rattle.core_memory.specs.Volumes.{KeepParts};
@@ -40,9 +41,11 @@ impl Memory {
     pub fn see_kept(&self)
         ensures kept { IsState self.now }
         ensures parts { KeepParts self.now.volume }
+        ensures trees { IsTrees self.now.volume.trees }
     {
         let _ = self.volume.commits();
         self.volume.see_parts();
+        self.volume.see_trees();
     }
 
     /// What an actor has under way.

@@ -2,7 +2,7 @@ ghost use Rattle.std.specs.Arc.{arc_value};
 ghost use Rattle.std.specs.List.{list_all};
 ghost use Rattle.std.specs.Option.{option_to_list};
 ghost use Rattle.std.specs.Prelude.{◌≡◌, ◌↔◌, ◌+◌, ◌<◌, ◌^◌, ◌≤◌, All, IfOk, IfSome, IsTrue, length, option_copied};
-ghost use Rattle.btree_map.specs.Trees.{keys_in};
+ghost use Rattle.btree_map.specs.Trees.{IsTrees, keys_in};
 ghost use Rattle.commit_plan.specs.Ids.{id_trees};
 ghost use Rattle.core_memory.specs.Commits.{AreIntended};
 ghost use Rattle.core_memory.specs.Volumes.{KeepParts, are_durable, can_let_go, commits_of, halted_at, has_no_updates, in_flight, is_below, is_exhausted, is_idle, needs_entry, none_waits, stage_of};
@@ -23,7 +23,7 @@ use snap_tree::SnapTree;
 use std::alloc::{AllocError, Global};
 use std::marker::Model;
 use std::sync::Arc;
-use vol_types::{Keys, Layout, Query, Update, layouts_are_tested, wide};
+use vol_types::{Btree, Keys, Layout, Query, Update, layouts_are_tested, wide};
 
 /// What is kept of a volume in memory, but for what actors have under way.
 #[derive(Drop)]
@@ -68,6 +68,13 @@ impl Volume {
         let _ = self.queue.commits();
         let _ = self.nodes.unfinished();
         let _ = self.dirty.pin_of(0);
+    }
+
+    /// Its btrees are such.
+    pub(crate) fn see_trees(&self)
+        ensures { IsTrees self.now.trees }
+    {
+        let _ = self.keys.map().height(Btree::Extents);
     }
 
     /// How many devices the volume has.

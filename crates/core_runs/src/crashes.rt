@@ -1,9 +1,8 @@
 //! Lists of events over devices of which each call fails, alone or with all later ones, and what is found on what a restart leaves.
 
-use crate::images::{Shape, formatted_on, renew};
 use crate::lists::{List, Played, opening_calls, play};
 use crate::model::Failing;
-use crate::remains::{stands_on_each, which};
+use core_fixtures::{Shape, formatted_on, renew, stands_on_each, which};
 use dev_model::{MemDevices, Pick};
 use std::alloc::Global;
 use std::test::Fail;

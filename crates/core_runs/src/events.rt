@@ -4,8 +4,7 @@ ghost use Rattle.std.specs.Prelude.{◌≡◌, true};
 ghost use Rattle.geometry.specs.Layouts.{is_layout_of};
 ghost use Rattle.replay.specs.Volumes.{found_in};
 
-use crate::images::{Shape, formatted_on};
-use crate::moves::{Move, Seen, make, push, step};
+use core_fixtures::{Move, Seen, Shape, formatted_on, make, push, step};
 use dev_model::{Devices, MemDevices};
 use replay::{Loaded, open_volume};
 use std::alloc::{AllocError, Global};
@@ -157,6 +156,23 @@ fn synced<O: Opening>(
 /// Commits, and what the sync does after them.
 type Row = (Commits, Sync);
 
+// The first row that isn't as it should be on an open volume, and what its sync does.
+fn first_other<O: Opening>(
+    alloc: Global,
+    core: &mut Core<MemDevices, O>,
+    rows: &[Row],
+) -> Result<Option<(usize, Option<Sync>)>, AllocError> {
+    let mut at: usize = 0;
+    for (commits, expected) in rows {
+        let done = synced(alloc, core, *commits)?;
+        if done != Some(*expected) {
+            return Ok(Some((at, done)));
+        }
+        at = at.saturating_add(1);
+    }
+    Ok(None)
+}
+
 // The first row that isn't as it should be, on a volume that was opened.
 fn other_row_from<O: Opening>(
     alloc: Global,
@@ -171,15 +187,9 @@ fn other_row_from<O: Opening>(
     let Ok(mut core) = Core::<MemDevices, O>::of(alloc, loaded, devices) else {
         return Err(Fail::from("there is no memory for the volume"));
     };
-    let mut at: usize = 0;
-    for (commits, expected) in rows {
-        let done = synced(alloc, &mut core, *commits)?;
-        if done != Some(*expected) {
-            return Ok(Some((at, done)));
-        }
-        at = at.saturating_add(1);
-    }
-    Ok(None)
+    let other = first_other(alloc, &mut core, rows);
+    core.into_devices();
+    Ok(other?)
 }
 
 // The first row that isn't as it should be on a volume of a shape, and what its sync does.

@@ -5,10 +5,8 @@ ghost use Rattle.std.specs.Prelude.{◌≡◌, true};
 ghost use Rattle.geometry.specs.Layouts.{is_layout_of};
 ghost use Rattle.replay.specs.Volumes.{found_in};
 
-use crate::draws::Draw;
-use crate::images::{Shape, formatted_on};
-use crate::model::{Failing, Model, Version};
-use crate::moves::{Change, Move, make};
+use crate::model::{Failing, Model};
+use core_fixtures::{Change, Draw, Move, Shape, Version, formatted_on, make};
 use dev_model::{Devices, MemDevices};
 use replay::{Loaded, open_volume};
 use std::alloc::{AllocError, Global};
@@ -206,11 +204,13 @@ fn play_from<O: Opening>(
     let Ok(mut core) = Core::<MemDevices, O>::of(alloc, loaded, devices) else {
         return Err(Fail::from("there is no memory for the volume"));
     };
-    if !follows_all(alloc, &mut core, &mut model, list)? {
+    let follows = follows_all(alloc, &mut core, &mut model, list);
+    let devices = core.into_devices();
+    if !follows? {
         return Ok(None);
     }
     Ok(Some(Played {
-        devices: core.into_devices(),
+        devices,
         durable: model.durable(),
         newest: model.newest(),
         calls: model.calls(),

@@ -1,8 +1,9 @@
 //! What a core should answer, by a plain model of it: how many commits there were, with the values that they left; which of them are
 //! in the entry in flight, and which are durable; how far that entry is; and which device calls fail.
 
-use crate::images::Shape;
-use crate::moves::{ACTORS, Change, Move, Seen, Values, count_of, number_of};
+use core_fixtures::{
+    ACTORS, Change, Move, Seen, Shape, Values, Version, changed, count_of, number_of,
+};
 use dev_model::Pick;
 use vol_core::Stage;
 
@@ -13,13 +14,6 @@ pub struct Failing {
     /// Whether all later ones fail too.
     pub stays: bool,
     pub leaves: Pick,
-}
-
-/// How many commits there were, and the values after them.
-#[derive(Clone, Copy, Debug, PartialEq, Eq)]
-pub struct Version {
-    pub commits: u64,
-    pub values: Values,
 }
 
 // What an actor has under way.
@@ -76,21 +70,6 @@ fn bytes_of(change: Change) -> u64 {
     let each = if change.value == 0 { 23 } else { 31 };
     let more = if change.is_wide { 23 } else { 0 };
     count_of(change).wrapping_mul(each).saturating_add(more)
-}
-
-/// The values after a change.
-pub fn changed(values: Values, change: Change) -> Values {
-    let mut values = values;
-    if let Some(value) = values.few.get_mut(usize::from(change.key)) {
-        *value = change.value;
-    }
-    if change.is_long {
-        values.many = change.value;
-    }
-    if change.is_wide {
-        values.gone = change.value != 0;
-    }
-    values
 }
 
 impl Model {

@@ -1,6 +1,6 @@
 //! Where the nodes of a volume lie.
 
-use crate::images::formatted;
+use core_fixtures::formatted;
 use core_memory::node_places;
 use replay::load;
 use std::test::Fail;

@@ -4,7 +4,7 @@ ghost use Rattle.std.specs.Prelude.{◌≡◌, true};
 ghost use Rattle.geometry.specs.Layouts.{is_layout_of};
 ghost use Rattle.replay.specs.Volumes.{found_in};
 
-use crate::images::formatted;
+use core_fixtures::formatted;
 use dev_model::{Devices, MemDevices};
 use replay::{Loaded, load};
 use std::alloc::{AllocError, Global};
@@ -132,6 +132,14 @@ fn commit_there<R: Threads, O: Opening + Send + 'static>(
     }
 }
 
+// What a look of actor 0 at the trees of snapshot ids is answered.
+fn looked<D: Devices, O: Opening>(core: &mut Core<D, O>) -> Option<Answer> {
+    step(core, 0, Event::Begin { first: true });
+    let answer = step(core, 0, Event::LookIds);
+    step(core, 0, Event::Finish);
+    answer
+}
+
 // Whether a thread commits to the volume, and the commit is seen here afterwards. The trees of snapshot ids that were looked at
 // before are shared with the volume meanwhile, and stay as they were.
 fn commits_on_a_thread<R: Threads, O: Opening + Send + 'static>(
@@ -146,20 +154,20 @@ fn commits_on_a_thread<R: Threads, O: Opening + Send + 'static>(
     requires start { ⟦<MemDevices as Devices>⟧.state devices ≡ O.start }
 {
     let updates = update(alloc)?;
-    let Ok(core) = Core::<MemDevices, O>::of(alloc, loaded, devices) else {
+    let Ok(mut core) = Core::<MemDevices, O>::of(alloc, loaded, devices) else {
         return Err(Fail::from("there is no memory"));
     };
-    let mut core = core;
-    step(&mut core, 0, Event::Begin { first: true });
-    let Some(Answer::Ids(ids)) = step(&mut core, 0, Event::LookIds) else {
-        return Ok(false);
-    };
-    step(&mut core, 0, Event::Finish);
+    let looked = looked(&mut core);
     let Returned {
         mut core,
         committed,
     } = commit_there(rt, core, updates)?;
-    Ok(committed && sees_commit(&mut core) && ids.is_empty())
+    let is_seen = sees_commit(&mut core);
+    core.into_devices();
+    match looked {
+        Some(Answer::Ids(ids)) => Ok(committed && is_seen && ids.is_empty()),
+        _ => Ok(false),
+    }
 }
 
 #[test]

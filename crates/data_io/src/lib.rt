@@ -9,6 +9,3 @@ mod writing;
 pub use fault::DataFault;
 pub use reading::get_block;
 pub use writing::put_block;
-
-#[cfg(test)]
-mod tests;

@@ -13,6 +13,3 @@ mod step;
 pub use laws::{directories_take_names, names_are_refused_alike, sound_names_are_refused_alike};
 pub use names::{add, remove};
 pub use step::NameStep;
-
-#[cfg(test)]
-mod tests;

@@ -17,6 +17,3 @@ pub use laws::{
     entries_leave_in_turn, waiting_changes_lead_from_durable_keys,
 };
 pub use queue::EntryQueue;
-
-#[cfg(test)]
-mod tests;

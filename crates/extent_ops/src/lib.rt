@@ -20,10 +20,3 @@ pub use looking::{
     longest_in, longest_with, looked_at_keys_are_content, reach, reached_keys_are_looked_at,
 };
 pub use taking::{overwrite, punch};
-
-#[cfg(test)]
-mod drawn_files;
-#[cfg(test)]
-mod looks;
-#[cfg(test)]
-mod tests;

@@ -33,6 +33,3 @@ pub use overlays::block_after;
 pub use plain_contents::PlainContents;
 pub use runs::write_run;
 pub use sizes::cut_size;
-
-#[cfg(test)]
-mod tests;

@@ -57,7 +57,9 @@ impl Forest {
     fn tree_of(&self, path: &Path) -> Result<&Subvolume, Cause>
         ensures { result_map (λ tree. tree.now) result ≡ tree_of path.now self.now }
     {
-        refuse_if(!path.is_good(), Cause::BadPath)?;
+        if !path.is_good() {
+            return Err(Cause::BadPath);
+        }
         self.tree_named(&path.sub)
     }
 
@@ -65,9 +67,15 @@ impl Forest {
     fn shared_tree(&self, from: &Path, to: &Path) -> Result<&Subvolume, Cause>
         ensures { result_map (λ tree. tree.now) result ≡ shared_tree from.now to.now self.now }
     {
-        refuse_if(!from.is_good(), Cause::BadPath)?;
-        refuse_if(!to.is_good(), Cause::BadPath)?;
-        refuse_if(!is_same_name(&from.sub, &to.sub), Cause::Cross)?;
+        if !from.is_good() {
+            return Err(Cause::BadPath);
+        }
+        if !to.is_good() {
+            return Err(Cause::BadPath);
+        }
+        if !is_same_name(&from.sub, &to.sub) {
+            return Err(Cause::Cross);
+        }
         self.tree_named(&from.sub)
     }
 
@@ -86,7 +94,9 @@ impl Forest {
             ≡ directory_at path.now self.now }
     {
         let inode = self.inode_at(path)?;
-        let names = inode.tree.directory(inode.number).ok_or(Cause::NotDir)?;
+        let Some(names) = inode.tree.directory(inode.number) else {
+            return Err(Cause::NotDir);
+        };
         Ok(FoundDirectory {
             tree: inode.tree,
             number: inode.number,
@@ -100,7 +110,9 @@ impl Forest {
             ≡ file_at path.now self.now }
     {
         let inode = self.inode_at(path)?;
-        let content = inode.tree.file(inode.number).ok_or(Cause::IsDir)?;
+        let Some(content) = inode.tree.file(inode.number) else {
+            return Err(Cause::IsDir);
+        };
         Ok(FoundFile {
             tree: inode.tree,
             number: inode.number,
@@ -114,7 +126,9 @@ impl Forest {
             ≡ open_file path.now self.now }
     {
         let file = self.file_at(path)?;
-        refuse_if(file.tree.is_locked(), Cause::ReadOnly)?;
+        if file.tree.is_locked() {
+            return Err(Cause::ReadOnly);
+        }
         Ok(file)
     }
 
@@ -124,7 +138,9 @@ impl Forest {
             ≡ sized_file path.now size self.now }
     {
         let file = self.open_file(path)?;
-        refuse_if(size > u128::from(MAX_SIZE), Cause::TooBig)?;
+        if size > u128::from(MAX_SIZE) {
+            return Err(Cause::TooBig);
+        }
         Ok(file)
     }
 
@@ -135,10 +151,16 @@ impl Forest {
     {
         let tree = self.tree_of(path)?;
         let directory = tree.walk(path.parents())?;
-        let names = tree.directory(directory).ok_or(Cause::NotDir)?;
-        refuse_if(tree.is_locked(), Cause::ReadOnly)?;
+        let Some(names) = tree.directory(directory) else {
+            return Err(Cause::NotDir);
+        };
+        if tree.is_locked() {
+            return Err(Cause::ReadOnly);
+        }
         let name = new_name(path, names)?;
-        refuse_if(self.is_spent(client), Cause::IdsSpent)?;
+        if self.is_spent(client) {
+            return Err(Cause::IdsSpent);
+        }
         Ok(NamePlace {
             directory,
             name,
@@ -153,12 +175,20 @@ impl Forest {
     {
         let tree = self.shared_tree(from, to)?;
         let number = tree.walk(from.names.as_slice())?;
-        tree.file(number).ok_or(Cause::IsDir)?;
+        if tree.file(number).is_none() {
+            return Err(Cause::IsDir);
+        }
         let directory = tree.walk(to.parents())?;
-        let names = tree.directory(directory).ok_or(Cause::NotDir)?;
-        refuse_if(tree.is_locked(), Cause::ReadOnly)?;
+        let Some(names) = tree.directory(directory) else {
+            return Err(Cause::NotDir);
+        };
+        if tree.is_locked() {
+            return Err(Cause::ReadOnly);
+        }
         let name = new_name(to, names)?;
-        refuse_if(tree.links(number) >= MAX_LINKS, Cause::LinksFull)?;
+        if tree.links(number) >= MAX_LINKS {
+            return Err(Cause::LinksFull);
+        }
         Ok(NamePlace {
             directory,
             name,
@@ -182,7 +212,9 @@ impl Forest {
         let directory = self.directory_at(path)?;
         refuse_if(directory.tree.is_locked(), Cause::ReadOnly)?;
         let place = place_at(path, Cause::Loop, directory.tree, directory.number)?;
-        refuse_if(directory.names.len() != 0, Cause::NotEmpty)?;
+        if directory.names.len() != 0 {
+            return Err(Cause::NotEmpty);
+        }
         Ok(place)
     }
 
@@ -194,8 +226,12 @@ impl Forest {
         let tree = self.shared_tree(from, to)?;
         let number = tree.walk(from.names.as_slice())?;
         let directory = tree.walk(to.parents())?;
-        let names = tree.directory(directory).ok_or(Cause::NotDir)?;
-        refuse_if(tree.is_locked(), Cause::ReadOnly)?;
+        let Some(names) = tree.directory(directory) else {
+            return Err(Cause::NotDir);
+        };
+        if tree.is_locked() {
+            return Err(Cause::ReadOnly);
+        }
         Ok(FoundMove {
             tree,
             number,
@@ -225,8 +261,12 @@ impl Forest {
         requires { slot ≡ slot_of name.now }
         ensures { result ≡ new_subvolume name.now self.now }
     {
-        refuse_if(self.subvolumes.tree(name).is_some(), Cause::Exists)?;
-        refuse_if(self.subvolumes.is_crowded(name, slot), Cause::Crowded)?;
+        if self.subvolumes.tree(name).is_some() {
+            return Err(Cause::Exists);
+        }
+        if self.subvolumes.is_crowded(name, slot) {
+            return Err(Cause::Crowded);
+        }
         refuse_if(self.subvolumes.len() >= MAX_SUBVOLUMES, Cause::TooMany)
     }
 
@@ -237,7 +277,9 @@ impl Forest {
     {
         good_subvolume(name)?;
         self.new_subvolume(name, slot(name.as_slice()))?;
-        refuse_if(self.is_spent(client), Cause::IdsSpent)?;
+        if self.is_spent(client) {
+            return Err(Cause::IdsSpent);
+        }
         refuse_if(self.ids_left < 1, Cause::IdsSpent)
     }
 
@@ -249,7 +291,9 @@ impl Forest {
         good_subvolume(copy)?;
         let tree = self.tree_named(source)?;
         self.new_subvolume(copy, slot(copy.as_slice()))?;
-        refuse_if(self.ids_left < 2, Cause::IdsSpent)?;
+        if self.ids_left < 2 {
+            return Err(Cause::IdsSpent);
+        }
         Ok(tree)
     }
 }
@@ -258,10 +302,16 @@ impl Forest {
 fn new_name<'a>(path: &'a Path, names: &NameTable) -> Result<&'a Bytes, Cause>
     ensures { result_map (λ name. name.now) result ≡ new_name path.now names.now }
 {
-    let name = path.last().ok_or(Cause::Exists)?;
-    refuse_if(names.number(name).is_some(), Cause::Exists)?;
+    let Some(name) = path.last() else {
+        return Err(Cause::Exists);
+    };
+    if names.number(name).is_some() {
+        return Err(Cause::Exists);
+    }
     let slot = slot(name.as_slice());
-    refuse_if(names.is_crowded(name, slot), Cause::Crowded)?;
+    if names.is_crowded(name, slot) {
+        return Err(Cause::Crowded);
+    }
     Ok(name)
 }
 
@@ -274,7 +324,9 @@ fn place_at<'a>(
 ) -> Result<NamePlace<'a>, Cause>
     ensures { result_map place_of result ≡ place_at path.now cause tree.now number }
 {
-    let name = path.last().ok_or(cause)?;
+    let Some(name) = path.last() else {
+        return Err(cause);
+    };
     let directory = tree.walk(path.parents())?;
     Ok(NamePlace {
         directory,
@@ -293,15 +345,20 @@ fn move_places<'a>(
     ensures { result_map (λ places. (place_of places.0, place_of places.1)) result
         ≡ move_places from.now to.now (record { tree = ends.now.tree.now; number = ends.now.number; directory = ends.now.directory; names = ends.now.names.now }) }
 {
-    refuse_if(
-        lies_above(from.names.as_slice(), to.names.as_slice()),
-        Cause::Loop,
-    )?;
+    if lies_above(from.names.as_slice(), to.names.as_slice()) {
+        return Err(Cause::Loop);
+    }
     let old = place_at(from, Cause::Loop, ends.tree, ends.number)?;
-    let name = to.last().ok_or(Cause::Exists)?;
-    refuse_if(ends.names.number(name).is_some(), Cause::Exists)?;
+    let Some(name) = to.last() else {
+        return Err(Cause::Exists);
+    };
+    if ends.names.number(name).is_some() {
+        return Err(Cause::Exists);
+    }
     let slot = slot(name.as_slice());
-    refuse_if(is_crowded_left(&old, ends, name, slot), Cause::Crowded)?;
+    if is_crowded_left(&old, ends, name, slot) {
+        return Err(Cause::Crowded);
+    }
     Ok((
         old,
         NamePlace {

@@ -24,6 +24,3 @@ pub use forest::Forest;
 pub use laws::{entries_are_steps, histories_go_on, only_commits_change_forests};
 pub use operation::{Cause, Class, Entry, Op, Reply, Trace};
 pub use subvolume::Subvolume;
-
-#[cfg(test)]
-mod tests;

@@ -1,8 +1,9 @@
-ghost use Rattle.std.specs.Prelude.{◌≡◌, [], length, None, OnOk, OnErr};
+ghost use Rattle.std.specs.Prelude.{◌≡◌, ℕ, [], length, None, OnOk, OnErr};
 ghost use Rattle.vol_digest.specs.Digests.{slot_of};
 ghost use Rattle.plain_forest.specs.Maps.{name_cmp, value_at, with_value};
 ghost use Rattle.vol_types.specs.Maps.{without};
 ghost use Rattle.forest_ops.specs.Names.{count_in_slot, is_crowded};
+ghost use Rattle.forest_ops.specs.Tallies.{counted};
 
 use crate::tally::Tally;
 use std::alloc::{AllocError, Global};
@@ -111,13 +112,14 @@ impl NameTable {
         ensures ok { OnOk result (self.new ≡ with_value name_cmp name.now number self.old) }
         ensures err { OnErr result (self.new ≡ self.old) }
     {
-        let key = name.copy(alloc)?;
-        self.slots.add(slot)?;
-        if self.numbers.insert(key, number).is_err() {
-            self.slots.take(slot);
-            return Err(AllocError);
-        }
-        Ok(())
+        insert_slotted(
+            alloc,
+            &mut self.numbers,
+            &mut self.slots,
+            name,
+            slot,
+            number,
+        )
     }
 
     /// Takes a name of this slot away, and says where it led.
@@ -148,4 +150,30 @@ impl Duplicate for NameTable {
             slots: self.slots.copy(alloc)?,
         })
     }
+}
+
+/// Adds a value under a new name of this slot to a map, and counts the slot once more. An `Err` changes neither the map
+/// nor what was counted.
+pub fn insert_slotted<V: Drop>(
+    alloc: Global,
+    values: &mut BTreeMap<Bytes, V>,
+    slots: &mut Tally,
+    name: &Bytes,
+    slot: u64,
+    value: V,
+) -> Result<(), AllocError>
+    requires slot { slot ≡ slot_of name.now }
+    requires new { value_at name_cmp name.now values.old.entries ≡ None }
+    ensures ok { OnOk result (values.new.entries ≡ with_value name_cmp name.now value values.old.entries) }
+    ensures err { OnErr result (values.new.entries ≡ values.old.entries) }
+    ensures counted { (other : ℕ) → counted other slots.old ≡ count_in_slot other values.old.entries
+        → counted other slots.new ≡ count_in_slot other values.new.entries }
+{
+    let key = name.copy(alloc)?;
+    slots.add(slot)?;
+    if values.insert(key, value).is_err() {
+        slots.take(slot);
+        return Err(AllocError);
+    }
+    Ok(())
 }

@@ -1,4 +1,4 @@
-ghost use Rattle.std.specs.Prelude.{◌≡◌};
+ghost use Rattle.std.specs.Prelude.{◌≡◌, IfOk};
 ghost use Rattle.forest_ops.specs.Classes.{class_of};
 ghost use Rattle.forest_ops.specs.History.{is_done};
 
@@ -103,11 +103,14 @@ impl Duplicate for Op {
                 path,
                 offset,
                 bytes,
-            } => Ok(Op::Write {
-                path: path.copy(alloc)?,
-                offset: *offset,
-                bytes: bytes.copy(alloc)?,
-            }),
+            } => {
+                let (path, bytes) = copy_both(alloc, path, bytes)?;
+                Ok(Op::Write {
+                    path,
+                    offset: *offset,
+                    bytes,
+                })
+            }
             Op::Trunc { path, size } => Ok(Op::Trunc {
                 path: path.copy(alloc)?,
                 size: *size,
@@ -123,20 +126,20 @@ impl Duplicate for Op {
             Op::Stat { path } => Ok(Op::Stat {
                 path: path.copy(alloc)?,
             }),
-            Op::Link { from, to } => Ok(Op::Link {
-                from: from.copy(alloc)?,
-                to: to.copy(alloc)?,
-            }),
+            Op::Link { from, to } => {
+                let (from, to) = copy_both(alloc, from, to)?;
+                Ok(Op::Link { from, to })
+            }
             Op::Unlink { path } => Ok(Op::Unlink {
                 path: path.copy(alloc)?,
             }),
             Op::Rmdir { path } => Ok(Op::Rmdir {
                 path: path.copy(alloc)?,
             }),
-            Op::Rename { from, to } => Ok(Op::Rename {
-                from: from.copy(alloc)?,
-                to: to.copy(alloc)?,
-            }),
+            Op::Rename { from, to } => {
+                let (from, to) = copy_both(alloc, from, to)?;
+                Ok(Op::Rename { from, to })
+            }
             Op::Subvol { name } => Ok(Op::Subvol {
                 name: name.copy(alloc)?,
             }),
@@ -144,11 +147,14 @@ impl Duplicate for Op {
                 source,
                 copy,
                 locked,
-            } => Ok(Op::Snap {
-                source: source.copy(alloc)?,
-                copy: copy.copy(alloc)?,
-                locked: *locked,
-            }),
+            } => {
+                let (source, copy) = copy_both(alloc, source, copy)?;
+                Ok(Op::Snap {
+                    source,
+                    copy,
+                    locked: *locked,
+                })
+            }
             Op::Delsub { name } => Ok(Op::Delsub {
                 name: name.copy(alloc)?,
             }),
@@ -330,13 +336,28 @@ pub struct Entry {
 
 impl Duplicate for Entry {
     fn copy(&self, alloc: Global) -> Result<Self, AllocError> {
+        let (op, reply) = copy_both(alloc, &self.op, &self.reply)?;
         Ok(Entry {
             client: self.client,
-            op: self.op.copy(alloc)?,
-            reply: self.reply.copy(alloc)?,
+            op,
+            reply,
         })
     }
 }
 
 /// The entries of a session, in their order.
 pub type Trace = Listing<Entry>;
+
+// Equal values of both.
+fn copy_both<One: Duplicate, Other: Duplicate>(
+    alloc: Global,
+    one: &One,
+    other: &Other,
+) -> Result<(One, Other), AllocError>
+    ensures one { IfOk result (λ both. both.0 ≡ one.now) }
+    ensures other { IfOk result (λ both. both.1 ≡ other.now) }
+{
+    let one = one.copy(alloc)?;
+    let other = other.copy(alloc)?;
+    Ok((one, other))
+}

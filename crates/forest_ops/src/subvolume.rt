@@ -166,7 +166,9 @@ impl Subvolume {
     fn named(&self, number: u64, name: &Bytes) -> Result<u64, Cause>
         ensures { result ≡ named_in self.now number name.now }
     {
-        let names = self.directory(number).ok_or(Cause::NotDir)?;
+        let Some(names) = self.directory(number) else {
+            return Err(Cause::NotDir);
+        };
         names.number(name).ok_or(Cause::NotFound)
     }
 
@@ -193,14 +195,13 @@ impl Subvolume {
     {
         let mut list = FlagList::new(alloc);
         for (name, number) in names.iter() {
-            list.push(FlaggedName {
-                name: name.copy(alloc)?,
-                flag: if self.directory(*number).is_some() {
-                    2
-                } else {
-                    1
-                },
-            })?;
+            let flag = if self.directory(*number).is_some() {
+                2
+            } else {
+                1
+            };
+            let name = name.copy(alloc)?;
+            list.push(FlaggedName { name, flag })?;
         }
         Ok(list)
     }

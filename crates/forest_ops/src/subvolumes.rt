@@ -7,7 +7,7 @@ ghost use Rattle.forest_ops.specs.Names.{count_in_slot, is_crowded};
 ghost use Rattle.forest_ops.specs.Places.{changed, Fits};
 ghost use Rattle.forest_ops.specs.Steps.{flagged_subvolume};
 
-use crate::name_table::NAMES_PER_SLOT;
+use crate::name_table::{NAMES_PER_SLOT, insert_slotted};
 use crate::place::Change;
 use crate::subvolume::Subvolume;
 use crate::tally::Tally;
@@ -93,13 +93,7 @@ impl Subvolumes {
         ensures ok { OnOk result (self.new ≡ with_value name_cmp name.now tree self.old) }
         ensures err { OnErr result (self.new ≡ self.old) }
     {
-        let key = name.copy(alloc)?;
-        self.slots.add(slot)?;
-        if self.trees.insert(key, tree).is_err() {
-            self.slots.take(slot);
-            return Err(AllocError);
-        }
-        Ok(())
+        insert_slotted(alloc, &mut self.trees, &mut self.slots, name, slot, tree)
     }
 
     /// Removes a subvolume, whose name has this slot.
@@ -133,10 +127,9 @@ impl Subvolumes {
     {
         let mut list = FlagList::new(alloc);
         for (name, tree) in self.trees.iter() {
-            list.push(FlaggedName {
-                name: name.copy(alloc)?,
-                flag: u8::from(tree.is_locked()),
-            })?;
+            let flag = u8::from(tree.is_locked());
+            let name = name.copy(alloc)?;
+            list.push(FlaggedName { name, flag })?;
         }
         Ok(list)
     }

@@ -14,6 +14,3 @@ mod walking;
 
 pub use planned::Plan;
 pub use planning::{is_planned, plan};
-
-#[cfg(test)]
-mod tests;

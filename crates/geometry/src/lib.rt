@@ -12,8 +12,6 @@ mod naming;
 mod reading;
 mod sessions;
 mod superblocks;
-#[cfg(test)]
-mod tests;
 
 pub use copies::{SuperCopy, read_counting};
 pub use fault::{DiskFault, SuperFault};

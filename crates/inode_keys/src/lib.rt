@@ -8,6 +8,3 @@ mod tidy;
 pub use inodes::set;
 pub use numbers::{Draw, draws_are_counted, draws_are_new, next_number};
 pub use tidy::{drawn_inodes_want_names, sets_are_tidy};
-
-#[cfg(test)]
-mod tests;

@@ -100,6 +100,3 @@ fn put(
         value: Some(Value::Node(node.copy(alloc)?)),
     })
 }
-
-#[cfg(test)]
-mod tests;

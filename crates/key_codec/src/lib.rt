@@ -39,6 +39,3 @@ pub use kinds::{node_at, position_at, put_node, put_position};
 pub use laws::{key_lengths, keys_are_exact, one_encoding};
 pub use reading::{KeyRead, fields_at, get_key};
 pub use writing::put_key;
-
-#[cfg(test)]
-mod tests;

@@ -13,6 +13,3 @@ mod tallies;
 mod values;
 
 pub use expanding::expand;
-
-#[cfg(test)]
-mod tests;

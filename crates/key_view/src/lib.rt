@@ -19,6 +19,3 @@ pub use plain_keys::PlainKeys;
 pub use plain_view::PlainView;
 pub use view::View;
 pub use visibility::{nearest, whiteout_needed};
-
-#[cfg(test)]
-mod tests;

@@ -24,6 +24,3 @@ pub use laws::{
 };
 pub use name::NodeName;
 pub use table::{LockTable, Mode, Ruling};
-
-#[cfg(test)]
-mod tests;

@@ -308,6 +308,3 @@ impl Duplicate for NodeMem {
         })
     }
 }
-
-#[cfg(test)]
-mod tests;

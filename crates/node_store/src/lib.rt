@@ -32,6 +32,3 @@ pub use planning::{Blocked, plan_set};
 pub use reading::{ReadNode, read_node};
 pub use sets::{StoredSet, StoredSets};
 pub use writing::write_part;
-
-#[cfg(test)]
-mod tests;

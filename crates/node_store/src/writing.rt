@@ -7,6 +7,7 @@ ghost use Rattle.dev_model.specs.HeldBlocks.{HoldOnly};
 ghost use Rattle.node_store.specs.Faults.{failed_node_device};
 ghost use Rattle.node_store.specs.Plans.{block_of_bytes, part_bytes, planned_blocks};
 ghost use Rattle.node_store.specs.Writes.{HaveCopies, HoldCopies, IsCopyBlock, IsCopyOf, KeepsLengths, NamesDeviceOf};
+ghost use Rattle.vol_types.specs.Faults.{RoseBy};
 
 use crate::{Blocked, NodeFault};
 use dev_model::Devices;
@@ -35,6 +36,8 @@ pub fn write_part<D: Devices>(devices: &mut D, blocked: &Blocked, part: u8) -> R
     ensures cause { (D.state devices.new).faults ≡ after_writes (failed_node_device result)
         (D.state devices.old).faults }
     ensures device { NamesDeviceOf blocked.now.places result }
+    ensures takes_time { OnOk result (0 < length blocked.now.places
+        → RoseBy 1 (D.state devices.old).moment (D.state devices.new).moment) }
 {
     let bytes = block_in(blocked.parts.as_slice(), part);
     write_copies(
@@ -78,6 +81,8 @@ fn write_copies<D: Devices>(
     ensures cause { (D.state devices.new).faults ≡ after_writes (failed_node_device result)
         (D.state devices.old).faults }
     ensures device { NamesDeviceOf places.now result }
+    ensures takes_time { OnOk result (0 < length places.now
+        → RoseBy 1 (D.state devices.old).moment (D.state devices.new).moment) }
 {
     for place in places {
         write_copy(devices, place, n, bytes)?;

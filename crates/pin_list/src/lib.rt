@@ -155,6 +155,3 @@ fn make(alloc: Global, spares: &mut Vec<Box<Fork>>, wanted: usize) -> Result<(),
     }
     Ok(())
 }
-
-#[cfg(test)]
-mod tests;

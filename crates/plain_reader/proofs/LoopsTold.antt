@@ -1,6 +1,6 @@
 -- One step more, the last one, and one that fails, of the loops over nodes, over their children and over btrees.
 use Rattle.std.proofs.Common.{◌≡◌, ◌==◌, Bool, true, false, cond, All, IsErrAnd, subst, ℕ, zero, suc, ◌+◌, ◌<◌, ◌≤◌, List, [], ◌∷◌, ◌++◌, length, drop, get_or, map, zip, None, Some, Result, Ok, Err, refl, ap, sym, ◌∙◌, append_assoc, arith}
-use Rattle.std.specs.Prelude.{unwrap_or}
+use Rattle.std.specs.Prelude.{IfSome, unwrap_or}
 use Rattle.std.specs.Map.{values_of}
 use Rattle.std.proofs.lemmas.Bool.Decides.{nat_tests}
 use Rattle.std.proofs.lemmas.List.{map-append}
@@ -22,6 +22,7 @@ use Rattle.vol_types.specs.declared.values.Value.{Value}
 use Rattle.vol_types.specs.declared.values.Value.TheVariants as values
 use Rattle.dev_model.specs.Disk.{Image}
 use Rattle.plain_reader.specs.Answers.{AreSureBtrees, IsSureBtree, Tells}
+use Rattle.plain_reader.specs.Faults.{failed_tree_device, tree_fault_device}
 use Rattle.plain_reader.specs.Nodes.{joined_levels, node_in}
 use Rattle.plain_reader.specs.Volumes.{btree_in}
 use Rattle.plain_reader.specs.declared.fault.TreeFault.{TreeFault}
@@ -152,6 +153,11 @@ pub handed_tells : {T W : Type 0} (view : T → W) (expected : Result W Place) (
 handed_tells view expected (Ok x) error is told = absurd is
 handed_tells view expected (Err e) error is told = subst (λ (f : TreeFault). Tells view expected (Err f)) (sym is) told
 
+-- A result that hands a fault on names the device that the fault does.
+pub handed_device : {T : Type 0} (result : Result T TreeFault) (error : TreeFault) (P : ℕ → Type 0) → IsErrAnd result (λ e. e ≡ error) → IfSome (tree_fault_device error) P → IfSome (failed_tree_device result) P
+handed_device (Ok x) error P is cause = absurd is
+handed_device (Err e) error P is cause = subst (λ (f : TreeFault). IfSome (tree_fault_device f) P) (sym is) cause
+
 -- What holds of each value holds of the one at a place.
 pub all_at : {K X : Type 0} (P : X → Type 0) (entries : List (K × X)) (i : ℕ) (entry : K × X) → i < length entries → entry ≡ get_or entries i entry → All P (values_of entries) → P entry.1
 all_at P [] i entry lt is all = absurd (omega (arith, lt))
@@ -192,6 +198,19 @@ child_step level place ends entries i done more whole item child lt at is pushed
     ∙ sym (found_more (child_in level) place ends done item (drop (i + 1) entries) child is)
     ∙ ap (λ (es : List (Pos × Value)). found_from (child_in level) place ends done es) (sym (drop_more entries i item lt at))
     ∙ so_far
+
+-- All entries led to children, and end where the node does, or elsewhere.
+pub children_end : (level : ℕ) (place : Place) (ends right : Bool) (entries : List (Pos × Value)) (i : ℕ) (done : Level) (whole : Result Level Place) → length entries ≤ i → ends ≡ right
+    → found_from (child_in level) place ends done (drop i entries) ≡ whole → whole ≡ cond right (Ok done) (Err place)
+children_end level place ends right entries i done whole le is so_far =
+    sym so_far
+    ∙ ap (λ (es : List (Pos × Value)). found_from (child_in level) place ends done es) (drop_none entries i le)
+    ∙ ap (λ (e : Bool). found_from (child_in level) place e done []) is
+    ∙ by right
+  where
+    by : (b : Bool) → found_from (child_in level) place b done [] ≡ cond b (Ok done) (Err place)
+    by true = ap (λ ys. Ok ys) (append_none done)
+    by false = refl
 
 -- The nodes of a level and those of another part.
 pub nodes_joined : (P : NodePtr → Type 0) (one other whole : Level) → whole ≡ one ++ other → All P (values_of one) → All P (values_of other) → All P (values_of whole)

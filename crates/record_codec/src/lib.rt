@@ -43,6 +43,3 @@ pub use laws::{
 };
 pub use lengths::{entry_length, update_length};
 pub use sets::{KeyRef, SetHead, SetRecord, get_set, put_lent_set, put_set};
-
-#[cfg(test)]
-mod tests;

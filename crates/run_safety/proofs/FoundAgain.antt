@@ -40,4 +40,5 @@ module _ (f : Found) (first : DevicesState) (may : MayRun f (now first)) (image 
     most = omega arith;
     forest = forest_again;
     whole = λ some. absurd (some none);
+    room = λ leaves. leaves;
   }

@@ -1,8 +1,9 @@
--- A fresh volume may be run: its roots are leaves, its first entry has no updates, and its keys are sound and tidy.
-use Rattle.std.proofs.Common.{◌≡◌, ℕ, List, [], refl}
+-- A fresh volume may be run, and leaves room in the ring: its roots are leaves, its first entry has no updates, and its keys are sound and tidy.
+use Rattle.std.proofs.Common.{◌≡◌, ℕ, List, [], refl, arith}
 use Rattle.std.specs.Prelude.{All, Contains}
 use Rattle.std.specs.List.{range_with_len}
 use Rattle.std.proofs.lemmas.List.Elements.{All-cons, All-contains_itself, All-map, All-nil, All-weaker}
+use Rattle.core_memory.specs.Rulings.{kept_blocks}
 use Rattle.image_view.specs.Found.{node_places}
 use Rattle.image_view.specs.UpdatedTrees.{IsOfLeaf}
 use Rattle.journal_ring.specs.declared.found.FoundEntry.{FoundEntry}
@@ -11,10 +12,11 @@ use Rattle.key_meaning.specs.Fresh.{fresh_keys}
 use Rattle.key_meaning.specs.Tidy.{IsTidy}
 use Rattle.vol_core.specs.Left.{AreLeaves}
 use Rattle.vol_format.specs.Fresh.{first_found, fresh_found, fresh_root}
+use Rattle.vol_types.specs.LayoutLaws.{layout_found}
 use Rattle.vol_types.specs.declared.layout.Layout.{Layout}
 use Rattle.vol_types.specs.declared.pointers.NodePtr.{NodePtr}
 use Rattle.vol_types.specs.declared.pointers.Place.{Place}
-use Rattle.run_safety.specs.RunLaws.{FreshMayRun}
+use Rattle.run_safety.specs.RunLaws.{FreshLeavesRoom, FreshMayRun}
 
 fresh_leaves : (layout : Layout) → AreLeaves (fresh_found layout)
 fresh_leaves layout = record {
@@ -30,3 +32,7 @@ fresh_may_run sound tidy layout disks is formatted = record {
   sound = sound (node_places (fresh_found layout)) layout formatted.is_fresh.placed;
   tidy = tidy;
 }
+
+-- Its one entry takes a block of at least 256.
+pub fresh_leaves_room : FreshLeavesRoom
+fresh_leaves_room layout is = let least = (layout_found layout is).journal_range.0 in let kept : kept_blocks ≡ 64 = refl in omega (arith, least, kept)

@@ -33,6 +33,7 @@ survived f first start trace acks moment image same survives = record {
   most = subst (λ (forest : Forest). survives.count ≤ commit_count forest trace) same survives.most;
   forest = survives.forest ∙ ap (λ (forest : Forest). after_commits forest trace survives.count) same;
   whole = λ some. record { read = survives.whole.read; durable = survives.whole.durable; finds = survives.whole.finds; had = survives.whole.had; whole = survives.whole.whole };
+  room = survives.room;
 }
 
 module _ (f : Found) (first start state : DevicesState) (trace : History) (acks : List Ack) (may : MayRun f (now first)) (disks : All IsDisk (now start)) (keeps : KeepsMeaning f first start) (begins : first.moment ≤ start.moment)

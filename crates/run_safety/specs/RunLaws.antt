@@ -1,5 +1,5 @@
 -- The laws on what a run leaves.
-use Rattle.std.specs.Prelude.{◌≡◌, ℕ, ◌+◌, ◌≤◌, true, List, [], All}
+use Rattle.std.specs.Prelude.{◌≡◌, ◌+◌, ◌≤◌, true, List, [], All}
 use Rattle.dev_model.specs.Devices.{DevicesState, now}
 use Rattle.dev_model.specs.Disk.{Disk, IsDisk}
 use Rattle.forest_ops.specs.History.{History}
@@ -7,6 +7,7 @@ use Rattle.image_view.specs.Found.{Found, with_session}
 use Rattle.replay.specs.Mending.{IsReady, KeepsMeaning, KeepsPast}
 use Rattle.run_history.specs.Acknowledged.{AreAcks}
 use Rattle.run_history.specs.declared.acks.Ack.{Ack}
+use Rattle.vol_core.specs.Room.{LeavesRoom}
 use Rattle.vol_format.specs.Formatting.{IsFormatted}
 use Rattle.vol_format.specs.Fresh.{fresh_found}
 use Rattle.vol_session.specs.Survivors.{BeginsWell, Survive}
@@ -35,3 +36,7 @@ OpeningIsSafe = (f : Found) (first last : DevicesState) → MayRun f (now first)
 -- A fresh volume may be run.
 abbrev pub FreshMayRun : Type 0
 FreshMayRun = (layout : Layout) (disks : List Disk) → is_layout layout ≡ true → IsFormatted layout disks → MayRun (fresh_found layout) disks
+
+-- And it leaves room in the ring of the journal.
+abbrev pub FreshLeavesRoom : Type 0
+FreshLeavesRoom = (layout : Layout) → is_layout layout ≡ true → LeavesRoom (fresh_found layout)

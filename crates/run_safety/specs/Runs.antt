@@ -9,6 +9,7 @@ use Rattle.replay.specs.Mending.{IsInOrderOn, IsUntorn}
 use Rattle.run_history.specs.Acknowledged.{acknowledged}
 use Rattle.run_history.specs.declared.acks.Ack.{Ack}
 use Rattle.vol_core.specs.Left.{AreLeaves, IsSoundFound}
+use Rattle.vol_core.specs.Room.{LeavesRoom}
 use Rattle.vol_session.specs.Marks.{commits_found, forest_found}
 use Rattle.vol_session.specs.Survivors.{IsAcknowledgedOnAll}
 
@@ -28,7 +29,7 @@ pub record MayRunAgain (f : Found) (image : Image) : Type 0 where
   pub tidy : IsTidy f.trees.keys
 
 -- The image mounts as the volume after a prefix of the commits of the history, with all that was acknowledged by this moment, and may be run again. What was acknowledged stands whole
--- on every metadata device.
+-- on every metadata device; and where what was found left room in the ring of the journal, so does the image.
 pub record IsLeftOfRun (f : Found) (first : DevicesState) (trace : History) (acks : List Ack) (moment : ℕ) (image : Image) : Type 0 where
   pub left : Found
   pub again : MayRunAgain left image
@@ -40,6 +41,7 @@ pub record IsLeftOfRun (f : Found) (first : DevicesState) (trace : History) (ack
   pub most : count ≤ commit_count (forest_found f first) trace
   pub forest : (volume_of image left).forest ≡ after_commits (forest_found f first) trace count
   pub whole : acknowledged acks moment ≢ 0 → IsAcknowledgedOnAll f acks moment image
+  pub room : LeavesRoom f → LeavesRoom left
 
 -- Whatever a crash has left at a moment since the run began is such an image, where no torn block of the journal areas opens by chance.
 abbrev pub RunSurvives : Found → DevicesState → DevicesState → History → List Ack → Type 0

@@ -1,4 +1,4 @@
-ghost use Rattle.run_safety.specs.RunLaws.{FreshMayRun, OpeningIsSafe, RunsAreSafe, SessionsBeginWell};
+ghost use Rattle.run_safety.specs.RunLaws.{FreshLeavesRoom, FreshMayRun, OpeningIsSafe, RunsAreSafe, SessionsBeginWell};
 
 use key_meaning::fresh_keys_mean_fresh;
 
@@ -10,9 +10,10 @@ pub fn runs_are_safe()
     ensures opening { OpeningIsSafe }
 {}
 
-/// What format makes may be run.
+/// What format makes may be run, and leaves room in the ring of the journal.
 pub fn fresh_volumes_may_run()
-    ensures { FreshMayRun }
+    ensures may { FreshMayRun }
+    ensures room { FreshLeavesRoom }
 {
     fresh_keys_mean_fresh();
 }

@@ -52,6 +52,8 @@ pub use writing::{end_line, fault_word, reply_line};
 #[cfg(test)]
 mod examples;
 #[cfg(test)]
+mod printing;
+#[cfg(test)]
 mod tables;
 #[cfg(test)]
 mod tests;

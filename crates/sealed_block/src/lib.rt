@@ -26,8 +26,6 @@ mod laws;
 mod opening;
 mod records;
 mod sealing;
-#[cfg(test)]
-mod tests;
 
 pub use heads::{Head, JOURNAL_ENTRY, NODE_SET, SESSION, SUPERBLOCK};
 pub use laws::{one_encoding, opened_blocks_are_sealed, sealed_blocks_open};

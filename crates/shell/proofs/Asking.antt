@@ -14,7 +14,7 @@ use Rattle.command_words.specs.declared.request.Request.{Request}
 use Rattle.command_words.specs.declared.request.Request.TheVariants as requests
 use Rattle.shell.specs.Tasks.{layout_asked, task_for, task_of}
 use Rattle.shell.specs.declared.task.Task.{Task}
-use Rattle.shell.specs.declared.task.Task.TheVariants.{Run, Format}
+use Rattle.shell.specs.declared.task.Task.TheVariants.{Run, Format, Info}
 
 both : (a b : Bool) → a ≡ true → b ≡ true → (a && b) ≡ true
 both true b is also = also
@@ -76,6 +76,7 @@ chosen devices asked layout true is count found =
     layout_of : Layout → Task → Layout
     layout_of otherwise Run = otherwise
     layout_of otherwise (Format l) = l
+    layout_of otherwise Info = otherwise
 
     same_format : Format asked ≡ Format layout → asked ≡ layout
     same_format same = ap (layout_of asked) same
@@ -86,9 +87,18 @@ by_request devices requests.Run layout is = absurd (run_is_none (same_Some Run (
     is_run : Task → Bool
     is_run Run = true
     is_run (Format l) = false
+    is_run Info = false
 
     run_is_none : Run ≡ Format layout → ⊥
     run_is_none same = false≢true (sym (ap is_run same))
+by_request devices requests.Info layout is = absurd (info_is_none (same_Some Info (Format layout) is))
+  where
+    is_info : Task → Bool
+    is_info Info = true
+    is_info task = false
+
+    info_is_none : Info ≡ Format layout → ⊥
+    info_is_none same = false≢true (sym (ap is_info same))
 by_request devices (requests.Format asked) layout is = chosen devices (layout_asked devices asked) layout (is_layout (layout_asked devices asked)) refl (counted devices asked.blocks) is
 
 pub format_fits : (devices : ℕ) (arguments : List (List ℕ)) (layout : Layout) → task_of devices arguments ≡ Some (Format layout) → Fits devices layout

@@ -1,5 +1,5 @@
 -- What a run promises that ends early, or that formats, from what its parts say.
-use Rattle.std.proofs.Common.{◌≡◌, ◌≤◌, ℕ, List, [], length, refl, sym, subst, Some, None}
+use Rattle.std.proofs.Common.{◌≡◌, ◌⊎◌, ◌≤◌, ℕ, List, [], length, refl, sym, subst, Some, None}
 use Rattle.vol_types.specs.declared.layout.Layout.{Layout}
 use Rattle.forest_ops.specs.History.{History, IsLegal}
 use Rattle.forest_ops.specs.HistoryLaws.{IsLegal-none}
@@ -15,7 +15,7 @@ use Rattle.vol_session.specs.Marks.{forest_found}
 use Rattle.shell.specs.declared.early_end.EarlyEnd.{EarlyEnd}
 use Rattle.shell.specs.Outcome.{EndedEarly, Formatted, early_line, early_status}
 use Rattle.shell.specs.EarlyEnds.{end_of_arguments}
-use Rattle.shell.specs.Tasks.{IsFormat, task_of}
+use Rattle.shell.specs.Tasks.{IsFormat, IsRun, task_of}
 use Rattle.shell.specs.Mounts.{OnlyReadUnmounted}
 use Rattle.shell.specs.Runs.{Run}
 use Rattle.shell.specs.Causes.{ArgumentsCause, EarlyCause, SourceFailed}
@@ -34,7 +34,7 @@ arguments_source of_words.Usage count = refl
 arguments_source of_words.NoMemory count = refl
 
 -- no reply is of another forest where there is none
-legal_none : (forest : Forest) (history : History) → history ≡ [] → IsLegal forest history
+pub legal_none : (forest : Forest) (history : History) → history ≡ [] → IsLegal forest history
 legal_none forest history nothing = subst (IsLegal forest) (sym nothing) (IsLegal-none forest)
 
 module _ {D K : Type 0} (source_tells sink_tells devices_tell : Type 0) (held given_at : K → List ℕ) (run : Run D K) where
@@ -43,12 +43,13 @@ module _ {D K : Type 0} (source_tells sink_tells devices_tell : Type 0) (held gi
       → EndsEarly sink_tells (early_line end) (early_status end) run.streams.held run.streams.held_after run.faults.sink run.faults.sink_after run.status run.trace run.acks
       → EarlyCause source_tells devices_tell run.arguments run.streams.left run.state run.state_after run.devices run.devices_after end
       → SourceFailed end run.faults.source run.faults.source_after
+      → IsRun run.arguments run.state.sizes ⊎ (run.streams.left_after ≡ run.streams.left)
       → OnlyReadUnmounted devices_tell run.state run.state_after
       → (devices_tell → (f : Found) → MayRun f (now run.state) → RunSurvives f run.state run.state_after [] [])
       → run.state.moment ≤ run.state_after.moment
       → run.early_end ≡ Some end → run.shorts ≡ []
       → Headline source_tells sink_tells devices_tell held given_at run
-  ended_early end ends cause source unmounted survives later early shorts = record {
+  ended_early end ends cause source left unmounted survives later early shorts = record {
     opening = nothing_found;
     mounted = run.state;
     outcome = EndedEarly end;
@@ -64,6 +65,7 @@ module _ {D K : Type 0} (source_tells sink_tells devices_tell : Type 0) (held gi
       source = source;
       ends = record { failed = ends.failed; printed = ends.printed; otherwise = ends.otherwise };
       unmounted = unmounted;
+      left = left;
     };
     early = early;
     shorts = shorts;
@@ -72,9 +74,9 @@ module _ {D K : Type 0} (source_tells sink_tells devices_tell : Type 0) (held gi
   -- a run that formats
   pub formatted : (layout : Layout) → IsFormat run.arguments run.state.sizes layout
       → Formats sink_tells devices_tell layout run.state run.state_after run.streams.held run.streams.held_after run.faults.sink run.faults.sink_after run.status run.early_end run.trace run.acks
-      → run.faults.source_after ≡ run.faults.source → run.shorts ≡ []
+      → run.faults.source_after ≡ run.faults.source → run.streams.left_after ≡ run.streams.left → run.shorts ≡ []
       → Headline source_tells sink_tells devices_tell held given_at run
-  formatted layout format formats source shorts = record {
+  formatted layout format formats source left shorts = record {
     opening = nothing_found;
     mounted = run.state;
     outcome = Formatted layout formats.fault;
@@ -85,6 +87,7 @@ module _ {D K : Type 0} (source_tells sink_tells devices_tell : Type 0) (held gi
     acknowledged = without_acks run.state.moment run.state_after.moment run.trace run.acks formats.ends.nothing formats.ends.no_acks formats.later;
     caused = record {
       format = format;
+      left = left;
       source = source;
       device = formats.device;
       cause = formats.cause;

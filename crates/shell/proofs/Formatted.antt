@@ -9,7 +9,7 @@ use Rattle.geometry.specs.Faults.{fault_device}
 use Rattle.geometry.specs.declared.fault.DiskFault.{DiskFault}
 use Rattle.forest_ops.specs.History.{History}
 use Rattle.run_history.specs.declared.acks.Ack.{Ack}
-use Rattle.run_safety.specs.RunLaws.{FreshMayRun}
+use Rattle.run_safety.specs.RunLaws.{FreshLeavesRoom, FreshMayRun}
 use Rattle.vol_types.specs.Layouts.{is_layout}
 use Rattle.vol_format.specs.Formatting.{FormatSurvives, IsFormatted, IsFresh}
 use Rattle.shell.specs.declared.early_end.EarlyEnd.{EarlyEnd}
@@ -19,11 +19,12 @@ use Rattle.shell.specs.Phases.{EndsEarly, Formats}
 use Rattle.shell.specs.Survived.{HoldsFresh}
 
 -- Devices that are formatted hold the fresh volume: nothing is pending, so that a crash leaves what is read.
-pub holds_fresh : FreshMayRun → (layout : Layout) (state : DevicesState) → is_layout layout ≡ true → IsFormatted layout (now state) → HoldsFresh layout state
-holds_fresh law layout state is formatted = record {
+pub holds_fresh : FreshMayRun → FreshLeavesRoom → (layout : Layout) (state : DevicesState) → is_layout layout ≡ true → IsFormatted layout (now state) → HoldsFresh layout state
+holds_fresh law room layout state is formatted = record {
   is_formatted = formatted;
   crashes = λ image crash. subst (IsFresh layout) (sym (formatted.mended.found_on.on.quiet image crash)) formatted.is_fresh;
   may_run = law layout (now state) is formatted;
+  room = room layout is;
 }
 
 module _ {D : Type 0} (state : D → DevicesState) (sink_tells devices_tell : Type 0) (layout : Layout) (old new last : D) where

@@ -10,5 +10,7 @@ pub mod Preparing
 pub mod Printing
 pub mod Running
 pub mod EndingEarly
+pub mod Informing
 pub mod Sessions
 pub mod OpenedRuns
+pub mod ShortRuns

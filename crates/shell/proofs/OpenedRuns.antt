@@ -1,5 +1,5 @@
 -- What a run promises whose arguments ask for a run and whose source gave a script, once a volume was opened: its lines ran over it, or there was no memory to keep it.
-use Rattle.std.proofs.Common.{◌≡◌, ◌≤◌, inr, ℕ, List, [], Option, sym, subst}
+use Rattle.std.proofs.Common.{◌≡◌, ◌≤◌, ◌<◌, ◌^◌, length, inl, inr, ℕ, List, [], Option, sym, subst}
 use Rattle.std.specs.Prelude.{All}
 use Rattle.dev_model.specs.Devices.{DevicesState, now}
 use Rattle.dev_model.specs.Disk.{IsDisk}
@@ -14,6 +14,7 @@ use Rattle.vol_session.specs.Marks.{forest_found}
 use Rattle.vol_types.specs.declared.space.Short.{Short}
 use Rattle.shell.specs.declared.early_end.EarlyEnd.{EarlyEnd}
 use Rattle.shell.specs.declared.early_end.EarlyEnd.TheVariants.{OutOfMemory}
+use Rattle.shell.specs.Causes.{MayRunWithRoom}
 use Rattle.shell.specs.Headline.{Headline}
 use Rattle.shell.specs.Mounts.{IsOpenedFrom, OnlyReadUnmounted, OpeningKeeps}
 use Rattle.shell.specs.Outcome.{Ran}
@@ -23,15 +24,16 @@ use Rattle.shell.specs.Runs.{Run}
 use Rattle.shell.specs.Tasks.{IsRun}
 use Rattle.shell.proofs.EndingEarly.{ended_early}
 use Rattle.shell.proofs.Fitting.{run_fits}
-use Rattle.shell.proofs.Sessions.{acks_since, begins_well, causes_since, halts_since, run_survives, same_forest}
+use Rattle.shell.proofs.ShortRuns.{few_entries}
+use Rattle.shell.proofs.Sessions.{acks_since, all_unspent, begins_well, causes_since, halts_since, opening_leaves, run_survives, same_forest}
 
-module _ {D K : Type 0} (source_tells sink_tells devices_tell : Type 0) (state : D → DevicesState) (held given_at : K → List ℕ) (faults : K → ℕ) (arguments : List (List ℕ)) (left : List ℕ) (source_faults source_after : ℕ)
+module _ {D K : Type 0} (source_tells sink_tells devices_tell : Type 0) (state : D → DevicesState) (held given_at : K → List ℕ) (faults : K → ℕ) (arguments : List (List ℕ)) (left left_after : List ℕ) (source_faults source_after : ℕ)
     (sink sink_after : K) (devices devices_after : D) (status : ℕ) (early_end : Option EarlyEnd) (trace : History) (acks : List Ack) (shorts : List (ℕ × Short)) where
   -- the run, by what it was given and what it left
   abbrev whole_run : Run D K
   whole_run = record {
     arguments = arguments;
-    streams = record { left = left; held = held sink; held_after = held sink_after };
+    streams = record { left = left; left_after = left_after; held = held sink; held_after = held sink_after };
     faults = record { source = source_faults; source_after = source_after; sink = faults sink; sink_after = faults sink_after };
     sink = sink;
     sink_after = sink_after;
@@ -87,6 +89,13 @@ module _ {D K : Type 0} (source_tells sink_tells devices_tell : Type 0) (state :
           no_commit = opened_ran.no_commit;
           faults = causes_since old mounted new trace before opened_ran.causes;
           exact = λ told f may sure. opened_ran.exact told (begins_well devices_tell opening old mounted opened told f may sure begins);
+          unspent = λ far.
+              all_unspent devices_tell opening old mounted (λ (with_room : MayRunWithRoom devices_tell old mounted). record {
+                told = with_room.told;
+                well = begins_well devices_tell opening old mounted opened with_room.told with_room.f with_room.may with_room.sure begins;
+                room = opening_leaves devices_tell opening old mounted opened with_room.told with_room.f with_room.may with_room.sure with_room.room;
+              }) trace
+              (opened_ran.unspent far (subst (λ (t : History). length t < 2 ^ 31) (sym ran.entries) (few_entries source_tells left script ran.answered ran.last gave ran.lines)));
         };
         early = opened_ran.early;
         shorts = none;
@@ -99,8 +108,9 @@ module _ {D K : Type 0} (source_tells sink_tells devices_tell : Type 0) (state :
   ended_unopened mounted script safe keeps before unmounted gave still is_run unopened none =
       let old = state devices in
       ended_early source_tells sink_tells devices_tell held given_at whole_run OutOfMemory unopened.ends
-      (inr (record { run = is_run; script = script; gave = gave; cause = tt }))
+      (inr (inl (record { run = is_run; script = script; gave = gave; cause = tt })))
       still
+      (inl is_run)
       (subst (λ d. OnlyReadUnmounted devices_tell old (state d)) (sym unopened.same) unmounted)
       (λ told f may. subst (λ d. RunSurvives f old (state d) [] []) (sym unopened.same) (safe f old (state mounted) may (keeps told f may.on)))
       (subst (λ d. old.moment ≤ (state d).moment) (sym unopened.same) before.later)

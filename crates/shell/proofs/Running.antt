@@ -232,23 +232,23 @@ adds_ack Spent moment acks = sym (append-nil acks)
 adds_ack NoMemory moment acks = sym (append-nil acks)
 
 -- a reply with a cause doesn't say that it was out of memory
-found_memory : (reply : Reply) (volume : Volume) (before after : FaultCounts) → HasCause reply volume before after → is_no_memory reply ≡ false
-found_memory Okay volume before after cause = refl
-found_memory (More size) volume before after cause = refl
-found_memory (Synced count) volume before after cause = refl
-found_memory (Content bytes) volume before after cause = refl
-found_memory (Listed names) volume before after cause = refl
-found_memory (File number size links) volume before after cause = refl
-found_memory (Dir number entries) volume before after cause = refl
-found_memory (SubNames names) volume before after cause = refl
-found_memory (Used blocks) volume before after cause = refl
-found_memory (Refused cause) volume before after why = refl
-found_memory (NoSpace short) volume before after cause = refl
-found_memory (DeviceFault dev) volume before after cause = refl
-found_memory (DataLost lost) volume before after cause = refl
-found_memory (Halted dev tick) volume before after cause = refl
-found_memory Spent volume before after cause = refl
-found_memory NoMemory volume before after cause = absurd cause
+found_memory : (op : Op) (reply : Reply) (volume : Volume) (before after : FaultCounts) → HasCause op reply volume before after → is_no_memory reply ≡ false
+found_memory op Okay volume before after cause = refl
+found_memory op (More size) volume before after cause = refl
+found_memory op (Synced count) volume before after cause = refl
+found_memory op (Content bytes) volume before after cause = refl
+found_memory op (Listed names) volume before after cause = refl
+found_memory op (File number size links) volume before after cause = refl
+found_memory op (Dir number entries) volume before after cause = refl
+found_memory op (SubNames names) volume before after cause = refl
+found_memory op (Used blocks) volume before after cause = refl
+found_memory op (Refused cause) volume before after why = refl
+found_memory op (NoSpace short) volume before after cause = refl
+found_memory op (DeviceFault dev) volume before after cause = refl
+found_memory op (DataLost lost) volume before after cause = refl
+found_memory op (Halted dev tick) volume before after cause = refl
+found_memory op Spent volume before after cause = refl
+found_memory op NoMemory volume before after cause = absurd cause
 
 -- the number of commits that a reply acknowledges is in it
 synced_reply : (reply : Reply) (count : ℕ) → synced_count reply ≡ Some count → reply ≡ Synced count
@@ -271,13 +271,13 @@ synced_reply NoMemory count is = absurd (none_some count is)
 
 module _ {D : Type 0} (forest : Forest) (state : D → DevicesState) (op : Op) (old new : SessionState D) where
   -- an operation was answered
-  adds_answer : (reply : Reply) → IsAnswered state op reply old new → HasCause reply new.core.memory.volume (state old.core.devices).faults (state new.core.devices).faults
+  adds_answer : (reply : Reply) → IsAnswered state op reply old new → HasCause op reply new.core.memory.volume (state old.core.devices).faults (state new.core.devices).faults
       → ((count : ℕ) → reply ≡ Synced count → count ≡ commit_count forest old.trace) → GoOn (state old.core.devices) (state new.core.devices)
       → AddsEntries forest state old new (cons_option (entry_if_any 0 op reply) []) (cons_option (ack_by (state new.core.devices).moment reply) [])
   adds_answer reply answers cause synced after =
       let entry : Entry = record { client = 0; op = op; reply = reply } in
       record {
-        trace = answers.trace ∙ ap (λ e. old.trace ++ cons_option e []) (sym (has_entry 0 op reply (found_memory reply new.core.memory.volume (state old.core.devices).faults (state new.core.devices).faults cause)));
+        trace = answers.trace ∙ ap (λ e. old.trace ++ cons_option e []) (sym (has_entry 0 op reply (found_memory op reply new.core.memory.volume (state old.core.devices).faults (state new.core.devices).faults cause)));
         acks = answers.acks ∙ adds_ack reply (state new.core.devices).moment old.acks;
         counted = λ held.
             subst (AreSyncsCounted forest) (sym answers.trace)
@@ -286,7 +286,7 @@ module _ {D : Type 0} (forest : Forest) (state : D → DevicesState) (op : Op) (
       }
 
   -- a call of the volume, answered or out of memory
-  pub call_adds : (result : Result Reply AllocError) → IfOk result (λ reply. IsAnswered state op reply old new) → IfOk result (λ reply. HasCause reply new.core.memory.volume (state old.core.devices).faults (state new.core.devices).faults)
+  pub call_adds : (result : Result Reply AllocError) → IfOk result (λ reply. IsAnswered state op reply old new) → IfOk result (λ reply. HasCause op reply new.core.memory.volume (state old.core.devices).faults (state new.core.devices).faults)
       → IfOk result (λ reply. (count : ℕ) → reply ≡ Synced count → count ≡ commit_count forest old.trace) → GoOn (state old.core.devices) (state new.core.devices)
       → IfOk result (λ reply. AddsEntries forest state old new (cons_option (entry_if_any 0 op reply) []) (cons_option (ack_by (state new.core.devices).moment reply) []))
   call_adds (Ok reply) answers cause synced after = adds_answer reply answers cause synced after

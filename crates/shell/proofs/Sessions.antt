@@ -1,11 +1,15 @@
 -- What is said of a session over the volume that was opened, as it is of the run that it is of, which began earlier.
 use Rattle.std.proofs.Common.{◌≡◌, ⊎_elim, ◌<◌, ◌≤◌, ℕ, Bool, true, false, cond, List, [], ◌∷◌, length, Option, Some, None, Result, Ok, Err, refl, ap, ◌∙◌, sym, subst, arith}
+use Rattle.std.proofs.lemmas.List.Elements.{All-weaker}
 use Rattle.std.specs.Prelude.{All, nat_lt}
 use Rattle.dev_model.specs.CrashLaws.{as_read_may_be_left}
 use Rattle.dev_model.specs.Devices.{DevicesState, now}
 use Rattle.dev_model.specs.Disk.{Image, IsCrashImage, IsDisk, as_read}
 use Rattle.dev_model.specs.Frames.{GoOn}
 use Rattle.forest_ops.specs.History.{History}
+use Rattle.forest_ops.specs.declared.operation.Entry.{Entry}
+use Rattle.forest_ops.specs.declared.operation.Op.TheVariants.{Sync}
+use Rattle.forest_ops.specs.declared.operation.Reply.TheVariants.{Spent}
 use Rattle.geometry.specs.Faults.{SomeFailed}
 use Rattle.image_view.specs.Found.{Found, MountsAs, Volume, found, read_in, volume_of, with_session}
 use Rattle.image_view.specs.declared.fault.MountFault.{MountFault}
@@ -21,8 +25,11 @@ use Rattle.run_history.specs.declared.acks.Ack.{Ack}
 use Rattle.run_history.specs.declared.halt.Halt.{Halt}
 use Rattle.run_safety.specs.RunLaws.{OpeningIsSafe, RunsAreSafe, SessionsBeginWell, in_next}
 use Rattle.run_safety.specs.Runs.{MayRun, RunSurvives}
+use Rattle.vol_core.specs.Room.{LeavesRoom}
 use Rattle.vol_session.specs.Marks.{forest_found}
 use Rattle.vol_session.specs.Survivors.{BeginsWell, Survive}
+use Rattle.volume.specs.States.{BeganWithRoom}
+use Rattle.shell.specs.Causes.{MayRunWithRoom}
 use Rattle.shell.specs.Mounts.{ComesAfter, IsOpenedFrom, IsSure, OpeningKeeps}
 
 -- A run without lines has no acknowledgements.
@@ -103,6 +110,10 @@ module _ (devices_tell : Type 0) (opening : Found) (old mounted : DevicesState) 
   pub begins_well : SessionsBeginWell → BeginsWell opening mounted
   begins_well law = subst (λ (o : Found). BeginsWell o mounted) (sym opening_is) (law f old mounted may (opened.ready told f may.on))
 
+  -- And it leaves room where the image does.
+  pub opening_leaves : LeavesRoom f → LeavesRoom opening
+  opening_leaves leaves = subst LeavesRoom (sym opening_is) leaves
+
   -- It has the forest of the image, where no torn block opened by chance meanwhile.
   pub same_forest : OpeningKeeps devices_tell old mounted → GoOn old mounted → All IsDisk (now mounted) → IsUntorn f.layout old.moment mounted.moment mounted (as_read (now mounted)) → forest_found opening mounted ≡ forest_found f old
   same_forest keeps before disks untorn = ap (λ (o : Found). forest_found o mounted) opening_is
@@ -114,3 +125,10 @@ module _ (devices_tell : Type 0) (opening : Found) (old mounted : DevicesState) 
   run_survives keeps before disks begins safe new trace acks after are survive =
       safe f old mounted new trace acks may (keeps told f may.on) before.later disks (after.past told) after.goes_on.later are
       (subst (λ (o : Found). Survive o mounted new trace acks) opening_is (survive (begins_well begins)))
+
+-- What no entry says of a session that began with room, none says of a run of an image that leaves some.
+pub all_unspent : (devices_tell : Type 0) (opening : Found) (old mounted : DevicesState) → (MayRunWithRoom devices_tell old mounted → BeganWithRoom devices_tell opening mounted) → (trace : History)
+    → All (λ (entry : Entry). entry.reply ≡ Spent → (entry.op ≡ Sync) × ¬ BeganWithRoom devices_tell opening mounted) trace → All (λ (entry : Entry). entry.reply ≡ Spent → (entry.op ≡ Sync) × ¬ MayRunWithRoom devices_tell old mounted) trace
+all_unspent devices_tell opening old mounted began trace unspent =
+    All-weaker (λ (entry : Entry). entry.reply ≡ Spent → (entry.op ≡ Sync) × ¬ BeganWithRoom devices_tell opening mounted) (λ (entry : Entry). entry.reply ≡ Spent → (entry.op ≡ Sync) × ¬ MayRunWithRoom devices_tell old mounted)
+    (λ entry is spent. ((is spent).0, λ with_room. (is spent).1 (began with_room))) trace unspent

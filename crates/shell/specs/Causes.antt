@@ -1,13 +1,15 @@
 -- The causes of statuses and failures.
-use Rattle.std.specs.Prelude.{◌≡◌, ◌≢◌, ◌⊎◌, ℕ, ◌<◌, Bool, true, false, if◌then◌else◌, List, ◌++◌, length, take, Option, None, IfSome, option_and_then}
+use Rattle.std.specs.Prelude.{◌≡◌, ◌≢◌, ◌⊎◌, ℕ, ◌<◌, All, Bool, true, false, if◌then◌else◌, List, ◌++◌, length, take, Option, None, IfSome, option_and_then}
 use Rattle.std.specs.List.{list_any}
 use Rattle.vol_types.specs.Faults.{RoseBy}
 use Rattle.vol_types.specs.declared.layout.Layout.{Layout}
 use Rattle.dev_model.specs.Devices.{DevicesState, now}
-use Rattle.dev_model.specs.Frames.{AreAfterCalls}
+use Rattle.dev_model.specs.Frames.{AreAfterCalls, AreOnlyRead}
 use Rattle.forest_ops.specs.History.{EachEntry}
 use Rattle.forest_ops.specs.declared.operation.Reply.{Reply}
-use Rattle.forest_ops.specs.declared.operation.Reply.TheVariants.{DeviceFault, Halted, NoMemory}
+use Rattle.forest_ops.specs.declared.operation.Reply.TheVariants.{DeviceFault, Halted, NoMemory, Spent}
+use Rattle.forest_ops.specs.declared.operation.Entry.{Entry}
+use Rattle.forest_ops.specs.declared.operation.Op.TheVariants.{Sync}
 use Rattle.script_lines.specs.Lines.{lines_of}
 use Rattle.script_lines.specs.Scripts.{IsFirstBad}
 use Rattle.script_lines.specs.declared.reading.Line.{Line}
@@ -18,13 +20,15 @@ use Rattle.run_history.specs.declared.halt.Halt.{Halt}
 use Rattle.plain_forest.specs.Forest.{Forest}
 use Rattle.image_view.specs.Found.{Found}
 use Rattle.run_safety.specs.Runs.{MayRun}
+use Rattle.vol_core.specs.Room.{LeavesRoom}
+use Rattle.vol_session.specs.Numbers.{IsFarFromSpent}
 use Rattle.vol_session.specs.Sessions.{IsExact}
 use Rattle.shell.specs.declared.early_end.EarlyEnd.{EarlyEnd}
 use Rattle.shell.specs.declared.early_end.EarlyEnd.TheVariants.{Usage, BadLine, TooLong, Source, OutOfMemory}
-use Rattle.shell.specs.Outcome.{Outcome, EndedEarly, Ran, Formatted, Answered, early_status, format_status, replies_of, text_of}
-use Rattle.shell.specs.Tasks.{IsFormat, IsRun, task_of}
+use Rattle.shell.specs.Outcome.{Outcome, EndedEarly, Ran, Formatted, Informed, Answered, early_status, format_status, replies_of, text_of}
+use Rattle.shell.specs.Tasks.{IsFormat, IsInfo, IsRun, task_of}
 use Rattle.shell.specs.Lines.{IsFirstOfOther}
-use Rattle.shell.specs.Mounts.{IsSure, MountCause, OnlyReadUnmounted}
+use Rattle.shell.specs.Mounts.{InfoCause, IsSure, MountCause, OnlyReadUnmounted}
 use Rattle.shell.specs.Runs.{Run, StreamFaults}
 use Rattle.shell.specs.Output.{GaveScript, IsTaken, script_limit}
 
@@ -61,11 +65,17 @@ pub record EndsMounting (source_tells devices_tell : Type 0) (arguments : List (
   pub gave : GaveScript source_tells left script
   pub cause : MountCause devices_tell old new end
 
+-- An info ended when it read the devices: its arguments ask for one, and nothing was told of the devices, which were only read.
+pub record EndsReading (devices_tell : Type 0) (arguments : List (List ℕ)) (old new : DevicesState) (end : EarlyEnd) : Type 0 where
+  pub info : IsInfo arguments old.sizes
+  pub cause : InfoCause devices_tell old new end
+  pub read : AreOnlyRead devices_tell old new
+
 -- Why a run ended early, in the order of the tests: arguments that ask for nothing, a source that gives no script, devices
--- that hold no volume to open. Before the last one no device is touched, whatever the end.
+-- that hold no volume to open; or devices of which an info has nothing to tell. Before these no device is touched, whatever the end.
 abbrev pub EarlyCause : {D : Type 0} → Type 0 → Type 0 → List (List ℕ) → List ℕ → DevicesState → DevicesState → D → D → EarlyEnd → Type 0
 EarlyCause source_tells devices_tell arguments left old new devices devices_after end =
-    EndsBefore source_tells arguments old.sizes left devices devices_after end ⊎ EndsMounting source_tells devices_tell arguments left old new end
+    EndsBefore source_tells arguments old.sizes left devices devices_after end ⊎ (EndsMounting source_tells devices_tell arguments left old new end ⊎ EndsReading devices_tell arguments old new end)
 
 -- the reply says that it was out of memory
 abbrev pub is_no_memory : Reply → Bool
@@ -100,19 +110,30 @@ pub record IsStatus (IsAsFor : ℕ → Type 0) (status : ℕ) (faults : StreamFa
   pub printed : status ≢ 5 → faults.sink_after ≡ faults.sink
   pub otherwise : status ≢ 5 → IsAsFor status
 
--- Why no line ran. Where nothing is found in the image the devices were only read, whatever the end.
+-- Why no line ran. Where nothing is found in the image the devices were only read, whatever the end; and nothing was taken of the source where the arguments ask for no run.
 pub record HasEndedEarly {D K : Type 0} (source_tells devices_tell : Type 0) (run : Run D K) (end : EarlyEnd) : Type 0 where
   pub cause : EarlyCause source_tells devices_tell run.arguments run.streams.left run.state run.state_after run.devices run.devices_after end
   pub source : SourceFailed end run.faults.source run.faults.source_after
   pub ends : IsStatus (λ n. n ≡ early_status end) run.status run.faults
   pub unmounted : OnlyReadUnmounted devices_tell run.state run.state_after
+  pub left : IsRun run.arguments run.state.sizes ⊎ (run.streams.left_after ≡ run.streams.left)
+
+-- The devices tell what they hold, and their image may be run, was read for certain, and leaves room in the ring of its journal.
+pub record MayRunWithRoom (devices_tell : Type 0) (old mounted : DevicesState) : Type 0 where
+  pub told : devices_tell
+  pub f : Found
+  pub may : MayRun f (now old)
+  pub sure : IsSure f old mounted
+  pub room : LeavesRoom f
 
 -- Why the lines were answered as they were, over a volume that was opened with this forest. The arguments ask for a run.
 --
 -- Failures: once a device has failed at a write or a flush the session has halted, by one device and at one moment of the run (`halts`);
 -- no later entry is a commit; of each device at most as many entries say that it failed as its calls, and its writes and
 -- flushes, failed (`faults`). Where the image may be run, and was read for certain, an operation that would change the forest fails only where this wouldn't refuse it (`exact`).
-pub record HasAnswered {D K : Type 0} (sink_tells devices_tell : Type 0) (run : Run D K) (mounted : DevicesState) (forest : Forest) (answered : List Answered) (last : Reply) : Type 0 where
+-- No entry says that a number is used up, where the volume that was opened is far from that, and the run had fewer than 2^31 moments since; but for a sync's over an image that may
+-- not be run, wasn't read for certain, or has no room left in the ring of its journal (`unspent`).
+pub record HasAnswered {D K : Type 0} (sink_tells devices_tell : Type 0) (run : Run D K) (opening : Found) (mounted : DevicesState) (forest : Forest) (answered : List Answered) (last : Reply) : Type 0 where
   pub arguments : IsRun run.arguments run.state.sizes
   pub source : run.faults.source_after ≡ run.faults.source
   pub ends : IsStatus (IsRunStatus sink_tells (replies_of answered last) (text_of forest answered last) run.streams.held run.streams.held_after) run.status run.faults
@@ -121,18 +142,28 @@ pub record HasAnswered {D K : Type 0} (sink_tells devices_tell : Type 0) (run : 
   pub no_commit : NoCommitAfterHalt forest run.trace
   pub faults : HaveCauses run.state.faults run.state_after.faults run.trace
   pub exact : devices_tell → (f : Found) → MayRun f (now run.state) → IsSure f run.state mounted → EachEntry (IsExact forest) run.trace
+  pub unspent : IsFarFromSpent opening mounted run.state_after → All (λ (entry : Entry). entry.reply ≡ Spent → (entry.op ≡ Sync) × ¬ MayRunWithRoom devices_tell run.state mounted) run.trace
 
 -- The arguments ask for a format with this layout, and the source wasn't touched. A format fails where one of the devices does,
 -- and no other failed; or where it is out of memory.
 pub record HasFormatted {D K : Type 0} (run : Run D K) (layout : Layout) (fault : Option DiskFault) : Type 0 where
   pub format : IsFormat run.arguments run.state.sizes layout
+  pub left : run.streams.left_after ≡ run.streams.left
   pub source : run.faults.source_after ≡ run.faults.source
   pub device : IfSome (option_and_then fault_device fault) (λ dev. dev < length run.state.sizes)
   pub cause : AreAfterCalls (option_and_then fault_device fault) run.state.faults run.state_after.faults
   pub ends : IsStatus (λ n. n ≡ format_status fault) run.status run.faults
 
+-- The arguments ask what the devices hold, and the source wasn't touched.
+pub record HasInformed {D K : Type 0} (run : Run D K) : Type 0 where
+  pub info : IsInfo run.arguments run.state.sizes
+  pub left : run.streams.left_after ≡ run.streams.left
+  pub source : run.faults.source_after ≡ run.faults.source
+  pub ends : IsStatus (λ n. n ≡ 0) run.status run.faults
+
 -- the causes of a run, by how it went
-abbrev pub HasCauses : {D K : Type 0} → Type 0 → Type 0 → Type 0 → Run D K → DevicesState → Forest → Outcome → Type 0
-HasCauses source_tells sink_tells devices_tell run mounted forest (EndedEarly end) = HasEndedEarly source_tells devices_tell run end
-HasCauses source_tells sink_tells devices_tell run mounted forest (Ran script answered last) = HasAnswered sink_tells devices_tell run mounted forest answered last
-HasCauses source_tells sink_tells devices_tell run mounted forest (Formatted layout fault) = HasFormatted run layout fault
+abbrev pub HasCauses : {D K : Type 0} → Type 0 → Type 0 → Type 0 → Run D K → Found → DevicesState → Forest → Outcome → Type 0
+HasCauses source_tells sink_tells devices_tell run opening mounted forest (EndedEarly end) = HasEndedEarly source_tells devices_tell run end
+HasCauses source_tells sink_tells devices_tell run opening mounted forest (Ran script answered last) = HasAnswered sink_tells devices_tell run opening mounted forest answered last
+HasCauses source_tells sink_tells devices_tell run opening mounted forest (Formatted layout fault) = HasFormatted run layout fault
+HasCauses source_tells sink_tells devices_tell run opening mounted forest (Informed f) = HasInformed run

@@ -20,7 +20,7 @@ pub record Headline {D K : Type 0} (source_tells sink_tells devices_tell : Type 
   pub opening : Found
   pub mounted : DevicesState
   pub outcome : Outcome
-  -- the volume opened is the one that the image means
+  -- the volume opened is the one that the image means, and so is the one that was told of, whose devices were only read
   pub means : OpensVolume devices_tell run.state mounted run.state_after opening outcome
   -- each reply is the plain forest's at its place in one history, from the forest of that volume on, but for failures that the operation may have
   pub legal : devices_tell → (f : Found) → MayRun f (now run.state) → IsSure f run.state mounted → IsLegal (forest_found opening mounted) run.trace
@@ -32,7 +32,7 @@ pub record Headline {D K : Type 0} (source_tells sink_tells devices_tell : Type 
   -- one acknowledgement for each sync that succeeded, in order, with its number and its moment
   pub acknowledged : AreAcks run.state.moment run.state_after.moment run.trace run.acks
   -- the status and every failure has its cause
-  pub caused : HasCauses source_tells sink_tells devices_tell run mounted (forest_found opening mounted) outcome
+  pub caused : HasCauses source_tells sink_tells devices_tell run opening mounted (forest_found opening mounted) outcome
   -- whoever called it learns why it ended early, if it did
   pub early : run.early_end ≡ early_end_of outcome
   -- no answer that there was no space counts what was free

@@ -3,6 +3,7 @@ pub mod Outcome
 pub mod EarlyEnds
 pub mod Tasks
 pub mod Mounts
+pub mod Informing
 pub mod Runs
 pub mod Output
 pub mod Causes

@@ -5,10 +5,12 @@ use Rattle.dev_model.specs.Devices.{DevicesState, now}
 use Rattle.dev_model.specs.Frames.{AreOnlyRead, GoOn}
 use Rattle.geometry.specs.Faults.{DeviceFailed, SomeFailed}
 use Rattle.image_view.specs.Found.{Found, found, with_session}
+use Rattle.image_view.specs.declared.fault.MountFault.{MountFault}
 use Rattle.image_view.specs.declared.fault.MountFault.TheVariants as faults
 use Rattle.replay.specs.Mending.{IsInOrderOn, IsReady, KeepsMeaning, KeepsPast}
 use Rattle.plain_reader.specs.Answers.{NodesAgree}
 use Rattle.replay.specs.Opening.{IsSpent, in_next_session}
+use Rattle.shell.specs.EarlyEnds.{end_of_mount}
 use Rattle.shell.specs.declared.early_end.Refusal.{Refusal}
 use Rattle.shell.specs.declared.early_end.Refusal.TheVariants.{NoSuper, Version, Mixed, BadLayout, NoEntry, MissingEntry, BadNode, Unsound}
 use Rattle.shell.specs.declared.early_end.EarlyEnd.{EarlyEnd}
@@ -41,6 +43,20 @@ MountCause devices_tell old new (Refused refusal) = HasRefused devices_tell old 
 MountCause devices_tell old new (Device dev) = DeviceFailed dev old.faults new.faults
 MountCause devices_tell old new OutOfMemory = Unit {0}
 MountCause devices_tell old new end = ⊥
+
+-- Nothing is found in the image, for this reason.
+pub record IsNotFound (image : Image) (refusal : Refusal) : Type 0 where
+  pub fault : MountFault
+  pub finds : found image ≡ Err fault
+  pub reason : end_of_mount fault ≡ Refused refusal
+
+-- Why there is nothing to tell of the devices: nothing is found in the image, for this reason, which is the image's, unless a call failed and it is a bad node; or a
+-- call of this device failed. Out of memory may come at any time.
+abbrev pub InfoCause : Type 0 → DevicesState → DevicesState → EarlyEnd → Type 0
+InfoCause devices_tell old new (Refused refusal) = devices_tell → (SomeFailed old.faults new.faults → ShowsEarly refusal) → IsNotFound (as_read (now old)) refusal
+InfoCause devices_tell old new (Device dev) = DeviceFailed dev old.faults new.faults
+InfoCause devices_tell old new OutOfMemory = Unit {0}
+InfoCause devices_tell old new end = ⊥
 
 -- Where nothing is found in the image, the devices were only read, unless a call failed.
 abbrev pub OnlyReadUnmounted : Type 0 → DevicesState → DevicesState → Type 0

@@ -17,6 +17,7 @@ use Rattle.script_lines.specs.declared.reading.LineFault.TheVariants.{BadVerb, B
 use Rattle.uuid.specs.Text.{hyphenated_text, lower}
 use Rattle.vol_types.specs.declared.layout.Layout.{Layout}
 use Rattle.geometry.specs.declared.fault.DiskFault.{DiskFault}
+use Rattle.image_view.specs.Found.{Found}
 use Rattle.shell.specs.EarlyEnds.{end_of_disk}
 use Rattle.shell.specs.declared.early_end.Refusal.{Refusal}
 use Rattle.shell.specs.declared.early_end.Refusal.TheVariants.{NoSuper, Version, Mixed, BadLayout, NoEntry, MissingEntry, BadNode, Unsound}
@@ -30,11 +31,12 @@ pub record Answered : Type 0 where
   pub moment : ℕ
 
 -- A run ends early, before any line runs, or each line of the script is answered in order, and then a last sync; or the devices
--- are formatted with this layout, unless it fails by a fault.
+-- are formatted with this layout, unless it fails by a fault; or the facts of the volume that was found on them are told.
 pub data Outcome : Type 0 where
   EndedEarly : EarlyEnd → Outcome
   Ran : List Line → List Answered → Reply → Outcome
   Formatted : Layout → Option DiskFault → Outcome
+  Informed : Found → Outcome
 
 -- the status of an early end
 abbrev pub early_status : EarlyEnd → ℕ
@@ -79,6 +81,7 @@ abbrev pub early_end_of : Outcome → Option EarlyEnd
 early_end_of (EndedEarly end) = Some end
 early_end_of (Ran script answered last) = None
 early_end_of (Formatted layout fault) = option_map end_of_disk fault
+early_end_of (Informed f) = None
 
 -- the line of a format that succeeded: the volume's id, how many devices it has, of how many blocks, and its journal's blocks
 unfoldable pub formatted_line : Layout → List ℕ

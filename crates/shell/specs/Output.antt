@@ -10,8 +10,9 @@ use Rattle.script_lines.specs.Scripts.{IsScript}
 use Rattle.script_lines.specs.declared.reading.Line.{Line}
 use Rattle.run_history.specs.Fits.{Fits}
 use Rattle.shell.specs.Lines.{first_of_other}
-use Rattle.shell.specs.Outcome.{Outcome, EndedEarly, Ran, Formatted, Answered, acks_of, acknowledges, early_line, format_line, entries_of, line_reply, reply_line, text_of}
+use Rattle.shell.specs.Outcome.{Outcome, EndedEarly, Ran, Formatted, Informed, Answered, acks_of, acknowledges, early_line, format_line, entries_of, line_reply, reply_line, text_of}
 use Rattle.shell.specs.Runs.{Run, Streams}
+use Rattle.vol_info.specs.Lines.{info_lines}
 
 -- the most bytes of a script
 abbrev pub script_limit : ℕ
@@ -29,7 +30,7 @@ pub record GaveScript (source_tells : Type 0) (left : List ℕ) (script : List L
   pub reads : IsScript (lines_of text) script
   pub own : first_of_other script ≡ None
 
--- No line of a script ran: the history is empty, and the sink has gained this line, or a prefix of it with status 5.
+-- No line of a script ran: the history is empty, and the sink has gained this line, or these lines, or a prefix of them with status 5.
 pub record HasLine (sink_tells : Type 0) (streams : Streams) (status : ℕ) (trace : History) (line : List ℕ) : Type 0 where
   pub nothing : trace ≡ []
   pub prefix : sink_tells → GivesPrefix line streams.held streams.held_after
@@ -68,3 +69,4 @@ HasOutput source_tells sink_tells devices_tell held given_at run opening (EndedE
 HasOutput source_tells sink_tells devices_tell held given_at run opening (Ran script answered last) =
     HasRun source_tells sink_tells devices_tell held given_at run.sink run.sink_after run.streams run.status opening run.trace run.acks run.state_after.moment script answered last
 HasOutput source_tells sink_tells devices_tell held given_at run opening (Formatted layout fault) = HasLine sink_tells run.streams run.status run.trace (format_line layout fault)
+HasOutput source_tells sink_tells devices_tell held given_at run opening (Informed f) = HasLine sink_tells run.streams run.status run.trace (info_lines f)

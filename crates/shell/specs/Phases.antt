@@ -3,7 +3,7 @@ use Rattle.std.specs.Prelude.{◌≡◌, ◌≢◌, ◌⊎◌, ◌<◌, ◌≤�
 use Rattle.std.specs.List.{cons_option, filter_map}
 use Rattle.vol_types.specs.Faults.{RoseBy}
 use Rattle.dev_model.specs.Devices.{DevicesState}
-use Rattle.dev_model.specs.Frames.{AreAfterCalls, GoOn}
+use Rattle.dev_model.specs.Frames.{AreAfterCalls, AreOnlyRead, GoOn}
 use Rattle.plain_forest.specs.Forest.{Forest}
 use Rattle.text_io.specs.Streams.{GainsBy, GainsTextBy, GivesPrefix}
 use Rattle.script_lines.specs.Replies.{end_line_of}
@@ -11,6 +11,7 @@ use Rattle.forest_ops.specs.History.{EachEntry, History, IsLegal, commit_count}
 use Rattle.forest_ops.specs.declared.operation.Reply.{Reply}
 use Rattle.script_lines.specs.declared.reading.Line.{Line}
 use Rattle.vol_session.specs.Marks.{forest_found}
+use Rattle.volume.specs.States.{AreUnspent}
 use Rattle.vol_session.specs.Sessions.{IsExact, SessionState}
 use Rattle.vol_session.specs.Survivors.{BeginsWell, Survive}
 use Rattle.vol_types.specs.declared.layout.Layout.{Layout}
@@ -28,11 +29,12 @@ use Rattle.geometry.specs.Faults.{fault_device}
 use Rattle.shell.specs.declared.early_end.EarlyEnd.{EarlyEnd}
 use Rattle.shell.specs.EarlyEnds.{end_of_disk}
 use Rattle.shell.specs.declared.early_end.EarlyEnd.TheVariants.{OutOfMemory}
-use Rattle.shell.specs.Mounts.{ComesAfter}
+use Rattle.shell.specs.Mounts.{ComesAfter, InfoCause}
 use Rattle.shell.specs.Outcome.{Answered, ack_by, ack_of, acks_of, acknowledges, early_line, early_status, entries_of, entry_of, format_line, format_status, replies_of, reply_line, reply_lines, synced_by, text_of}
 use Rattle.shell.specs.Printing.{Prints, has_ended}
 use Rattle.shell.specs.Output.{WereMade}
-use Rattle.shell.specs.Survived.{HoldsFresh}
+use Rattle.shell.specs.Survived.{HoldsFresh, Informs}
+use Rattle.vol_info.specs.Lines.{info_lines}
 use Rattle.shell.specs.Causes.{IsCut, IsRunStatus, asked_status, is_failure, is_no_memory}
 
 -- a tally of replies, with one reply more
@@ -157,6 +159,7 @@ pub record RunsOpened {D K : Type 0} (state : D → DevicesState) (devices_tell 
   pub halts : Halts halt start (state devices_after) trace
   pub no_commit : NoCommitAfterHalt (forest_found begun start) trace
   pub causes : HaveCauses start.faults (state devices_after).faults trace
+  pub unspent : AreUnspent devices_tell begun start (state devices_after) trace
   pub acknowledged : AreAcks start.moment (state devices_after).moment trace acks
   pub legal : devices_tell → BeginsWell begun start → IsLegal (forest_found begun start) trace
   pub exact : devices_tell → BeginsWell begun start → EachEntry (IsExact (forest_found begun start)) trace
@@ -169,6 +172,21 @@ pub record EndsUnopened {D K : Type 0} (sink_tells : Type 0) (held : K → List 
   pub same : devices_after ≡ devices
   pub ends : EndsEarly sink_tells (early_line OutOfMemory) (early_status OutOfMemory) (held sink) (held sink_after) (faults sink) (faults sink_after) status trace acks
   pub early : early_end ≡ Some OutOfMemory
+
+-- The devices were only read, and the sink has gained the lines of what was found on them.
+pub record TellsFound (sink_tells devices_tell : Type 0) (old new : DevicesState) (held held_after : List ℕ) (sink_faults sink_faults_after status : ℕ) (early_end : Option EarlyEnd) (trace : History) (acks : List Ack) : Type 0 where
+  pub f : Found
+  pub informs : Informs devices_tell f old new
+  pub early : early_end ≡ None
+  pub ends : EndsEarly sink_tells (info_lines f) 0 held held_after sink_faults sink_faults_after status trace acks
+
+-- The devices were only read, and the sink has gained the line of why there is nothing to tell of them.
+pub record TellsNothing (sink_tells devices_tell : Type 0) (old new : DevicesState) (held held_after : List ℕ) (sink_faults sink_faults_after status : ℕ) (early_end : Option EarlyEnd) (trace : History) (acks : List Ack) : Type 0 where
+  pub end : EarlyEnd
+  pub cause : InfoCause devices_tell old new end
+  pub read : AreOnlyRead devices_tell old new
+  pub early : early_end ≡ Some end
+  pub ends : EndsEarly sink_tells (early_line end) (early_status end) held held_after sink_faults sink_faults_after status trace acks
 
 -- The devices were formatted, or that failed by a fault, and the sink has gained the line that says so.
 pub record Formats (sink_tells devices_tell : Type 0) (layout : Layout) (old new : DevicesState) (held held_after : List ℕ) (sink_faults sink_faults_after status : ℕ) (early_end : Option EarlyEnd) (trace : History) (acks : List Ack) : Type 0 where

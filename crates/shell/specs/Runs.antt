@@ -6,9 +6,10 @@ use Rattle.forest_ops.specs.History.{History}
 use Rattle.run_history.specs.declared.acks.Ack.{Ack}
 use Rattle.shell.specs.declared.early_end.EarlyEnd.{EarlyEnd}
 
--- what the source gave and the sink took, where they tell it
+-- what the source had left, before a run and after it, and what the sink held, where they tell it
 pub record Streams : Type 0 where
   pub left : List ℕ
+  pub left_after : List ℕ
   pub held : List ℕ
   pub held_after : List ℕ
 

@@ -7,7 +7,7 @@ use Rattle.command_words.specs.declared.request.FormatRequest.{FormatRequest}
 use Rattle.command_words.specs.declared.request.Request.{Request}
 use Rattle.command_words.specs.declared.request.Request.TheVariants as requests
 use Rattle.shell.specs.declared.task.Task.{Task}
-use Rattle.shell.specs.declared.task.Task.TheVariants.{Run, Format}
+use Rattle.shell.specs.declared.task.Task.TheVariants.{Run, Format, Info}
 
 -- the layout that is asked for, of so many devices
 abbrev pub layout_asked : ℕ → FormatRequest → Layout
@@ -27,6 +27,7 @@ format_if layout = if is_layout layout then Some (Format layout) else None
 abbrev pub task_for : ℕ → Request → Option Task
 task_for devices requests.Run = Some Run
 task_for devices (requests.Format asked) = format_if (layout_asked devices asked)
+task_for devices requests.Info = Some Info
 
 -- what the arguments are to do; nothing where they are no command, or ask for a layout that no volume may have
 abbrev pub task_of : ℕ → List (List ℕ) → Option Task
@@ -35,6 +36,10 @@ task_of devices arguments = option_and_then (task_for devices) (request_of argum
 -- the arguments ask for a run
 abbrev pub IsRun : List (List ℕ) → List ℕ → Type 0
 IsRun arguments sizes = task_of (length sizes) arguments ≡ Some Run
+
+-- the arguments ask what the devices hold
+abbrev pub IsInfo : List (List ℕ) → List ℕ → Type 0
+IsInfo arguments sizes = task_of (length sizes) arguments ≡ Some Info
 
 -- the arguments ask for a format with this layout, of the devices with these sizes
 abbrev pub IsFormat : List (List ℕ) → List ℕ → Layout → Type 0

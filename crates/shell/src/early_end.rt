@@ -33,7 +33,7 @@ pub enum Refusal {
     Unsound(u8),
 }
 
-/// Why nothing is run or formatted.
+/// Why nothing is run, told or formatted.
 #[derive(Clone, Copy, Debug, PartialEq, Eq)]
 pub enum EarlyEnd {
     /// The arguments are no command, or ask for a layout that no volume may have.
@@ -46,7 +46,7 @@ pub enum EarlyEnd {
     Source,
     /// The volume isn't opened, for this reason.
     Refused(Refusal),
-    /// This device failed while its volume was opened, or while it was formatted.
+    /// This device failed while its volume was opened or read, or while it was formatted.
     Device(u8),
     /// Out of memory.
     OutOfMemory,

@@ -8,7 +8,7 @@ use run_history::Acks;
 pub struct Ended<D> {
     /// 0 where all went well; the program ends with it.
     pub status: u8,
-    /// Why nothing was run or formatted, if so. The sink has its line.
+    /// Why nothing was run, told or formatted, if so. The sink has its line.
     pub early_end: Option<EarlyEnd>,
     /// The devices as the run left them.
     pub devices: D,

@@ -4,6 +4,7 @@
 mod early_end;
 mod ended;
 mod formatting;
+mod info;
 mod mounted;
 mod page;
 mod phases;

@@ -7,11 +7,12 @@ ghost use Rattle.shell.specs.Outcome.{early_line, early_status, formatted_line};
 ghost use Rattle.shell.specs.Tasks.{IsAsked, IsRun, task_of};
 ghost use Rattle.shell.specs.Lines.{AreRunLines};
 ghost use Rattle.shell.specs.Headline.{Headline};
-ghost use Rattle.shell.specs.Phases.{EndsEarly, EndsUnopened, Formats, RunsOpened};
+ghost use Rattle.shell.specs.Phases.{EndsEarly, EndsUnopened, Formats, RunsOpened, TellsFound, TellsNothing};
 
 use crate::early_end::{EarlyEnd, print_early_end, status_of};
 use crate::ended::Ended;
 use crate::formatting::formatted_line;
+use crate::info::info_text;
 use crate::page::Page;
 use crate::phases::{end_run, run_lines};
 use crate::prepare::{Plan, prepare};
@@ -34,7 +35,7 @@ use volume::{Finished, VolState};
 /// Does what the arguments ask for, on the devices. Every line, error lines too, goes to the sink.
 ///
 /// `run` reads the script, opens the volume, answers each line, and syncs. `format` makes a new volume of the devices, and
-/// doesn't touch the source. The status is 0 where all went well, 1 for other arguments, or a layout that no volume may have, 2
+/// doesn't touch the source; nor does `info`, which says what the devices hold, and only reads them. The status is 0 where all went well, 1 for other arguments, or a layout that no volume may have, 2
 /// for a script with a line that is no operation or of more than 16 MiB, 3 where no volume is opened, 4 where the source
 /// failed, 5 where the sink failed, 6 where a device failed, and 7 where it was out of memory.
 pub fn run_words<R, S: Source, K: Sink<D>, D: Devices + Send, G: Gate + Sync>(
@@ -49,7 +50,7 @@ pub fn run_words<R, S: Source, K: Sink<D>, D: Devices + Send, G: Gate + Sync>(
     ensures { Headline S.tells K.tells D.tells K.held K.given_at
         (record {
           arguments = map rc_str_bytes words.now;
-          streams = record { left = S.left source.old; held = K.held sink.old; held_after = K.held sink.new };
+          streams = record { left = S.left source.old; left_after = S.left source.new; held = K.held sink.old; held_after = K.held sink.new };
           faults = record {
             source = S.faults source.old;
             source_after = S.faults source.new;
@@ -93,7 +94,7 @@ pub fn run_task<R, S: Source, K: Sink<D>, D: Devices + Send, G: Gate + Sync>(
         → Headline S.tells K.tells D.tells K.held K.given_at
         (record {
           arguments = arguments;
-          streams = record { left = S.left source.old; held = K.held sink.old; held_after = K.held sink.new };
+          streams = record { left = S.left source.old; left_after = S.left source.new; held = K.held sink.old; held_after = K.held sink.new };
           faults = record {
             source = S.faults source.old;
             source_after = S.faults source.new;
@@ -116,6 +117,7 @@ pub fn run_task<R, S: Source, K: Sink<D>, D: Devices + Send, G: Gate + Sync>(
     runs_are_safe();
     match task {
         Task::Run => run_script(alloc, source, sink, devices, gate),
+        Task::Info => inform(alloc, sink, devices),
         Task::Format(layout) => match formatted_line(alloc, &layout) {
             Ok(line) => format_devices(alloc, &layout, &line, sink, devices),
             Err(_) => end_early(alloc, EarlyEnd::OutOfMemory, sink, devices),
@@ -123,7 +125,7 @@ pub fn run_task<R, S: Source, K: Sink<D>, D: Devices + Send, G: Gate + Sync>(
     }
 }
 
-// Nothing was run or formatted.
+// Nothing was run, told or formatted.
 #[tactic(auto, using(crate::proofs::EarlyEnds::given_prefix))]
 fn end_early<K: Sink<D>, D: Devices>(
     alloc: Global,
@@ -150,8 +152,8 @@ fn end_early<K: Sink<D>, D: Devices>(
     }
 }
 
-// The devices were formatted.
-fn end_formatted<K: Sink<D>, D: Devices>(
+// All that was asked for was done, and this says so.
+fn end_told<K: Sink<D>, D: Devices>(
     alloc: Global,
     line: &Bytes,
     sink: &mut K,
@@ -193,8 +195,24 @@ fn format_devices<K: Sink<D>, D: Devices>(
     fresh_volumes_may_run();
     let mut devices = devices;
     match format(alloc, &mut devices, layout) {
-        Ok(()) => end_formatted(alloc, line, sink, devices),
+        Ok(()) => end_told(alloc, line, sink, devices),
         Err(fault) => end_early(alloc, EarlyEnd::from(fault), sink, devices),
+    }
+}
+
+// Says what the devices hold.
+fn inform<K: Sink<D>, D: Devices>(alloc: Global, sink: &mut K, devices: D) -> Ended<D>
+    ensures informs { TellsFound K.tells D.tells (D.state devices) (D.state result.devices)
+        (K.held sink.old) (K.held sink.new) (K.faults sink.old) (K.faults sink.new) result.status
+        result.early_end result.trace result.acks ⊎ TellsNothing K.tells D.tells (D.state devices)
+        (D.state result.devices) (K.held sink.old) (K.held sink.new) (K.faults sink.old)
+        (K.faults sink.new) result.status result.early_end result.trace result.acks }
+    ensures shorts { result.shorts ≡ [] }
+{
+    let mut devices = devices;
+    match info_text(alloc, &mut devices) {
+        Ok(text) => end_told(alloc, &text, sink, devices),
+        Err(end) => end_early(alloc, end, sink, devices),
     }
 }
 
@@ -210,7 +228,7 @@ fn run_script<S: Source, K: Sink<D>, D: Devices, G: Gate>(
         → Headline S.tells K.tells D.tells K.held K.given_at
         (record {
           arguments = arguments;
-          streams = record { left = S.left source.old; held = K.held sink.old; held_after = K.held sink.new };
+          streams = record { left = S.left source.old; left_after = S.left source.new; held = K.held sink.old; held_after = K.held sink.new };
           faults = record {
             source = S.faults source.old;
             source_after = S.faults source.new;

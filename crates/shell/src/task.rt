@@ -15,6 +15,8 @@ pub enum Task {
     Run,
     /// To format the devices with this layout.
     Format(Layout),
+    /// To say what the devices hold.
+    Info,
 }
 
 /// Reads what the arguments ask for, on so many devices. It touches none of them. `Usage` says that the arguments are outside the
@@ -26,6 +28,7 @@ pub fn read_task(alloc: Global, arguments: &[RcStr], devices: u8) -> Result<Task
 {
     match read_words(alloc, arguments)? {
         Request::Run => Ok(Task::Run),
+        Request::Info => Ok(Task::Info),
         Request::Format(asked) => Ok(Task::Format(read_layout(alloc, &asked, devices)?)),
     }
 }

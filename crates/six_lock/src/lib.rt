@@ -10,6 +10,3 @@
 mod lock;
 
 pub use lock::{Ask, Six};
-
-#[cfg(test)]
-mod tests;

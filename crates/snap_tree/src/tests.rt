@@ -10,7 +10,7 @@ use crate::split::{leaf_under, snap_update};
 use crate::stale::stale_of;
 use std::alloc::{AllocError, Global};
 use std::test::Fail;
-use vol_types::{Duplicate, Key, Keys, Listing, Snap, SnapState, Update, Updates};
+use vol_types::{Duplicate, Key, Keys, Snap, SnapState, Update, Updates};
 
 /// An id with its parent, its children and its state.
 type Row = (u32, u32, u32, u32, SnapState);
@@ -49,18 +49,34 @@ fn snap_keys(alloc: Global, rows: &[Row]) -> Result<Keys, AllocError>
     Ok(keys)
 }
 
+// The trees that rows are.
+fn tree_of(alloc: Global, rows: &[Row]) -> Result<SnapTree, SnapFault> {
+    let keys = snap_keys(alloc, rows)?;
+    SnapTree::of(alloc, &keys)
+}
+
+/// The chain of each id of the two trees but one.
+const CHAINS: [(u32, &[u32]); 5] = [
+    (95, &[95, 98, 100]),
+    (96, &[96, 98, 100]),
+    (97, &[97]),
+    (99, &[99, 100]),
+    (100, &[100]),
+];
+
+// Whether an id has this chain.
+fn has_chain(tree: &SnapTree, id: u32, chain: &[u32]) -> bool {
+    match tree.chain(id) {
+        Ok(found) => found.as_slice() == chain,
+        Err(_) => false,
+    }
+}
+
 #[test]
 fn chains(rt: HostRuntime) -> Result<(), Fail> {
-    let alloc = rt.alloc();
-    let tree = SnapTree::of(alloc, &snap_keys(alloc, &TREES)?)?;
-    for (id, chain) in [
-        (95, [95, 98, 100].as_slice()),
-        (96, [96, 98, 100].as_slice()),
-        (97, [97].as_slice()),
-        (99, [99, 100].as_slice()),
-        (100, [100].as_slice()),
-    ] {
-        assert!(rt; tree.chain(id)?.as_slice() == chain);
+    let tree = tree_of(rt.alloc(), &TREES)?;
+    for (id, chain) in CHAINS {
+        assert!(rt; has_chain(&tree, id, chain));
     }
     for id in [0, 94, 101] {
         assert!(rt; matches!(tree.chain(id), Err(SnapFault::NoNode)));
@@ -68,24 +84,26 @@ fn chains(rt: HostRuntime) -> Result<(), Fail> {
     Ok(())
 }
 
+/// Two ids, and whether the first one is an ancestor of the second one.
+const ANCESTORS: [(u32, u32, bool); 12] = [
+    (100, 95, true),
+    (98, 95, true),
+    (95, 95, true),
+    (100, 99, true),
+    (99, 95, false),
+    (97, 95, false),
+    (96, 95, false),
+    (95, 98, false),
+    (98, 99, false),
+    (0, 97, false),
+    (98, 94, false),
+    (94, 94, false),
+];
+
 #[test]
 fn ancestors(rt: HostRuntime) -> Result<(), Fail> {
-    let alloc = rt.alloc();
-    let tree = SnapTree::of(alloc, &snap_keys(alloc, &TREES)?)?;
-    for (a, b, stands) in [
-        (100, 95, true),
-        (98, 95, true),
-        (95, 95, true),
-        (100, 99, true),
-        (99, 95, false),
-        (97, 95, false),
-        (96, 95, false),
-        (95, 98, false),
-        (98, 99, false),
-        (0, 97, false),
-        (98, 94, false),
-        (94, 94, false),
-    ] {
+    let tree = tree_of(rt.alloc(), &TREES)?;
+    for (a, b, stands) in ANCESTORS {
         assert_eq!(rt; tree.is_ancestor(a, b), stands);
     }
     Ok(())
@@ -98,62 +116,84 @@ fn update_of(row: Row) -> Update
     snap_update(row.0, snap_of(row))
 }
 
+/// The records after a snapshot of 96.
+const SPLIT: [Row; 3] = [
+    (96, 98, 90, 89, SnapState::Interior),
+    (90, 96, 0, 0, SnapState::LiveLeaf),
+    (89, 96, 0, 0, SnapState::LiveLeaf),
+];
+
+// Whether a snapshot of 96 draws 90 and 89, and makes these updates.
+fn is_split(tree: &SnapTree, updates: &Updates) -> Result<bool, SnapFault> {
+    let split = tree.split_leaf(96, 90)?;
+    Ok(split.source == 90 && split.copy == 89 && split.updates == *updates)
+}
+
+// Whether it does so in the two trees.
+fn is_tree_split(alloc: Global, tree: &SnapTree) -> Result<bool, SnapFault> {
+    let updates = put_updates(alloc, &SPLIT)?;
+    is_split(tree, &updates)
+}
+
+// The id of a copy.
+fn copy_of(tree: &SnapTree, id: u32, next: u32) -> Result<u32, SnapFault> {
+    let split = tree.split_leaf(id, next)?;
+    Ok(split.copy)
+}
+
+/// Ids with what is drawn for them, and the copies' ids or why there are none.
+const COPIES: [(u32, u32, Result<u32, SnapFault>); 6] = [
+    (97, 2, Ok(1)),
+    (95, 90, Err(SnapFault::NotLeaf)),
+    (98, 90, Err(SnapFault::NotLeaf)),
+    (94, 90, Err(SnapFault::NoNode)),
+    (96, 1, Err(SnapFault::IdsSpent)),
+    (96, 0, Err(SnapFault::IdsSpent)),
+];
+
 #[test]
 fn splits(rt: HostRuntime) -> Result<(), Fail> {
     let alloc = rt.alloc();
-    let tree = SnapTree::of(alloc, &snap_keys(alloc, &TREES)?)?;
-    let split = tree.split_leaf(96, 90)?;
-    assert_eq!(rt; split.source, 90);
-    assert_eq!(rt; split.copy, 89);
-    let mut updates = Listing::new(alloc);
-    updates.push(update_of((96, 98, 90, 89, SnapState::Interior)))?;
-    updates.push(update_of((90, 96, 0, 0, SnapState::LiveLeaf)))?;
-    updates.push(update_of((89, 96, 0, 0, SnapState::LiveLeaf)))?;
-    assert!(rt; split.updates == updates);
-    assert_eq!(rt; tree.split_leaf(97, 2)?.copy, 1);
-    for (id, next, fault) in [
-        (95, 90, SnapFault::NotLeaf),
-        (98, 90, SnapFault::NotLeaf),
-        (94, 90, SnapFault::NoNode),
-        (96, 1, SnapFault::IdsSpent),
-        (96, 0, SnapFault::IdsSpent),
-    ] {
-        assert_eq!(rt; tree.split_leaf(id, next).err(), Some(fault));
+    let tree = tree_of(alloc, &TREES)?;
+    assert_eq!(rt; is_tree_split(alloc, &tree), Ok(true));
+    for (id, next, copy) in COPIES {
+        assert_eq!(rt; copy_of(&tree, id, next), copy);
     }
     Ok(())
 }
 
+/// Records that make no tree: a parent that is missing, one that is the id itself, and one below it; and a first child that is
+/// missing, and a second one.
+const NO_TREES: [[Row; 2]; 5] = [
+    [
+        (7, 9, 0, 0, SnapState::LiveLeaf),
+        (8, 0, 7, 0, SnapState::Interior),
+    ],
+    [
+        (7, 7, 0, 0, SnapState::LiveLeaf),
+        (8, 0, 7, 0, SnapState::Interior),
+    ],
+    [
+        (7, 0, 0, 0, SnapState::LiveLeaf),
+        (8, 7, 0, 0, SnapState::LiveLeaf),
+    ],
+    [
+        (7, 8, 0, 0, SnapState::LiveLeaf),
+        (8, 0, 6, 7, SnapState::Interior),
+    ],
+    [
+        (7, 8, 0, 0, SnapState::LiveLeaf),
+        (8, 0, 7, 6, SnapState::Interior),
+    ],
+];
+
 #[test]
-fn no_trees(rt: HostRuntime) -> Result<(), Fail> {
+fn no_trees(rt: HostRuntime) {
     let alloc = rt.alloc();
-    for rows in [
-        // a parent that is missing, one that is the id itself, and one below it
-        [
-            (7, 9, 0, 0, SnapState::LiveLeaf),
-            (8, 0, 7, 0, SnapState::Interior),
-        ],
-        [
-            (7, 7, 0, 0, SnapState::LiveLeaf),
-            (8, 0, 7, 0, SnapState::Interior),
-        ],
-        [
-            (7, 0, 0, 0, SnapState::LiveLeaf),
-            (8, 7, 0, 0, SnapState::LiveLeaf),
-        ],
-        // a first child that is missing, and a second one
-        [
-            (7, 8, 0, 0, SnapState::LiveLeaf),
-            (8, 0, 6, 7, SnapState::Interior),
-        ],
-        [
-            (7, 8, 0, 0, SnapState::LiveLeaf),
-            (8, 0, 7, 6, SnapState::Interior),
-        ],
-    ] {
-        let tree = SnapTree::of(alloc, &snap_keys(alloc, &rows)?);
+    for rows in NO_TREES {
+        let tree = tree_of(alloc, &rows);
         assert!(rt; matches!(tree, Err(SnapFault::NoNode)));
     }
-    Ok(())
 }
 
 // The updates that give ids these records, and then take one away, if it isn't 0.
@@ -186,20 +226,27 @@ fn removal(id: u32) -> Update
     update
 }
 
+// Whether a tree has the records of these rows, in their order.
+fn are_records(tree: &SnapTree, rows: &[Row]) -> bool {
+    let mut rest = rows.iter();
+    for (id, snap) in tree.iter() {
+        let Some(row) = rest.next() else { return false };
+        if *id != row.0 || snap_of(*row) != *snap {
+            return false;
+        }
+    }
+    rest.next().is_none()
+}
+
 #[test]
 fn records(rt: HostRuntime) -> Result<(), Fail> {
     let alloc = rt.alloc();
-    let tree = SnapTree::of(alloc, &snap_keys(alloc, &TREES)?)?;
+    let tree = tree_of(alloc, &TREES)?;
     assert_eq!(rt; tree.len(), 6);
     assert_eq!(rt; tree.live_leaves(), 3);
     assert!(rt; !tree.is_empty());
     assert!(rt; SnapTree::new(alloc).is_empty());
-    let mut rows = TREES.iter();
-    for (id, snap) in tree.iter() {
-        let row = rows.next().ok_or("there are no more ids than rows")?;
-        assert_eq!(rt; *id, row.0);
-        assert!(rt; snap_of(*row) == *snap);
-    }
+    assert!(rt; are_records(&tree, &TREES));
     for (id, parent) in [(95, Some(98)), (98, Some(100)), (97, None), (94, None)] {
         assert_eq!(rt; tree.parent(id), parent);
     }
@@ -214,29 +261,61 @@ fn goes(tree: &mut SnapTree, updates: &Updates, chain: &[u32]) -> Result<bool, S
     Ok(tree.chain(89)?.as_slice() == chain)
 }
 
+// Whether ids are given these records, another one is taken away, if it isn't 0, and the chain of 89 is this afterwards.
+fn rows_go(
+    alloc: Global,
+    tree: &mut SnapTree,
+    rows: &[Row],
+    gone: u32,
+    chain: &[u32],
+) -> Result<bool, SnapFault> {
+    let updates = updates_of(alloc, rows, gone)?;
+    goes(tree, &updates, chain)
+}
+
+// Whether a snapshot of 96 is made, and the chain of 89 is right afterwards.
+fn split_goes(tree: &mut SnapTree) -> Result<bool, SnapFault> {
+    let split = tree.split_leaf(96, 90)?;
+    goes(tree, &split.updates, &[89, 96, 98, 100])
+}
+
+/// One id gets a record.
+const ROOT: [Row; 1] = [(88, 0, 0, 0, SnapState::LiveLeaf)];
+
+/// 98 has one child.
+const ONE_CHILD: [Row; 1] = [(98, 100, 96, 0, SnapState::Interior)];
+
+/// 96 stands under 100.
+const WITHOUT_98: [Row; 2] = [
+    (96, 100, 90, 89, SnapState::Interior),
+    (100, 0, 99, 96, SnapState::Interior),
+];
+
+// Whether three changes go: a root of its own; then 95 goes, which leaves 98 with one child; and then 98.
+fn three_go(alloc: Global, tree: &mut SnapTree) -> Result<[bool; 3], SnapFault> {
+    let root = rows_go(alloc, tree, &ROOT, 0, &[89, 96, 98, 100])?;
+    let one = rows_go(alloc, tree, &ONE_CHILD, 95, &[89, 96, 98, 100])?;
+    let none = rows_go(alloc, tree, &WITHOUT_98, 98, &[89, 96, 100])?;
+    Ok([root, one, none])
+}
+
+// Whether a snapshot and three changes go, how many ids a copy from between them has, and how many live leaves there are.
+fn four_go(
+    alloc: Global,
+    tree: &mut SnapTree,
+) -> Result<(bool, [bool; 3], usize, usize), SnapFault> {
+    let split = split_goes(tree)?;
+    let before = tree.copy(alloc)?;
+    let three = three_go(alloc, tree)?;
+    Ok((split, three, before.len(), tree.live_leaves()))
+}
+
 #[test]
 fn updates(rt: HostRuntime) -> Result<(), Fail> {
     let alloc = rt.alloc();
-    let mut tree = SnapTree::of(alloc, &snap_keys(alloc, &TREES)?)?;
-    // a snapshot of 96 and a root of its own; then 95 goes, which leaves 98 with one child; and then 98
-    let split = tree.split_leaf(96, 90)?;
-    assert!(rt; goes(&mut tree, &split.updates, &[89, 96, 98, 100])?);
-    let before = tree.copy(alloc)?;
-    let root = updates_of(alloc, &[(88, 0, 0, 0, SnapState::LiveLeaf)], 0)?;
-    assert!(rt; goes(&mut tree, &root, &[89, 96, 98, 100])?);
-    let one = updates_of(alloc, &[(98, 100, 96, 0, SnapState::Interior)], 95)?;
-    assert!(rt; goes(&mut tree, &one, &[89, 96, 98, 100])?);
-    let none = updates_of(
-        alloc,
-        &[
-            (96, 100, 90, 89, SnapState::Interior),
-            (100, 0, 99, 96, SnapState::Interior),
-        ],
-        98,
-    )?;
-    assert!(rt; goes(&mut tree, &none, &[89, 96, 100])?);
-    assert_eq!(rt; tree.live_leaves(), 5);
-    assert_eq!(rt; before.len(), 8);
+    let mut tree = tree_of(alloc, &TREES)?;
+    let gone = four_go(alloc, &mut tree);
+    assert_eq!(rt; gone, Ok((true, [true; 3], 8, 5)));
     Ok(())
 }
 
@@ -247,18 +326,26 @@ fn is_refused(tree: &mut SnapTree, updates: &Updates) -> bool
     tree.apply(updates).err() == Some(SnapFault::NoNode) && tree.len() == 6
 }
 
+// Whether a record and a removal are refused.
+fn are_refused(alloc: Global, tree: &mut SnapTree, row: Row, gone: u32) -> Result<bool, SnapFault> {
+    let updates = updates_of(alloc, &[row], gone)?;
+    Ok(is_refused(tree, &updates))
+}
+
+/// A parent that is missing, one below its child, a child that is missing, and an id that goes and is named.
+const REFUSED: [(Row, u32); 4] = [
+    ((90, 94, 0, 0, SnapState::LiveLeaf), 0),
+    ((97, 96, 0, 0, SnapState::LiveLeaf), 0),
+    ((91, 0, 96, 94, SnapState::Interior), 0),
+    ((90, 0, 0, 0, SnapState::LiveLeaf), 98),
+];
+
 #[test]
 fn refused_updates(rt: HostRuntime) -> Result<(), Fail> {
     let alloc = rt.alloc();
-    let mut tree = SnapTree::of(alloc, &snap_keys(alloc, &TREES)?)?;
-    // a parent that is missing, one below its child, a child that is missing, and an id that goes and is named
-    for (row, gone) in [
-        ((90, 94, 0, 0, SnapState::LiveLeaf), 0),
-        ((97, 96, 0, 0, SnapState::LiveLeaf), 0),
-        ((91, 0, 96, 94, SnapState::Interior), 0),
-        ((90, 0, 0, 0, SnapState::LiveLeaf), 98),
-    ] {
-        assert!(rt; is_refused(&mut tree, &updates_of(alloc, &[row], gone)?));
+    let mut tree = tree_of(alloc, &TREES)?;
+    for (row, gone) in REFUSED {
+        assert_eq!(rt; are_refused(alloc, &mut tree, row, gone), Ok(true));
     }
     Ok(())
 }
@@ -308,26 +395,33 @@ fn many_rows(alloc: Global, is_long: bool) -> Result<Vec<Row>, AllocError> {
     Ok(rows)
 }
 
+// How far up an ancestor is.
+fn far_up(above: u32, id: u32, is_long: bool) -> Option<u32> {
+    if is_long {
+        in_long(above, id)
+    } else {
+        in_wide(above, id)
+    }
+}
+
+// Whether a search finds the ancestor where it is, and follows a link for each one in the binary digits of how far up.
+fn is_found(tree: &SnapTree, above: u32, id: u32, is_long: bool) -> bool {
+    let mut steps = Steps::new();
+    let found = tree.is_ancestor_counted(above, id, &mut steps);
+    match far_up(above, id, is_long) {
+        None => !found && steps.followed <= 12,
+        Some(far) => found && steps.followed <= 12 && steps.followed == far.count_ones() as u64,
+    }
+}
+
 // The first of 10,000 searches that finds something else, or follows other links than one for each one in the binary
 // digits of how far up the ancestor is.
 fn first_wrong(tree: &SnapTree, is_long: bool) -> Option<u32> {
     for case in 0..10_000 {
         let above = u32::MAX - (case * 101) % MANY;
         let id = u32::MAX - (case * 37) % MANY;
-        let mut steps = Steps::new();
-        let found = tree.is_ancestor_counted(above, id, &mut steps);
-        let far = if is_long {
-            in_long(above, id)
-        } else {
-            in_wide(above, id)
-        };
-        if found != far.is_some() || steps.followed > 12 {
+        if !is_found(tree, above, id, is_long) {
             return Some(case);
-        }
-        if let Some(far) = far {
-            if steps.followed != far.count_ones() as u64 {
-                return Some(case);
-            }
         }
     }
     None
@@ -345,16 +439,31 @@ fn split_lowest(tree: &mut SnapTree) -> Result<u64, SnapFault> {
     Ok(steps.followed)
 }
 
+// A tree of many ids.
+fn many_of(alloc: Global, is_long: bool) -> Result<SnapTree, SnapFault> {
+    let rows = many_rows(alloc, is_long)?;
+    tree_of(alloc, rows.as_slice())
+}
+
+// The first wrong search in a tree of many ids, how many links lead up from a snapshot of the lowest one, and how many live
+// leaves there are then.
+fn searched(alloc: Global, is_long: bool) -> Result<(Option<u32>, u64, usize), SnapFault> {
+    let mut tree = many_of(alloc, is_long)?;
+    search(&mut tree, is_long)
+}
+
+fn search(tree: &mut SnapTree, is_long: bool) -> Result<(Option<u32>, u64, usize), SnapFault> {
+    let wrong = first_wrong(tree, is_long);
+    let links = split_lowest(tree)?;
+    Ok((wrong, links, tree.live_leaves()))
+}
+
 #[test]
 fn many_ids(rt: HostRuntime) -> Result<(), Fail> {
     let alloc = rt.alloc();
     // 4,096 ids up are one link, and 13 are three
     for (is_long, links) in [(true, 1), (false, 3)] {
-        let rows = many_rows(alloc, is_long)?;
-        let mut tree = SnapTree::of(alloc, &snap_keys(alloc, rows.as_slice())?)?;
-        assert_eq!(rt; first_wrong(&tree, is_long), None);
-        assert_eq!(rt; split_lowest(&mut tree)?, links);
-        assert_eq!(rt; tree.live_leaves(), 4097);
+        assert_eq!(rt; searched(alloc, is_long)?, (None, links, 4097));
     }
     Ok(())
 }
@@ -416,10 +525,13 @@ fn first_untold(
     is_long: bool,
     cases: &[TakenOut],
 ) -> Result<Option<u32>, SnapFault> {
-    let rows = many_rows(alloc, is_long)?;
-    let mut tree = SnapTree::of(alloc, &snap_keys(alloc, rows.as_slice())?)?;
+    let mut tree = many_of(alloc, is_long)?;
+    untold_in(&mut tree, cases)
+}
+
+fn untold_in(tree: &mut SnapTree, cases: &[TakenOut]) -> Result<Option<u32>, SnapFault> {
     for case in cases {
-        if !is_as_told(&mut tree, *case)? {
+        if !is_as_told(tree, *case)? {
             return Ok(Some(case.0));
         }
     }
@@ -440,12 +552,17 @@ fn split_links(tree: &SnapTree) -> Result<usize, SnapFault> {
     Ok(links_made(tree, &split.updates)?)
 }
 
+// How many links a root of its own makes.
+fn root_links(alloc: Global, tree: &SnapTree) -> Result<usize, SnapFault> {
+    let root = updates_of(alloc, &ROOT, 0)?;
+    Ok(links_made(tree, &root)?)
+}
+
 #[test]
 fn few_links(rt: HostRuntime) -> Result<(), Fail> {
     let alloc = rt.alloc();
-    let tree = SnapTree::of(alloc, &snap_keys(alloc, &TREES)?)?;
-    assert_eq!(rt; split_links(&tree)?, 2);
-    let root = updates_of(alloc, &[(88, 0, 0, 0, SnapState::LiveLeaf)], 0)?;
-    assert_eq!(rt; links_made(&tree, &root)?, 1);
+    let tree = tree_of(alloc, &TREES)?;
+    assert_eq!(rt; split_links(&tree), Ok(2));
+    assert_eq!(rt; root_links(alloc, &tree), Ok(1));
     Ok(())
 }

@@ -7,8 +7,6 @@ mod calls;
 mod memory;
 mod sink;
 mod source;
-#[cfg(test)]
-mod tests;
 
 pub use adapters::{StdSink, StdSource};
 pub use memory::{MemSink, MemSource};

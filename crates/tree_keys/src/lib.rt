@@ -354,6 +354,3 @@ impl Duplicate for TreeKeys {
         })
     }
 }
-
-#[cfg(test)]
-mod tests;

@@ -13,6 +13,3 @@ mod tree;
 pub use laws::{changes_leave_trees, children_tile, positions_are_covered, ranges_are_divided};
 pub use level::LevelNodes;
 pub use tree::{NotATree, TreeNodes};
-
-#[cfg(test)]
-mod tests;

@@ -3,4 +3,3 @@ pub mod Prefixes
 pub mod Standings
 pub mod Turns
 pub mod Passing
-pub mod Drawing

@@ -1,4 +1,3 @@
 pub mod Passes
 pub mod Rule
 pub mod Handles
-pub mod Drawing

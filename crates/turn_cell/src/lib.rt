@@ -18,6 +18,3 @@ pub use cell::TurnCell;
 pub use machine::Machine;
 pub use pass::Pass;
 pub use view::{Ledger, Standing, View};
-
-#[cfg(test)]
-mod tests;

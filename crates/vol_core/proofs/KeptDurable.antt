@@ -27,6 +27,7 @@ use Rattle.vol_core.specs.Cores.{CoreState, StepGives}
 use Rattle.vol_core.specs.KeptFiles.{KeepsFiles}
 use Rattle.vol_core.specs.Left.{IsSoundFound, KeepsLeft}
 use Rattle.vol_core.specs.Rested.{KeepsRing}
+use Rattle.vol_core.specs.Room.{KeepsRoom, LeavesRoom}
 use Rattle.vol_core.specs.Safety.{IsCoreSafe, KeepsDurable, MayBegin}
 use Rattle.vol_core.proofs.BlockWritten.{block_safe}
 use Rattle.vol_core.proofs.Chains.{IsNoEarlier, all_below, last_durable, led_on}
@@ -144,16 +145,16 @@ module _ {D : Type 0} (laws : CoreLaws) (begun : Found) (start : DevicesState) (
   kept_durable actor event answer gives = durable_kept laws begun start (state old.devices) (state new.devices) old.memory is parts kept (still_safe actor event answer gives)
 
   -- What a crash leaves is what is told of it, whatever event an actor makes.
-  pub left_stepped : MayBegin begun (now start) → KeepsRing old.memory.volume → (IsSoundFound begun → KeepsFiles begun start (state old.devices) old.memory.volume)
+  pub left_stepped : MayBegin begun (now start) → KeepsRing old.memory.volume → (LeavesRoom begun → KeepsRoom old.memory.volume) → (IsSoundFound begun → KeepsFiles begun start (state old.devices) old.memory.volume)
       → (actor : ℕ) (event : Event) (answer : Answer) → StepGives tells state old actor event answer new → KeepsLeft begun start (state old.devices) (state new.devices) old.memory.volume
-  left_stepped begins ring files actor event answer gives =
-      left_kept begun start (state old.devices) (state new.devices) old.memory.volume kept begins ring (still_safe actor event answer gives) (λ sound. (files sound).in_use)
+  left_stepped begins ring room files actor event answer gives =
+      left_kept begun start (state old.devices) (state new.devices) old.memory.volume kept begins ring room (still_safe actor event answer gives) (λ sound. (files sound).in_use)
       (λ sound. files_held laws begun start tells told state old new is parts kept begins sound (files sound) actor event answer gives)
       (needed_held laws begun start tells told state old new is parts kept actor event answer gives)
 
 -- What a crash leaves now is what is told of it.
-pub left_now : StandsWhole → (begun : Found) (start state : DevicesState) (volume : Volume) → IsCoreSafe begun start state volume → MayBegin begun (now start) → KeepsRing volume → (IsSoundFound begun → KeepsFiles begun start state volume)
-    → KeepsLeft begun start state state volume
-left_now stands begun start state volume kept begins ring files =
-    left_kept begun start state state volume kept begins ring kept.safe.safe (λ sound. (files sound).in_use) (λ sound. still_holds begun start state state (spares_here (IsOfFiles begun) state) (files sound).left)
+pub left_now : StandsWhole → (begun : Found) (start state : DevicesState) (volume : Volume) → IsCoreSafe begun start state volume → MayBegin begun (now start) → KeepsRing volume → (LeavesRoom begun → KeepsRoom volume)
+    → (IsSoundFound begun → KeepsFiles begun start state volume) → KeepsLeft begun start state state volume
+left_now stands begun start state volume kept begins ring room files =
+    left_kept begun start state state volume kept begins ring room kept.safe.safe (λ sound. (files sound).in_use) (λ sound. still_holds begun start state state (spares_here (IsOfFiles begun) state) (files sound).left)
     (still_needed kept.f state state (spares_here (IsNeededPlace kept.f) state) (stands kept.f kept.image kept.writing kept.asked kept.written kept.bases kept.durable start.moment state kept.safe))

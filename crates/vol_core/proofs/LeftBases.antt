@@ -34,11 +34,13 @@ use Rattle.vol_core.specs.Entries.{FliesAs, IsInFlight}
 use Rattle.vol_core.specs.KeptFiles.{AreInUse}
 use Rattle.vol_core.specs.Left.{HoldsFiles, IsDurableBase, IsFlightBase, IsSoundFound, IsWholeOnAll, KeepsLeft, LieApartFromFiles}
 use Rattle.vol_core.specs.Rested.{DoCommitsRise, KeepsRing}
+use Rattle.vol_core.specs.Room.{KeepsRoom, LeavesRoom}
 use Rattle.vol_core.specs.Safety.{AreLed, IsCoreSafe, IsLed, MayBegin}
 use Rattle.vol_core.proofs.BucketChanges.{no_user_held}
 use Rattle.vol_core.proofs.Chains.{all_below, last_durable}
 use Rattle.vol_core.proofs.JoinedLists.{each_of_joined, none_counted}
 use Rattle.vol_core.proofs.LeafTrees.{IsLeafRoot}
+use Rattle.vol_core.proofs.RoomLeft.{durable_leaves, flight_leaves}
 use Rattle.vol_core.proofs.Surviving.{HoldsNeeded}
 
 -- ---- what all bases have in common
@@ -102,6 +104,7 @@ record IsLiveBase (volume : Volume) (base : Found) : Type 0 where
   pub placed : AreNodesPlaced (node_places base) base.layout
   pub sequence : ℕ
   pub held : All (IsHeldPast sequence volume.space) (node_places base)
+  pub room : KeepsRoom volume → LeavesRoom base
 
 -- ---- what is left
 
@@ -164,6 +167,7 @@ module _ (begun : Found) (start old new : DevicesState) (volume : Volume) (kept 
     placed = kept.safe.stands.placed;
     sequence = kept.f.last.entry.sequence;
     held = kept.kept.lie.found;
+    room = durable_leaves begun start old volume kept;
   }
 
   live_with : KeepsRing volume → (w : Writing) → kept.writing ≡ Some w → IsLiveBase volume (after w kept.f)
@@ -174,6 +178,7 @@ module _ (begun : Found) (start old new : DevicesState) (volume : Volume) (kept 
         updates = leaves_with w is;
         placed = writing_is.placed;
         sequence = w.next.entry.sequence;
+        room = λ room. flight_leaves begun start old volume kept room w is;
         held = subst (λ (o : Option Writing). IfSome o (λ v. All (IsHeldPast v.next.entry.sequence volume.space) (node_places (after v kept.f)))) is kept.kept.lie.next;
       }
 
@@ -198,10 +203,10 @@ module _ (begun : Found) (start old new : DevicesState) (volume : Volume) (kept 
 
     -- Whatever a crash leaves at a moment of an event is what is told of it, where it means one of the bases from before, and holds the blocks of files, and each entry that the
     -- last durable one needs.
-    pub left_kept : KeepsRing volume → IsSafe kept.f.layout kept.bases kept.durable start.moment new → (IsSoundFound begun → AreInUse begun volume.space)
+    pub left_kept : KeepsRing volume → (LeavesRoom begun → KeepsRoom volume) → IsSafe kept.f.layout kept.bases kept.durable start.moment new → (IsSoundFound begun → AreInUse begun volume.space)
         → (IsSoundFound begun → (moment : ℕ) → old.moment ≤ moment → moment ≤ new.moment → (image : Image) → IsCrashImage (new.disks moment) image → HoldsFiles begun start image)
         → ((moment : ℕ) → old.moment ≤ moment → moment ≤ new.moment → (image : Image) → IsCrashImage (new.disks moment) image → HoldsNeeded kept.f image) → KeepsLeft begun start old new volume
-    left_kept ring safe in_use files needed moment from to image may untorn =
+    left_kept ring room safe in_use files needed moment from to image may untorn =
         let first = kept.safe.stands.begun in
         let means : MeansOneOf kept.bases kept.durable moment image =
         safe.each moment (omega (arith, first, from)) to image may (subst (λ (layout : Layout). IsUntorn layout start.moment moment new image) (sym kept.known.layout) untorn) in
@@ -217,6 +222,7 @@ module _ (begun : Found) (start old new : DevicesState) (volume : Volume) (kept 
           live = live.live;
           leaves = record { roots = same.roots; updates = live.updates };
           placed = live.placed;
+          room = λ leaves. live.room (room leaves);
           apart = λ sound. lie_apart begun volume.space means.base live.sequence (in_use sound) live.held;
           files = λ sound. files sound moment from to image may;
           whole = whole_left image (needed moment from to image may);

@@ -31,6 +31,9 @@ pub mod Rested
 pub mod RingKept
 pub mod RingOpened
 pub mod RingStepped
+pub mod RoomKept
+pub mod RoomOpened
+pub mod RoomLeft
 pub mod Remembered
 pub mod JoinedLists
 pub mod BucketChanges

@@ -54,7 +54,7 @@ alone_false : (test : Bool) → (test && true) ≡ false → test ≡ false
 alone_false true is = absurd (true≢false is)
 alone_false false is = refl
 
-both_true : (one other : Bool) → one ≡ true → other ≡ true → (one && other) ≡ true
+pub both_true : (one other : Bool) → one ≡ true → other ≡ true → (one && other) ≡ true
 both_true true other first second = second
 both_true false other first second = absurd (true≢false (sym first))
 
@@ -67,7 +67,7 @@ nil_of [] none = refl
 nil_of (x ∷ xs) none = absurd (omega (arith, none))
 
 -- Where the first of those that pass a test isn't there, none passes it.
-none_passes : {X : Type 0} (test : X → Bool) (xs : List X) → slice_get (filter test xs) 0 ≡ None → All (λ x. test x ≡ false) xs
+pub none_passes : {X : Type 0} (test : X → Bool) (xs : List X) → slice_get (filter test xs) 0 ≡ None → All (λ x. test x ≡ false) xs
 none_passes test [] none = All-nil (λ x. test x ≡ false)
 none_passes {X} test (x ∷ xs) none = by (test x) refl none (none_passes test xs)
   where
@@ -75,7 +75,7 @@ none_passes {X} test (x ∷ xs) none = by (test x) refl none (none_passes test x
     by true is none rest = absurd cc
     by false is none rest = All-cons (λ x. test x ≡ false) x xs is (rest none)
 
-each_is_one : (btree : Btree) → Contains all_btrees btree
+pub each_is_one : (btree : Btree) → Contains all_btrees btree
 each_is_one Extents = (0, omega arith, refl)
 each_is_one Inodes = (1, omega arith, refl)
 each_is_one Dirents = (2, omega arith, refl)
@@ -134,14 +134,14 @@ nodes_resting None None volume is = (refl, nil_of volume.work.finished (by (leng
     by true none is = eqb-true (length volume.work.finished) 0 none
     by false some is = absurd (flush_rests_nothing (first_flag 0 (take volume.writer.ring.mirrors volume.writer.unsettled)) CommitNodes place_is_no_rest is)
 
-map_none : {X Y : Type 0} (f : X → Y) (o : Option X) → option_map f o ≡ None → o ≡ None
+pub map_none : {X Y : Type 0} (f : X → Y) (o : Option X) → option_map f o ≡ None → o ≡ None
 map_none f None is = refl
 map_none f (Some x) is = absurd cc
 
 -- ---- what a volume at rest is
 
 -- Nothing is written where nothing is in flight.
-nothing_written : (f : Found) (flight : Option Flight) (writing : Option Writing) (asked written : ℕ) (volume : Volume) → flight ≡ None → FliesAs f flight writing asked written volume → writing ≡ None
+pub nothing_written : (f : Found) (flight : Option Flight) (writing : Option Writing) (asked written : ℕ) (volume : Volume) → flight ≡ None → FliesAs f flight writing asked written volume → writing ≡ None
 nothing_written f None None asked written volume none flies = refl
 nothing_written f None (Some w) asked written volume none flies = absurd flies
 nothing_written f (Some flight) writing asked written volume none flies = absurd cc

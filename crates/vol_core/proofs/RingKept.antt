@@ -77,7 +77,7 @@ pub rises_pinned : (seq : ℕ) (births : List ℕ) (numbers : List (ℕ × ℕ))
 rises_pinned seq [] numbers rises = rises
 rises_pinned seq (birth ∷ births) numbers rises = rises_pinned seq births (with_pin birth seq numbers) (IsMap-with_value nat_cmp_total birth (smaller seq (value_at nat_cmp birth numbers)) numbers rises)
 
-smaller_to : (seq : ℕ) (before : Option ℕ) → smaller seq before ≤ seq
+pub smaller_to : (seq : ℕ) (before : Option ℕ) → smaller seq before ≤ seq
 smaller_to seq None = omega arith
 smaller_to seq (Some pin) = omega arith
 
@@ -207,7 +207,7 @@ first_open : (closed : List Pending) (one other : Pending) → other.behind ≡ 
 first_open [] one other same = same
 first_open (entry ∷ closed) one other same = refl
 
-oldest_joined : (close : Bool) (changes : KeyChanges) (counted : Bool) (queue : Queue) → (oldest (joined_by close changes counted queue)).behind ≡ (oldest queue).behind
+pub oldest_joined : (close : Bool) (changes : KeyChanges) (counted : Bool) (queue : Queue) → (oldest (joined_by close changes counted queue)).behind ≡ (oldest queue).behind
 oldest_joined true changes counted queue = ap (λ (entry : Pending). entry.behind) (first_push queue.closed queue.open_entry (with_commit changes counted (follower_of queue.mirrors queue.open_entry)))
 oldest_joined false changes counted queue = first_open queue.closed queue.open_entry (with_commit changes counted queue.open_entry) refl
 
@@ -332,7 +332,7 @@ row_left [] queue row = tt
 row_left (entry ∷ later) queue row = row.1
 
 -- The next entry's blocks are behind those of the one that is taken out.
-oldest_left : (closed : List Pending) (queue : Queue) → AreInARow queue.mirrors closed queue.open_entry → (oldest (left_by closed queue)).behind ≡ last_of queue.mirrors (first_of closed queue.open_entry)
+pub oldest_left : (closed : List Pending) (queue : Queue) → AreInARow queue.mirrors closed queue.open_entry → (oldest (left_by closed queue)).behind ≡ last_of queue.mirrors (first_of closed queue.open_entry)
 oldest_left [] queue row = refl
 oldest_left (entry ∷ later) queue row = row.0.blocks
 
@@ -341,14 +341,14 @@ commits_left : (closed : List Pending) (queue : Queue) → AreInARow queue.mirro
 commits_left [] queue row = omega arith
 commits_left (entry ∷ later) queue row = row.0.commits
 
-first_stays : (starts more : List ℕ) → 0 < length starts → first_start (starts ++ more) ≡ first_start starts
+pub first_stays : (starts more : List ℕ) → 0 < length starts → first_start (starts ++ more) ≡ first_start starts
 first_stays starts more some = get_or_append_left starts more 0 0 some
 
-last_pushed : (starts : List ℕ) (start : ℕ) → last_start (starts ++ start ∷ []) ≡ start
+pub last_pushed : (starts : List ℕ) (start : ℕ) → last_start (starts ++ start ∷ []) ≡ start
 last_pushed starts start = get_or_push starts start 0 (length (starts ++ start ∷ []) - 1) (let all : length (starts ++ start ∷ []) ≡ length starts + 1 = length-append starts (start ∷ []) in omega (arith, all))
 
 -- There is a start, since an entry is needed.
-some_start : (writing : Option Writing) (starts : List ℕ) (needed : List FoundEntry) → AreStarts starts (entries_with writing needed) → 0 < length needed → 0 < length starts
+pub some_start : (writing : Option Writing) (starts : List ℕ) (needed : List FoundEntry) → AreStarts starts (entries_with writing needed) → 0 < length needed → 0 < length starts
 some_start None starts needed are some = let count = starts_count starts needed are in omega (arith, count, some)
 some_start (Some w) starts needed are some = let count = starts_count starts (needed ++ w.next ∷ []) are in omega (arith, count, some, length-append needed (w.next ∷ []))
 
@@ -360,16 +360,16 @@ module _ (begun : Found) (start state : DevicesState) (volume : Volume) (is : Is
       let mirrored : IsMirrored safe.f.layout root = (safe.kept.stand btree).mirrored in
       sym (length-map root.places (λ (place : Place). place.dev)) ∙ ap (λ (devs : List ℕ). length devs) mirrored ∙ length-range_with_len 0 safe.f.layout.metadata_replicas ∙ ap (λ (layout : Layout). layout.metadata_replicas) safe.known.layout ∙ sym is.mirrors
 
-  module _ (new : Volume) (flown : IsFlown volume new) where
-    parts_are : parts_of (next_record volume) ≡ blocks_with volume.queue.mirrors (oldest volume.queue).changes.updates
-    parts_are =
-        let nine : length (roots_in volume.trees.nodes) ≡ 9 = flown.sealed.valid.in_range.all_roots in
-        let named : roots_in volume.trees.nodes ≡ map (root_in volume.trees.nodes) all_btrees = nine_roots volume.trees.nodes (sym (length-map volume.trees.nodes root_of) ∙ nine) in
-        let each : All (λ (root : NodePtr). length root.places ≡ volume.queue.mirrors) (map (root_in volume.trees.nodes) all_btrees) =
-        All-map (λ (root : NodePtr). length root.places ≡ volume.queue.mirrors) (root_in volume.trees.nodes) all_btrees (λ k d within. root_places (get_or all_btrees k d)) in
-        parts_counted volume.queue.mirrors (oldest_needed volume) volume.session (roots_in volume.trees.nodes) (oldest volume.queue) nine
-        (subst (λ (roots : List NodePtr). All (λ (root : NodePtr). length root.places ≡ volume.queue.mirrors) roots) (sym named) each)
+  -- The next entry takes the blocks that the queue counts, where nine roots are named.
+  pub parts_are : length (roots_in volume.trees.nodes) ≡ 9 → parts_of (next_record volume) ≡ blocks_with volume.queue.mirrors (oldest volume.queue).changes.updates
+  parts_are nine =
+      let named : roots_in volume.trees.nodes ≡ map (root_in volume.trees.nodes) all_btrees = nine_roots volume.trees.nodes (sym (length-map volume.trees.nodes root_of) ∙ nine) in
+      let each : All (λ (root : NodePtr). length root.places ≡ volume.queue.mirrors) (map (root_in volume.trees.nodes) all_btrees) =
+      All-map (λ (root : NodePtr). length root.places ≡ volume.queue.mirrors) (root_in volume.trees.nodes) all_btrees (λ k d within. root_places (get_or all_btrees k d)) in
+      parts_counted volume.queue.mirrors (oldest_needed volume) volume.session (roots_in volume.trees.nodes) (oldest volume.queue) nine
+      (subst (λ (roots : List NodePtr). All (λ (root : NodePtr). length root.places ≡ volume.queue.mirrors) roots) (sym named) each)
 
+  module _ (new : Volume) (flown : IsFlown volume new) where
     flown_ring : KeepsRing (record volume { queue = without_oldest volume.queue; writer = with_entry new.writer.ring.blocks (oldest volume.queue) (oldest_needed volume) volume.writer })
     flown_ring = record {
       rises = ring.rises;
@@ -381,7 +381,7 @@ module _ (begun : Found) (start state : DevicesState) (volume : Volume) (is : Is
       behind =
           let next = oldest_left volume.queue.closed volume.queue ring.row in
           let count : length new.writer.ring.blocks ≡ parts_of (next_record volume) = flown.sealed.blocks.count in
-          let parts = parts_are in
+          let parts = parts_are flown.sealed.valid.in_range.all_roots in
           let before = ring.behind in
           omega (arith, next, count, parts, before);
       commits = (
@@ -402,7 +402,7 @@ module _ (begun : Found) (start state : DevicesState) (volume : Volume) (is : Is
 
 -- ---- a leaf that is frozen
 
-oldest_to : (mirrors : ℕ) (closed : List Pending) (open_entry : Pending) → AreInARow mirrors closed open_entry → (first_of closed open_entry).after ≤ open_entry.after
+pub oldest_to : (mirrors : ℕ) (closed : List Pending) (open_entry : Pending) → AreInARow mirrors closed open_entry → (first_of closed open_entry).after ≤ open_entry.after
 oldest_to mirrors [] open_entry row = omega arith
 oldest_to mirrors (entry ∷ later) open_entry row = let next = row.0.sequence in let rest = oldest_to mirrors later open_entry row.1 in omega (arith, next, rest)
 
@@ -479,11 +479,11 @@ no_set_places : (node : ℕ) → WriteSet node ≡ CommitNodes → ⊥
 no_set_places node is = cc
 
 -- All frozen leaves are written where they are to be put in place.
-none_left : (left due : Option ℕ) (volume : Volume) → node_stage_by left due volume ≡ CommitNodes → left ≡ None
+pub none_left : (left due : Option ℕ) (volume : Volume) → node_stage_by left due volume ≡ CommitNodes → left ≡ None
 none_left None due volume is = refl
 none_left (Some node) due volume is = absurd (no_set_places node is)
 
-all_finished : (finished : List FrozenNode) (unfinished : Option UnfinishedNode) → birth_left unfinished ≡ None → finished ++ left_nodes unfinished ≡ finished
+pub all_finished : (finished : List FrozenNode) (unfinished : Option UnfinishedNode) → birth_left unfinished ≡ None → finished ++ left_nodes unfinished ≡ finished
 all_finished finished None none = append-nil finished
 all_finished finished (Some left) none = absurd (none-some left.node.birth (sym none))
 
@@ -493,14 +493,14 @@ rises_moved later (node ∷ frozen) pins rises =
     rises_moved later frozen (moved_pin node.birth node.fresh.birth (value_at nat_cmp node.birth later) pins) (rises-moved node.birth node.fresh.birth (value_at nat_cmp node.birth later) pins rises)
 
 -- One of the leaves that are put in place has this birth, and this entry is noted of it.
-record IsPlaced (later : List (ℕ × ℕ)) (frozen : List FrozenNode) (birth number : ℕ) : Type 0 where
+pub record IsPlaced (later : List (ℕ × ℕ)) (frozen : List FrozenNode) (birth number : ℕ) : Type 0 where
   pub node : FrozenNode
   pub member : Contains frozen node
   pub fresh : node.fresh.birth ≡ birth
   pub noted : value_at nat_cmp node.birth later ≡ Some number
 
 -- The node was pinned so before, and is none in whose place a leaf is put.
-record IsUnmoved (pins : List (ℕ × ℕ)) (frozen : List FrozenNode) (birth number : ℕ) : Type 0 where
+pub record IsUnmoved (pins : List (ℕ × ℕ)) (frozen : List FrozenNode) (birth number : ℕ) : Type 0 where
   pub pinned : value_at nat_cmp birth pins ≡ Some number
   pub apart : All (λ (node : FrozenNode). node.birth ≢ birth) frozen
 
@@ -534,7 +534,7 @@ moved_by later birth number (node ∷ frozen) pins rises at = ⊎_elim
     at_fresh false is apart at = at_old (is_at (nat_cmp node.birth) birth) refl apart (sym (value_at-without nat_cmp_total node.birth birth pins rises) ∙ at)
 
 module _ (places : PlaceLaws) (volume : Volume) (is : IsVolume volume) (ring : KeepsRing volume) (new : Volume) (placed : AreInPlace volume new) where
-  frozen_leaves : AreFrozenLeaves volume.trees.nodes volume.pins volume.work.finished
+  pub frozen_leaves : AreFrozenLeaves volume.trees.nodes volume.pins volume.work.finished
   frozen_leaves = subst (λ (frozen : List FrozenNode). AreFrozenLeaves volume.trees.nodes volume.pins frozen) (all_finished volume.work.finished volume.work.unfinished (none_left (first_left volume.work) (birth_due volume) volume placed.stage.stage_is)) is.work.leaves
 
   abbrev placed_nodes : List Levels
@@ -556,7 +556,7 @@ module _ (places : PlaceLaws) (volume : Volume) (is : IsVolume volume) (ring : K
           let leaf = frozen_leaves.each k d within in
           apart k d within (sym leaf.birth ∙ sym (ap (λ (levels : Levels). (root_of levels).birth) leaf.alone) ∙ ap (λ (b : Btree). (root_in volume.trees.nodes b).birth) same ∙ root)
 
-  placed_pinned : (birth number : ℕ) → value_at nat_cmp birth (moved_pins volume.work.finished volume.later volume.pins) ≡ Some number → IsPlaced volume.later volume.work.finished birth number ⊎ IsUnmoved volume.pins volume.work.finished birth number
+  pub placed_pinned : (birth number : ℕ) → value_at nat_cmp birth (moved_pins volume.work.finished volume.later volume.pins) ≡ Some number → IsPlaced volume.later volume.work.finished birth number ⊎ IsUnmoved volume.pins volume.work.finished birth number
   placed_pinned birth number at = moved_by volume.later birth number volume.work.finished volume.pins ring.rises at
 
   placed_roots : ArePinnedRoots placed_nodes (moved_pins volume.work.finished volume.later volume.pins)

@@ -1,6 +1,6 @@
 -- The core stays safe where the entry in flight becomes the last durable one.
 use Rattle.std.proofs.Common.{◌≡◌, ◌≤◌, ◌+◌, ℕ, zero, suc, List, [], ◌∷◌, ◌++◌, drop, take, length, Option, Some, None, refl, sym, ap, subst, ◌∙◌, arith}
-use Rattle.std.proofs.lemmas.List.{drop-append-le, length-append, length-drop}
+use Rattle.std.proofs.lemmas.List.{length-append, length-drop}
 use Rattle.std.proofs.lemmas.Option.{same_Some}
 use Rattle.btree_map.specs.Trees.{keys_in}
 use Rattle.bucket_pool.specs.Space.{settled_space}
@@ -16,7 +16,6 @@ use Rattle.entry_writer.specs.Writers.{first_flag, passed, settled_by, stage_by}
 use Rattle.entry_writer.specs.declared.stage.Stage.TheVariants.{Settle}
 use Rattle.entry_writer.specs.declared.writer.Flight.{Flight}
 use Rattle.image_view.specs.Found.{Found}
-use Rattle.journal_ring.specs.declared.found.FoundEntry.{FoundEntry}
 use Rattle.journal_safety.specs.Flushes.{AreSettled}
 use Rattle.journal_safety.specs.NodeWritings.{IsSafeWithNodes, IsWritingWithNodes}
 use Rattle.journal_safety.specs.Writings.{Writing, after}
@@ -29,7 +28,7 @@ use Rattle.vol_core.specs.Safety.{AreUpTo, IsCoreSafe}
 use Rattle.vol_core.specs.VolumeLeaves.{leaves_in}
 use Rattle.vol_core.specs.CoreLaws.{CoreLaws}
 use Rattle.vol_core.proofs.HeldLeaves.{holds_back}
-use Rattle.vol_core.proofs.NeededEntries.{starts_count, starts_drop, starts_first}
+use Rattle.vol_core.proofs.NeededEntries.{starts_first, starts_passed}
 use Rattle.vol_core.proofs.Stages.{clear_is_unset, flags_clear, resting_settles_nothing, settling_is_whole}
 
 -- This moment isn't after itself, and the others aren't.
@@ -80,21 +79,8 @@ module _ (laws : CoreLaws) (begun : Found) (start : DevicesState) (volume : Volu
     within : w.passed ≤ length f.needed
     within = writing_is.next.passes
 
-    needed_are : drop w.passed (f.needed ++ w.next ∷ []) ≡ drop w.passed f.needed ++ w.next ∷ []
-    needed_are = drop-append-le w.passed f.needed (w.next ∷ []) within
-
-    passed_is : passed flight.oldest volume.writer ≡ w.passed
-    passed_is =
-        let count : length volume.writer.starts ≡ length f.needed + 1 = starts_count volume.writer.starts (f.needed ++ w.next ∷ []) starts ∙ length-append f.needed (w.next ∷ []) in
-        let known = kept.known.oldest in
-        let here = oldest_is in
-        let new = new_oldest in
-        let most = within in
-        omega (arith, count, known, here, new, most)
-
     new_starts : AreStarts (drop (passed flight.oldest volume.writer) volume.writer.starts) (drop w.passed f.needed ++ w.next ∷ [])
-    new_starts = subst (λ (n : ℕ). AreStarts (drop n volume.writer.starts) (drop w.passed f.needed ++ w.next ∷ [])) (sym passed_is)
-        (subst (λ (entries : List FoundEntry). AreStarts (drop w.passed volume.writer.starts) entries) needed_are (starts_drop w.passed volume.writer.starts (f.needed ++ w.next ∷ []) starts))
+    new_starts = starts_passed f volume flight w kept.known writing_is.next oldest_is starts
 
     new_known : IsKnown (after w f) after_it
     new_known = record {

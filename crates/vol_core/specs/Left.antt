@@ -18,6 +18,7 @@ use Rattle.replay.specs.NodeUpdates.{EachUpdate}
 use Rattle.vol_types.specs.Limits.{bucket_blocks}
 use Rattle.vol_types.specs.declared.pointers.NodePtr.{NodePtr}
 use Rattle.vol_core.specs.Entries.{IsKnown}
+use Rattle.vol_core.specs.Room.{LeavesRoom}
 
 -- The base is what the last durable entry leads to: it has as many commits as are durable, and from its keys the changes that aren't durable lead to those
 -- in memory.
@@ -65,8 +66,8 @@ pub record IsWholeOnAll (volume : Volume) (image : Image) : Type 0 where
   pub whole : (index : ℕ) → index < length durable.needed → StandsOnAll volume.layout image (slice_index_or durable.needed index durable.last)
 
 -- What a crash leaves is found in order, in the layout and the session that began: it is what the last durable entry leads to, or the one in flight. Each btree is
--- one leaf, and nodes lie where they may; where what was found at the opening was sound, no node lies among blocks of files, and these are as they were; and each entry that
--- the last durable one needs stands whole on every metadata device.
+-- one leaf, and nodes lie where they may; where what was found at the opening was sound, no node lies among blocks of files, and these are as they were; where it left room in the
+-- ring, this does; and each entry that the last durable one needs stands whole on every metadata device.
 pub record IsLeft (begun : Found) (start : DevicesState) (volume : Volume) (image : Image) : Type 0 where
   pub base : Found
   pub finds : found image ≡ Ok base
@@ -76,6 +77,7 @@ pub record IsLeft (begun : Found) (start : DevicesState) (volume : Volume) (imag
   pub live : IsDurableBase volume base ⊎ IsFlightBase volume base
   pub leaves : AreLeaves base
   pub placed : AreNodesPlaced (node_places base) base.layout
+  pub room : LeavesRoom begun → LeavesRoom base
   pub apart : IsSoundFound begun → LieApartFromFiles begun base
   pub files : IsSoundFound begun → HoldsFiles begun start image
   pub whole : IsWholeOnAll volume image

@@ -6,3 +6,4 @@ pub mod CoreLaws
 pub mod Rested
 pub mod Left
 pub mod KeptFiles
+pub mod Room

@@ -7,8 +7,6 @@ mod formatting;
 mod fresh;
 mod laws;
 mod steps;
-#[cfg(test)]
-mod tests;
 mod writing;
 
 pub use formatting::{FormatFault, format};

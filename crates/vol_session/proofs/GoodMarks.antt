@@ -1,5 +1,5 @@
 -- The key map in memory means the forest after the history of the session; and so the marks stay good with one entry more, and with one mark more where it is a commit.
-use Rattle.std.proofs.Common.{◌≡◌, ◌≤◌, ◌<◌, ◌+◌, ◌-◌, ℕ, Bool, true, false, cond, List, [], ◌∷◌, ◌++◌, Some, length, get_or, refl, sym, ap, subst, ◌∙◌, ⊎_elim, arith}
+use Rattle.std.proofs.Common.{◌≡◌, ◌≤◌, ◌<◌, ◌+◌, ℕ, Bool, true, false, cond, List, [], ◌∷◌, ◌++◌, Some, length, get_or, refl, sym, ap, subst, ◌∙◌, ⊎_elim, arith}
 use Rattle.std.proofs.lemmas.Bool.{cases_lt}
 use Rattle.std.proofs.lemmas.List.Elements.{All-head, All-tail}
 use Rattle.std.proofs.lemmas.List.{length-append}
@@ -22,13 +22,13 @@ use Rattle.plain_forest.specs.Forest.{Forest}
 use Rattle.vol_session.specs.Marks.{AreGoodMarks, IsAtMarks, IsGoodMark, IsMarkAt, commits_found, forest_found}
 use Rattle.vol_types.specs.Btrees.{btree_code}
 use Rattle.vol_types.specs.KeyMapLaws.{IsKeyMap-with_updates, entries_of-with_update}
-use Rattle.vol_types.specs.KeyMaps.{Entries, IsKeyMap, KeyMap, is_update_of, with_update, with_updates}
+use Rattle.vol_types.specs.KeyMaps.{Entries, KeyMap, is_update_of, with_update, with_updates}
 use Rattle.vol_types.specs.Maps.{put_at}
 use Rattle.vol_types.specs.Positions.{pos_cmp}
 use Rattle.vol_types.specs.declared.keys.Update.{Update}
 use Rattle.vol_types.specs.declared.positions.Btree.{Btree}
 use Rattle.vol_types.specs.declared.positions.Btree.TheVariants.{Extents, Inodes, Dirents, Subvols, Snapshots, Alloc, Backptrs, Deleted, Counters}
-use Rattle.vol_session.proofs.LaterForests.{after_its_commits, after_one_more, earlier_stays, one_commit_more, same_count, same_forests}
+use Rattle.vol_session.proofs.LaterForests.{after_its_commits, after_one_more, earlier_stays}
 use Rattle.vol_session.proofs.MarkParts.{memory_marked}
 use Rattle.vol_session.proofs.MarkedEntries.{get_pushed, get_stays}
 use Rattle.vol_session.proofs.MovedMarks.{at_parts}

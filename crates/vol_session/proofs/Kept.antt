@@ -3,16 +3,16 @@ use Rattle.std.proofs.Common.{◌≡◌, ◌≤◌, ◌+◌, ◌-◌, ℕ, true,
 use Rattle.std.proofs.lemmas.Bool.{leb-true}
 use Rattle.std.proofs.lemmas.List.Elements.{All-nil, All-push, All-weaker}
 use Rattle.std.proofs.lemmas.Option.{same_Some, slice_get-get_or, slice_get_within}
-use Rattle.std.specs.Prelude.{◌<◌, All, slice_get}
+use Rattle.std.specs.Prelude.{All, slice_get}
 use Rattle.btree_map.specs.KeyLaws.{key_map-trees}
-use Rattle.btree_map.specs.Trees.{Trees, keys_in}
+use Rattle.btree_map.specs.Trees.{keys_in}
 use Rattle.core_memory.specs.Commits.{IsCommitted}
 use Rattle.core_memory.specs.Events.{CommitGives, IsMade, intended_by}
 use Rattle.core_memory.specs.Opening.{IsOpened, opened_by}
 use Rattle.core_memory.specs.States.{State}
 use Rattle.core_memory.specs.declared.answer.Answer.{Answer}
 use Rattle.core_memory.specs.declared.answer.Answer.TheVariants as answers
-use Rattle.core_memory.specs.Volumes.{IsVolume, Volume, are_durable, changes_in}
+use Rattle.core_memory.specs.Volumes.{IsVolume, KeepParts, Volume, are_durable, changes_in}
 use Rattle.dev_model.specs.Devices.{DevicesState, now}
 use Rattle.dev_model.specs.Disk.{as_read}
 use Rattle.dev_model.specs.FrameLaws.{go_on_here, go_on_then}
@@ -22,7 +22,6 @@ use Rattle.entry_queue.specs.Queues.{IsQueue, Queue, joined, oldest, waiting}
 use Rattle.entry_queue.specs.declared.changes.KeyChanges.{KeyChanges}
 use Rattle.entry_writer.specs.Writers.{Writer}
 use Rattle.entry_writer.specs.declared.writer.Flight.{Flight}
-use Rattle.forest_ops.specs.Classes.{class_of, is_changing, may_fail}
 use Rattle.forest_ops.specs.History.{History, IsLegalEntry, after_all, commits as is_commit_of, is_done}
 use Rattle.forest_ops.specs.HistoryLaws.{EachEntry-none, EachEntry-push, IsLegal-none, IsLegal-push}
 use Rattle.forest_ops.specs.Steps.{answer_of}
@@ -47,19 +46,20 @@ use Rattle.vol_core.specs.Left.{KeepsLeft}
 use Rattle.vol_core.specs.Rested.{DoCommitsRise}
 use Rattle.vol_core.specs.Safety.{MayBegin}
 use Rattle.vol_session.specs.Marks.{AreGoodMarks, IsAtMarks, IsGoodMark, commits_found, forest_found}
+use Rattle.vol_session.specs.Numbers.{AreNumbersCounted}
 use Rattle.vol_session.specs.Sessions.{IsCounted, IsExact, IsFailureNow, IsPlanNow, IsSafeSession, IsSession, IsToldNow, IsUncommitted}
 use Rattle.vol_session.specs.Survivors.{BeginsWell}
 use Rattle.vol_session.specs.Writing.{KeepsWriter}
 use Rattle.vol_types.specs.KeyMaps.{IsKeyMap, KeyMap, with_updates}
 use Rattle.vol_types.specs.declared.keys.Update.{Update}
-use Rattle.vol_types.specs.declared.layout.Layout.{Layout}
-use Rattle.vol_types.specs.declared.pointers.Place.{Place}
 use Rattle.vol_session.proofs.GoodMarks.{good_joined, good_told, memory_means, memory_sound, memory_tidy}
 use Rattle.vol_session.proofs.LaterForests.{one_commit_more, same_count}
 use Rattle.vol_session.proofs.MarkParts.{AreAtMarks, joined_at, joined_commits, joined_oldest}
 use Rattle.vol_session.proofs.MovedMarks.{at_parts, moved_at, moved_commits, moved_durable, moved_layout, moved_rise, parts_at}
 use Rattle.vol_session.proofs.Moves.{Moves}
 use Rattle.vol_session.proofs.NextEntries.{acks_later, acks_synced, acks_told, answer_is_exact, answer_is_legal, commit_is_exact, sync_is_exact, sync_is_legal}
+use Rattle.vol_session.proofs.NumbersKept.{low-committed}
+use Rattle.vol_session.proofs.NumbersStepped.{numbers-opened}
 use Rattle.vol_session.proofs.Surviving.{FoundKeys, survive_acknowledged, survive_begun, survive_stepped, survive_told}
 use Rattle.vol_session.proofs.WriterKept.{writer-committed, writer-opened}
 
@@ -94,6 +94,7 @@ module _ (laws : FoundKeys) (tells : Type 0) (loaded : Loaded) (newest : FoundEn
           acks_are = record { counts = refl; moments = omega arith };
           goes_on = go_on_here start;
           writer = subst KeepsWriter is writer;
+          numbers = numbers-opened loaded.layout loaded.session loaded.map loaded.needed (node_places loaded_found) newest loaded_found start last_is refl refl;
         })
 
     opened_rise : DoCommitsRise memory.volume.writer.flight memory.volume.writer.durable.commits (oldest memory.volume.queue).commits
@@ -169,10 +170,10 @@ past_then : (first second third : DevicesState) → first.moment ≤ second.mome
 past_then first second third later one other moment before = other moment (omega (arith, before, later)) ∙ one moment before
 
 -- A session keeps it over such an event.
-pub stepped : (laws : FoundKeys) (tells : Type 0) (begun : Found) (start old new : DevicesState) (memory after : State) (trace : History) (acks : List Ack) (commits : ℕ) → Moves memory.volume after.volume → KeepsWriter after.volume → IsQueue memory.volume.queue
+pub stepped : (laws : FoundKeys) (tells : Type 0) (begun : Found) (start old new : DevicesState) (memory after : State) (trace : History) (acks : List Ack) (commits : ℕ) → Moves memory.volume after.volume → KeepsWriter after.volume → AreNumbersCounted begun start new commits after.volume → IsQueue memory.volume.queue
     → GoOn old new → (tells → KeepsPast old new) → (tells → MayBegin begun (now start) → KeepsLeft begun start old new memory.volume)
     → IsSession tells begun start old memory trace acks commits → IsSession tells begun start new after trace acks commits
-stepped laws tells begun start old new memory after trace acks commits moves writer queue goes past left is =
+stepped laws tells begun start old new memory after trace acks commits moves writer numbers queue goes past left is =
     let counted = is.counted in
     record {
       counted = record {
@@ -186,6 +187,7 @@ stepped laws tells begun start old new memory after trace acks commits moves wri
         acks_are = acks_later start.moment old.moment new.moment trace acks goes.later counted.acks_are;
         goes_on = go_on_then start old new counted.goes_on goes;
         writer = writer;
+        numbers = numbers;
       };
       rise = moved_rise memory.volume after.volume moves queue.followed is.rise;
       past = λ told. past_then start old new counted.goes_on.later (is.past told) (past told);
@@ -257,9 +259,9 @@ module _ (tells : Type 0) (begun : Found) (start state : DevicesState) (memory :
   read = read_in (as_read (now start))
 
   -- With the entry of a commit that was made it keeps it.
-  pub committed : (leads : LeadsOn) (after : State) → IsVolume memory.volume → IsMade memory 0 true after → ((forest : Forest) → is_commit_of op reply forest ≡ true) → IsPlanNow memory 0 (record { op = op; updates = intended_by memory 0; reply = reply })
+  pub committed : (leads : LeadsOn) (after : State) → IsVolume memory.volume → KeepParts memory.volume → IsMade memory 0 true after → ((forest : Forest) → is_commit_of op reply forest ≡ true) → IsPlanNow memory 0 (record { op = op; updates = intended_by memory 0; reply = reply })
       → IsSession tells begun start state after longer acks (commits + 1)
-  committed leads after volume made commit plan_now = record {
+  committed leads after volume parts made commit plan_now = record {
     counted = record {
       layout = ap (λ (v : Volume). v.layout) made.made.rest ∙ counted.layout;
       commits_are =
@@ -274,6 +276,7 @@ module _ (tells : Type 0) (begun : Found) (start state : DevicesState) (memory :
       acks_are = acks_told start.moment state.moment trace acks entry unsynced counted.acks_are;
       goes_on = counted.goes_on;
       writer = writer-committed memory after 0 true volume counted.writer made;
+      numbers = λ moments. low-committed begun commits (state.moment - start.moment) updates memory.volume after.volume parts made.made (counted.numbers moments);
     };
     rise = committed_rise leads begun updates memory.volume after.volume made.made is.rise;
     past = is.past;
@@ -313,6 +316,7 @@ module _ (tells : Type 0) (begun : Found) (start state : DevicesState) (memory :
       acks_are = acks_told start.moment state.moment trace acks entry unsynced is.counted.acks_are;
       goes_on = is.counted.goes_on;
       writer = is.counted.writer;
+      numbers = is.counted.numbers;
     }
 
     module _ (safe : IsSafeSession begun start state memory.volume trace acks) where
@@ -380,6 +384,7 @@ module _ (laws : FoundKeys) (tells : Type 0) (begun : Found) (start state : Devi
     acks_are = acks_synced start.moment state.moment 0 commits trace acks is.counted.acks_are;
     goes_on = is.counted.goes_on;
     writer = is.counted.writer;
+    numbers = is.counted.numbers;
   }
 
   synced_safe : BeginsWell begun start → KeepsLeft begun start state state memory.volume → IsSafeSession begun start state memory.volume trace acks → IsSafeSession begun start state memory.volume (trace ++ sync ∷ []) (acks ++ ack ∷ [])

@@ -1,3 +1,4 @@
+pub mod BornBefore
 pub mod GoodMarks
 pub mod JoinedPlaces
 pub mod Kept
@@ -7,6 +8,9 @@ pub mod MarkedEntries
 pub mod MovedMarks
 pub mod Moves
 pub mod NextEntries
+pub mod NumbersKept
+pub mod NumbersLeft
+pub mod NumbersStepped
 pub mod Surviving
 pub mod SurvivingAcks
 pub mod SurvivingBases

@@ -1,5 +1,5 @@
 -- The marks stand as they did, and commits don't fall, whatever an event does that commits nothing.
-use Rattle.std.proofs.Common.{◌≡◌, ◌≤◌, ◌+◌, ℕ, Option, Some, None, List, [], ◌∷◌, refl, sym, ap, subst, ◌∙◌, ⊎_elim, arith}
+use Rattle.std.proofs.Common.{◌≡◌, ◌≤◌, ℕ, Option, Some, None, List, [], ◌∷◌, refl, sym, ap, subst, ◌∙◌, ⊎_elim, arith}
 use Rattle.btree_map.specs.Trees.{keys_in}
 use Rattle.core_memory.specs.Sealing.{IsFlown, oldest_needed, settled_volume}
 use Rattle.core_memory.specs.Volumes.{Volume, commits_of}
@@ -11,7 +11,6 @@ use Rattle.image_view.specs.Found.{Found}
 use Rattle.vol_core.specs.Rested.{DoCommitsRise}
 use Rattle.vol_session.specs.Marks.{IsAtMarks, commits_found}
 use Rattle.vol_types.specs.KeyMaps.{KeyMap}
-use Rattle.vol_types.specs.declared.layout.Layout.{Layout}
 use Rattle.vol_session.proofs.MarkParts.{AreAtMarks, sealed_at, settled_at}
 use Rattle.vol_session.proofs.Moves.{KeepsEntries, Moves, flown_free}
 

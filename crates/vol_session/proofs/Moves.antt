@@ -2,7 +2,7 @@
 use Rattle.std.proofs.Common.{◌≡◌, ◌⊎◌, inl, inr, ℕ, Bool, true, false, cond, Option, Some, None, refl, sym, ap, subst, ⊎_elim}
 use Rattle.std.specs.Prelude.{◌==◌, length, take}
 use Rattle.btree_map.specs.Trees.{keys_in}
-use Rattle.core_memory.specs.Checkpoints.{after_refused, with_block}
+use Rattle.core_memory.specs.Checkpoints.{after_refused}
 use Rattle.core_memory.specs.Events.{CommitNodesGives, EventGives, FlushGives, FreezeGives, SealGives, SettleGives, Waits, WriteGives, WriteSetGives}
 use Rattle.core_memory.specs.Sealing.{IsFlown, settled_volume, with_writer}
 use Rattle.core_memory.specs.States.{State, other_holder}
@@ -15,15 +15,12 @@ use Rattle.core_memory.specs.declared.answer.Refusal.TheVariants as refusals
 use Rattle.core_memory.specs.declared.event.Event.{Event}
 use Rattle.core_memory.specs.declared.event.Event.TheVariants as events
 use Rattle.dev_model.specs.Devices.{DevicesState}
-use Rattle.entry_queue.specs.Queues.{Queue}
-use Rattle.entry_writer.specs.Writers.{Writer, first_flag, flush_before, stage_by, with_flushed, with_next_part, unsettled_by}
+use Rattle.entry_writer.specs.Writers.{Writer, first_flag, flush_before, stage_by, unsettled_by}
 use Rattle.entry_writer.specs.declared.stage.Stage.{Stage}
 use Rattle.entry_writer.specs.declared.stage.Stage.TheVariants.{Seal, Settle, WriteEntry}
 use Rattle.entry_writer.specs.declared.writer.Flight.{Flight}
 use Rattle.vol_core.specs.Cores.{CoreState, StepGives}
 use Rattle.vol_session.specs.Sessions.{IsNoCommit}
-use Rattle.vol_types.specs.KeyMaps.{KeyMap}
-use Rattle.vol_types.specs.declared.layout.Layout.{Layout}
 
 -- ---- an entry is put in flight only where none is
 
@@ -81,7 +78,7 @@ keeps_halted : (halt : Halt) (volume : Volume) → KeepsEntries volume (halted_a
 keeps_halted halt volume = record { flight = refl; durable = refl; queue = refl; keys = refl; layout = refl }
 
 -- Where an actor waits for another one, nothing changes.
-waits_same : (OrElse : Type 0) (holder : Option ℕ) (old : State) (answer : Answer) (new : State) → Waits holder old answer new OrElse → (OrElse → new.volume ≡ old.volume) → new.volume ≡ old.volume
+pub waits_same : (OrElse : Type 0) (holder : Option ℕ) (old : State) (answer : Answer) (new : State) → Waits holder old answer new OrElse → (OrElse → new.volume ≡ old.volume) → new.volume ≡ old.volume
 waits_same OrElse None old answer new waits same = same waits
 waits_same OrElse (Some holder) old answer new waits same = ap (λ (s : State). s.volume) waits.1
 

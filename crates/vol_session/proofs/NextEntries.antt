@@ -1,5 +1,5 @@
 -- One more entry of a history: it is legal and exact, and is acknowledged where it says how many commits are durable.
-use Rattle.std.proofs.Common.{◌≡◌, ◌⊎◌, ◌≤◌, ℕ, Bool, true, false, inl, Option, Some, None, Result, Ok, Err, List, [], ◌∷◌, ◌++◌, map, refl, sym, ap, subst, ◌∙◌, arith}
+use Rattle.std.proofs.Common.{◌≡◌, ◌≤◌, ℕ, Bool, true, false, inl, Option, Some, None, Result, Ok, Err, List, [], ◌∷◌, ◌++◌, refl, sym, ap, ◌∙◌, arith}
 use Rattle.std.proofs.lemmas.Bool.{false≢true}
 use Rattle.std.proofs.lemmas.List.{append-nil, map_push}
 use Rattle.std.proofs.lemmas.List.Elements.{filter_map-append}
@@ -7,11 +7,11 @@ use Rattle.std.proofs.lemmas.Option.{none-some as none_some}
 use Rattle.std.specs.List.{cons_option, filter_map}
 use Rattle.std.specs.Prelude.{◌&&◌, ◌||◌, not}
 use Rattle.plain_forest.specs.Forest.{Forest}
-use Rattle.forest_ops.specs.Classes.{class_of, is_changing, is_lost, looks, may_fail, may_have}
-use Rattle.forest_ops.specs.History.{EachEntry, History, IsLegalEntry, after_all, commit_count, commits, is_done, is_idle, up_to_own, with_numbers}
+use Rattle.forest_ops.specs.Classes.{class_of, is_changing, looks, may_fail, may_have}
+use Rattle.forest_ops.specs.History.{History, IsLegalEntry, after_all, commit_count, commits, is_done, is_idle, with_numbers}
 use Rattle.forest_ops.specs.HistoryLaws.{commit_count-up_to_own}
 use Rattle.forest_ops.specs.Refusals.{◌>>=◌}
-use Rattle.forest_ops.specs.Steps.{Next, answer_of, new_place, next_of, reply_or}
+use Rattle.forest_ops.specs.Steps.{answer_of, new_place, next_of, reply_or}
 use Rattle.forest_ops.specs.Trees.{Place}
 use Rattle.forest_ops.specs.declared.operation.Cause.{Cause}
 use Rattle.forest_ops.specs.declared.operation.Class.{Class}

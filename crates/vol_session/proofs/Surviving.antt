@@ -71,6 +71,7 @@ left_survives laws begun start state volume trace acks others commits marks begi
       sound = subst (IsSound base.trees.keys (node_places base)) (sym left.layout)
           (same_sound begun base begins.sound (left.apart begins.sound) base.trees.keys begun.layout mark.extents mark.tidy mark.sound (subst (AreNodesPlaced (node_places base)) left.layout left.placed));
       tidy = mark.tidy;
+      room = left.room;
       count = count;
       commits = omega (arith, from);
       least = omega (arith, durable, enough);
@@ -135,6 +136,7 @@ survive_told begun start state trace acks entry survive moment from to image may
       leaves = survived.leaves;
       sound = survived.sound;
       tidy = survived.tidy;
+      room = survived.room;
       count = survived.count;
       commits = survived.commits;
       least = survived.least;
@@ -154,6 +156,7 @@ same_acknowledged begun start trace acks others moment image same survived = rec
   leaves = survived.leaves;
   sound = survived.sound;
   tidy = survived.tidy;
+  room = survived.room;
   count = survived.count;
   commits = survived.commits;
   least = subst (λ (n : ℕ). n ≤ survived.count) (sym same) survived.least;

@@ -22,7 +22,6 @@ use Rattle.vol_types.specs.declared.pointers.Place.{Place}
 use Rattle.vol_types.specs.declared.pointers.Pointer.{Pointer}
 use Rattle.vol_types.specs.declared.positions.Btree.TheVariants.{Extents}
 use Rattle.vol_types.specs.declared.positions.Pos.{Pos}
-use Rattle.vol_types.specs.declared.values.Extent.{Extent}
 use Rattle.vol_types.specs.declared.values.Value.{Value}
 use Rattle.vol_types.specs.declared.values.Value.TheVariants as values
 use Rattle.vol_session.proofs.JoinedPlaces.{at_index, counted_itself, each_joined}

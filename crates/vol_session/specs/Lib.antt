@@ -1,4 +1,5 @@
 pub mod Marks
 pub mod Writing
+pub mod Numbers
 pub mod Survivors
 pub mod Sessions

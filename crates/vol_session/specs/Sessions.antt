@@ -10,8 +10,7 @@ use Rattle.core_memory.specs.declared.answer.Answer.TheVariants.{NoMemory, Refus
 use Rattle.core_memory.specs.Volumes.{Volume, commits_of}
 use Rattle.core_memory.specs.declared.event.Event.{Event}
 use Rattle.core_memory.specs.declared.event.Event.TheVariants as events
-use Rattle.dev_model.specs.Devices.{DevicesState, now}
-use Rattle.dev_model.specs.Disk.{as_read}
+use Rattle.dev_model.specs.Devices.{DevicesState}
 use Rattle.dev_model.specs.Frames.{GoOn}
 use Rattle.entry_queue.specs.Queues.{oldest}
 use Rattle.forest_ops.specs.Classes.{class_of, is_changing, may_fail}
@@ -22,7 +21,7 @@ use Rattle.forest_ops.specs.declared.operation.Op.{Op}
 use Rattle.forest_ops.specs.declared.operation.Reply.{Reply}
 use Rattle.fs_plan.specs.Plans.{IsPlanOf, is_planned}
 use Rattle.fs_plan.specs.declared.planned.Plan.{Plan}
-use Rattle.image_view.specs.Found.{Found, read_in}
+use Rattle.image_view.specs.Found.{Found}
 use Rattle.key_meaning.specs.Checks.{IsSound}
 use Rattle.key_meaning.specs.Forest.{Read, forest_in}
 use Rattle.key_meaning.specs.Tidy.{IsTidy}
@@ -33,6 +32,7 @@ use Rattle.run_history.specs.declared.acks.Ack.{Ack}
 use Rattle.vol_core.specs.Cores.{CoreState}
 use Rattle.vol_core.specs.Rested.{DoCommitsRise}
 use Rattle.vol_session.specs.Marks.{AreGoodMarks, IsAtMarks, commits_found, forest_found}
+use Rattle.vol_session.specs.Numbers.{AreNumbersCounted}
 use Rattle.vol_session.specs.Survivors.{BeginsWell, Survive}
 use Rattle.vol_session.specs.Writing.{KeepsWriter}
 use Rattle.vol_types.specs.KeyMaps.{KeyMap}
@@ -85,8 +85,8 @@ pub record IsSafeSession (begun : Found) (start state : DevicesState) (volume : 
   pub legal : IsLegal (forest_found begun start) trace
   pub exact : EachEntry (IsExact (forest_found begun start)) trace
 
--- What is kept in any case: commits and acknowledgements are counted, no more is acknowledged than is durable, each operation is one that is planned, and what the
--- journal needs next can be done.
+-- What is kept in any case: commits and acknowledgements are counted, no more is acknowledged than is durable, each operation is one that is planned, what the
+-- journal needs next can be done, and numbers rise slowly.
 pub record IsCounted (begun : Found) (start state : DevicesState) (volume : Volume) (trace : History) (acks : List Ack) (commits : ℕ) : Type 0 where
   pub layout : volume.layout ≡ begun.layout
   pub commits_are : commits_of volume ≡ commits_found begun + commits
@@ -96,6 +96,7 @@ pub record IsCounted (begun : Found) (start state : DevicesState) (volume : Volu
   pub acks_are : AreAcks start.moment state.moment trace acks
   pub goes_on : GoOn start state
   pub writer : KeepsWriter volume
+  pub numbers : AreNumbersCounted begun start state commits volume
 
 -- What a session keeps. No entry has fewer commits than the one before it, and none than are durable.
 pub record IsSession (tells : Type 0) (begun : Found) (start state : DevicesState) (memory : State) (trace : History) (acks : List Ack) (commits : ℕ) : Type 0 where

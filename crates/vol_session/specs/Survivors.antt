@@ -10,6 +10,7 @@ use Rattle.replay.specs.Mending.{IsUntorn, StandsOnAll}
 use Rattle.run_history.specs.Acknowledged.{acknowledged}
 use Rattle.run_history.specs.declared.acks.Ack.{Ack}
 use Rattle.vol_core.specs.Left.{AreLeaves, IsSoundFound}
+use Rattle.vol_core.specs.Room.{LeavesRoom}
 use Rattle.vol_core.specs.Safety.{MayBegin}
 use Rattle.vol_session.specs.Marks.{commits_found, forest_found}
 
@@ -28,7 +29,8 @@ pub record IsAcknowledgedOnAll (begun : Found) (acks : List Ack) (moment : ℕ) 
   pub whole : (index : ℕ) → index < length durable.needed → StandsOnAll begun.layout image (slice_index_or durable.needed index durable.last)
 
 -- The image mounts as the volume after a prefix of the commits of the history, in the layout and the session that began, with all that was acknowledged by this
--- moment: it is in order, sound and tidy, and each of its btrees is one leaf, so that it can be opened again; and what was acknowledged stands whole on every metadata device.
+-- moment: it is in order, sound and tidy, and each of its btrees is one leaf, so that it can be opened again; it leaves room in the ring where what was found did; and what was
+-- acknowledged stands whole on every metadata device.
 pub record HasSurvived (begun : Found) (start : DevicesState) (trace : History) (acks : List Ack) (moment : ℕ) (image : Image) : Type 0 where
   pub base : Found
   pub finds : found image ≡ Ok base
@@ -38,6 +40,7 @@ pub record HasSurvived (begun : Found) (start : DevicesState) (trace : History) 
   pub leaves : AreLeaves base
   pub sound : IsSoundFound base
   pub tidy : IsTidy base.trees.keys
+  pub room : LeavesRoom begun → LeavesRoom base
   pub count : ℕ
   pub commits : base.last.entry.commits ≡ commits_found begun + count
   pub least : acknowledged acks moment ≤ count

@@ -1,4 +1,4 @@
-ghost use Rattle.std.specs.Prelude.{◌≡◌, ◌≢◌, ◌++◌, ◌∷◌, ◌+◌, ◌<◌, [], ℕ, All, IfErr, IfOk, IfSome, None, OnOk, length, true, false};
+ghost use Rattle.std.specs.Prelude.{◌≡◌, ◌≢◌, ◌++◌, ◌∷◌, ◌+◌, ◌<◌, ◌^◌, [], ℕ, All, IfErr, IfOk, IfSome, None, OnOk, length, true, false};
 ghost use Rattle.core_memory.specs.Events.{Fits, IsMade, intended_by};
 ghost use Rattle.core_memory.specs.Opening.{IsOpened};
 ghost use Rattle.core_memory.specs.Volumes.{are_durable};
@@ -16,14 +16,17 @@ ghost use Rattle.run_history.specs.Acknowledged.{AreAcks, synced_count};
 ghost use Rattle.vol_core.specs.Cores.{StepGives};
 ghost use Rattle.vol_core.specs.Left.{failed_by};
 ghost use Rattle.vol_core.specs.Rested.{HasRoomAfterCheckpoint, IsRested};
+ghost use Rattle.vol_core.specs.Room.{HasRoomForNext, LeavesRoom};
 ghost use Rattle.vol_session.specs.Marks.{commits_found, forest_found};
 ghost use Rattle.vol_session.specs.Sessions.{IsCounted, IsExact, IsNoCommit, IsPlanNow, IsToldNow, IsUncommitted};
+ghost use Rattle.vol_session.specs.Numbers.{HasNumbersLeft, IsFarFromSpent};
 ghost use Rattle.vol_session.specs.Survivors.{BeginsWell, Survive};
 ghost use Rattle.vol_types.specs.declared.positions.Btree.TheVariants.{Extents};
 
 use dev_model::Devices;
 use entry_queue::waiting_changes_lead_from_durable_keys;
 use forest_ops::{Entry, Op, Reply, Trace};
+use node_work::leaves_are_put_in_place;
 use replay::{Loaded, found_btrees_are_a_key_map};
 use run_history::{Ack, Acks};
 use std::alloc::{AllocError, Global};
@@ -100,6 +103,14 @@ impl<D: Devices, O: Opening> Session<D, O> {
         self.core.memory()
     }
 
+    /// Where the devices tell what they hold, and the session began well with a volume that left room in the ring of the journal, the next entry finds room.
+    pub fn see_room(&self)
+        ensures { D.tells → BeginsWell O.found O.start → LeavesRoom O.found
+            → HasRoomForNext self.now.core.memory.volume }
+    {
+        let _ = self.core.memory();
+    }
+
     /// The devices on which the volume lies.
     pub fn devices(&self) -> &D
         ensures { result.now ≡ self.now.core.devices }
@@ -139,6 +150,7 @@ impl<D: Devices, O: Opening> Session<D, O> {
             (λ dev. dev < length (D.state self.old.core.devices).sizes) }
     {
         found_btrees_are_a_key_map();
+        leaves_are_put_in_place();
         self.core.memory().see_kept();
         self.core.step(0, event)
     }
@@ -250,6 +262,15 @@ impl<D: Devices, O: Opening> Session<D, O> {
         ensures survive { D.tells → BeginsWell O.found O.start → Survive O.found O.start
             (D.state self.now.core.devices) self.now.trace self.now.acks }
     {
+        let _ = &self.commits;
+    }
+
+    /// No number is used up where what was found is far from that and the session is short: each is left that may be drawn next.
+    pub fn see_numbers(&self)
+        ensures { IsFarFromSpent O.found O.start (D.state self.now.core.devices)
+            → length self.now.trace < 2 ^ 31 → HasNumbersLeft self.now.core.memory.volume }
+    {
+        self.core.memory().see_kept();
         let _ = &self.commits;
     }
 

@@ -107,6 +107,3 @@ impl Duplicate for FlaggedName {
         })
     }
 }
-
-#[cfg(test)]
-mod tests;

@@ -211,6 +211,7 @@ module _ (before after : ℕ) (old : State) (is : IsState old) where
           refl,
           record {
             before = old.volume;
+            kept = is.volume;
             node = node;
             idle = ap (λ (n : NoSpace). n.idle) refused.6 ∙ exhausted old.volume rests is.volume.in_turn.waiting_ones;
             lacked = (refused, refl);

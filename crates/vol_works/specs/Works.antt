@@ -4,7 +4,7 @@ use Rattle.btree_map.specs.Trees.{keys_in}
 use Rattle.core_memory.specs.Checkpoints.{IsFreezeRefused, IsPlacingRefused, after_refused}
 use Rattle.core_memory.specs.Sealing.{IsSealRefused}
 use Rattle.core_memory.specs.States.{State, mine}
-use Rattle.core_memory.specs.Volumes.{Volume, commits_of}
+use Rattle.core_memory.specs.Volumes.{IsVolume, Volume, commits_of}
 use Rattle.core_memory.specs.declared.actor.Actor.{Actor}
 use Rattle.core_memory.specs.declared.answer.NoSpace.{NoSpace}
 use Rattle.core_memory.specs.declared.answer.Refusal.{Refusal}
@@ -43,9 +43,10 @@ pub record LacksNumber (volume : Volume) : Type 0 where
   pub node : ℕ
   pub lacks : IsSealRefused volume refusals.Spent ⊎ IsFreezeRefused node volume refusals.Spent ⊎ IsPlacingRefused volume refusals.Spent
 
--- The volume came to be so as the freezing of a leaf found no free bucket, and a checkpoint begun anew would end alike.
+-- The volume came to be so, from one with all that is kept of volumes, as the freezing of a leaf found no free bucket, and a checkpoint begun anew would end alike.
 pub record LackedSpace (volume : Volume) (none : NoSpace) : Type 0 where
   pub before : Volume
+  pub kept : IsVolume before
   pub node : ℕ
   pub idle : none.idle ≡ true
   pub lacked : IsFreezeRefused node before (refusals.NoSpace none) × (volume ≡ after_refused (refusals.NoSpace none) before)

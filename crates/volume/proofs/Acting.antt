@@ -1,19 +1,19 @@
 -- What events of client 0 make of what is in memory.
-use Rattle.std.proofs.Common.{◌≡◌, ℕ, ◌<◌, Bool, true, false, Option, Some, None, List, [], refl, sym, ap, ◌∙◌, subst, arith, ⊎_elim}
-use Rattle.std.specs.Prelude.{◌≢◌, IsSome, unwrap_or}
+use Rattle.std.proofs.Common.{◌≡◌, ℕ, ◌<◌, true, Option, Some, None, List, [], refl, sym, ap, ◌∙◌, subst, arith, ⊎_elim}
+use Rattle.std.specs.Prelude.{IsSome, unwrap_or}
 use Rattle.std.proofs.lemmas.Bool.{true≢false}
 use Rattle.std.proofs.lemmas.List.{get_or-set_same}
 use Rattle.btree_map.specs.Trees.{keys_in}
 use Rattle.commit_plan.specs.Ids.{id_trees}
 use Rattle.core_memory.specs.Actors.{begun, committed, ended, holds, idle_actor, noted, with_ids, with_intent, with_look}
-use Rattle.core_memory.specs.Events.{EventGives, Fits, Gives, HasIds, IsMade, Waits, intended_by}
+use Rattle.core_memory.specs.Commits.{AreIntended}
+use Rattle.core_memory.specs.Events.{EventGives, Fits, HasIds, IsMade, Waits, intended_by}
 use Rattle.core_memory.specs.Rulings.{IsRefused}
 use Rattle.core_memory.specs.States.{IsState, State, actor_count, mine, other_holder, with_mine}
 use Rattle.core_memory.specs.Volumes.{Volume, commits_of}
 use Rattle.core_memory.specs.declared.actor.Actor.{Actor}
 use Rattle.core_memory.specs.declared.answer.Answer.{Answer}
 use Rattle.core_memory.specs.declared.answer.Answer.TheVariants as answers
-use Rattle.core_memory.specs.declared.answer.Halt.{Halt}
 use Rattle.core_memory.specs.declared.answer.Refusal.{Refusal}
 use Rattle.core_memory.specs.declared.event.Event.TheVariants as events
 use Rattle.forest_ops.specs.declared.operation.Op.{Op}
@@ -25,10 +25,8 @@ use Rattle.fs_plan.specs.declared.planned.Plan.{Plan}
 use Rattle.key_meaning.specs.Checks.{IsSound}
 use Rattle.key_meaning.specs.Forest.{Read, forest_in}
 use Rattle.key_meaning.specs.Tidy.{IsTidy}
-use Rattle.snap_tree.specs.Snaps.{Snaps}
 use Rattle.vol_session.specs.Sessions.{IsPlanNow, IsUncommitted}
 use Rattle.vol_types.specs.KeyMaps.{KeyMap, answer_of}
-use Rattle.vol_types.specs.declared.keys.Key.{Key}
 use Rattle.vol_types.specs.declared.keys.Update.{Update}
 use Rattle.vol_types.specs.declared.layout.Layout.{Layout}
 use Rattle.vol_types.specs.declared.pointers.Place.{Place}
@@ -177,6 +175,7 @@ pub record KeepsIntent (old new : State) : Type 0 where
   pub operation : (mine new 0).operation ≡ (mine old 0).operation
   pub intended : (mine new 0).intended ≡ (mine old 0).intended
   pub turn : new.turn ≡ old.turn
+  pub layout : new.volume.layout ≡ old.volume.layout
 
 -- Where that stays, what it intends makes the change still.
 pub intended_still : (op : Op) (old new : State) → KeepsIntent old new → IsIntended old op → IsIntended new op
@@ -187,16 +186,20 @@ intended_still op old new keeps is = record {
   };
   change = is.change;
   intended = subst IsSome (sym keeps.intended) is.intended;
+  fit = subst (λ (i : Option (List Update)). AreIntended new.volume.layout.metadata_replicas (unwrap_or i [])) (sym keeps.intended)
+      (subst (λ (layout : Layout). AreIntended layout.metadata_replicas (intended_by old 0)) (sym keeps.layout) is.fit);
   now = subst (λ (i : Option (List Update)). IsPlanNow new 0 (record { op = op; updates = unwrap_or i []; reply = Okay })) (sym keeps.intended)
       (subst (λ (keys : KeyMap). (nodes : List Place) (layout : Layout) → IsSound keys nodes layout → IsTidy keys → IsPlanOf keys nodes layout 0 (record { op = op; updates = intended_by old 0; reply = Okay })) (sym keeps.keys) is.now);
 }
 
 -- So does what it was told to intend by a plan,
-pub plan_intended : (plan : Plan) (old new : State) → new.volume ≡ old.volume → IsUnderWay new → (mine new 0).intended ≡ Some plan.updates → IsChange plan.op → plan.reply ≡ Okay → IsPlanNow old 0 plan → IsIntended new plan.op
-plan_intended plan old new same under intended change okay now = record {
+pub plan_intended : (plan : Plan) (old new : State) → new.volume ≡ old.volume → IsUnderWay new → (mine new 0).intended ≡ Some plan.updates → AreIntended new.volume.layout.metadata_replicas plan.updates
+    → IsChange plan.op → plan.reply ≡ Okay → IsPlanNow old 0 plan → IsIntended new plan.op
+plan_intended plan old new same under intended fit change okay now = record {
   under = under;
   change = change;
   intended = subst IsSome (sym intended) refl;
+  fit = subst (λ (i : Option (List Update)). AreIntended new.volume.layout.metadata_replicas (unwrap_or i [])) (sym intended) fit;
   now = subst (λ (i : Option (List Update)). IsPlanNow new 0 (record { op = plan.op; updates = unwrap_or i []; reply = Okay })) (sym intended)
       (subst (λ (volume : Volume). (nodes : List Place) (layout : Layout) → IsSound (keys_in volume.trees) nodes layout → IsTidy (keys_in volume.trees)
       → IsPlanOf (keys_in volume.trees) nodes layout 0 (record { op = plan.op; updates = plan.updates; reply = Okay })) (sym same)
@@ -210,7 +213,7 @@ done_still op old new same done =
 
 -- Works on what is durable leave it,
 pub works_keep : (old new : State) → KeepsKeys old new → KeepsIntent old new
-works_keep old new keeps = record { keys = keeps.keys; operation = keeps.actor.operation; intended = keeps.actor.intended; turn = keeps.turn }
+works_keep old new keeps = record { keys = keeps.keys; operation = keeps.actor.operation; intended = keeps.actor.intended; turn = keeps.turn; layout = keeps.layout }
 
 -- and leave a client at rest so.
 pub works_rest : (old new : State) → KeepsKeys old new → IsAtRest old → IsAtRest new
@@ -230,7 +233,7 @@ pub record IsRefusedStill (answer : Answer) (old new : State) : Type 0 where
   pub unmade : IsUnmade new answer
 
 same_still : (old new : State) → new ≡ old → IsRefusedStill answers.NoMemory old new
-same_still old new same = subst (λ (state : State). IsRefusedStill answers.NoMemory old state) (sym same) (record { keeps = record { keys = refl; operation = refl; intended = refl; turn = refl }; volume = refl; unmade = tt })
+same_still old new same = subst (λ (state : State). IsRefusedStill answers.NoMemory old state) (sym same) (record { keeps = record { keys = refl; operation = refl; intended = refl; turn = refl; layout = refl }; volume = refl; unmade = tt })
 
 noted_still : (old new : State) → IsState old → (refusal : Refusal) → IsRefused old.volume (intended_by old 0) true refusal → new ≡ with_mine 0 (noted refusal (mine old 0)) old → IsRefusedStill (answers.Refused refusal) old new
 noted_still old new is refusal refused after =
@@ -241,6 +244,7 @@ noted_still old new is refusal refused after =
         operation = ap (λ (a : Actor). a.operation) (mine_changed old is changed);
         intended = ap (λ (a : Actor). a.intended) (mine_changed old is changed);
         turn = refl;
+        layout = refl;
       };
       volume = refl;
       unmade = subst (λ (a : Actor). IsRefused old.volume (unwrap_or a.intended []) true refusal) (sym (mine_changed old is changed)) refused;

@@ -1,5 +1,5 @@
 -- What is kept between operations is kept by a call.
-use Rattle.std.proofs.Common.{◌≡◌, ℕ, ◌≤◌, List, length, Option, Result, Ok, Err, sym, ap, subst}
+use Rattle.std.proofs.Common.{◌≡◌, ◌≤◌, ◌<◌, ◌^◌, length, Result, Ok, Err, sym, ap, subst}
 use Rattle.std.specs.Prelude.{IfOk, OnErr}
 use Rattle.std.specs.declared.alloc.AllocError.{AllocError}
 use Rattle.dev_model.specs.Devices.{AreFaultCounts, DevicesState}
@@ -8,16 +8,20 @@ use Rattle.forest_ops.specs.History.{History}
 use Rattle.forest_ops.specs.declared.operation.Op.{Op}
 use Rattle.forest_ops.specs.declared.operation.Reply.{Reply}
 use Rattle.image_view.specs.Found.{Found}
+use Rattle.vol_core.specs.Room.{HasRoomForNext, LeavesRoom}
 use Rattle.vol_session.specs.Sessions.{SessionState}
+use Rattle.vol_session.specs.Survivors.{BeginsWell}
 use Rattle.volume.specs.Serving.{IsServed, IsUnserved}
-use Rattle.volume.specs.States.{IsBetween, KeepsFailures}
+use Rattle.volume.specs.States.{AreUnspent, IsBetween, KeepsFailures}
+use Rattle.volume.proofs.Unspent.{unspent_later, unspent_served}
+use Rattle.vol_session.specs.Numbers.{HasNumbersLeft, IsFarFromSpent}
 use Rattle.volume.proofs.Failing.{failures_later, failures_served}
 use Rattle.volume.proofs.Replying.{faults_caused}
 
-module _ {D : Type 0} (begun : Found) (start : DevicesState) (state : D → DevicesState) where
+module _ {D : Type 0} (tells : Type 0) (begun : Found) (start : DevicesState) (state : D → DevicesState) where
   -- It is kept of a session.
   abbrev Keeps : SessionState D → Type 0
-  Keeps session = IsBetween begun start (state session.core.devices) session.core.memory session.trace
+  Keeps session = IsBetween tells begun start (state session.core.devices) session.core.memory session.trace
 
   -- Its devices went on, and count their failures.
   pub record AreCounting (devices : D) : Type 0 where
@@ -25,14 +29,25 @@ module _ {D : Type 0} (begun : Found) (start : DevicesState) (state : D → Devi
     pub counts : AreFaultCounts (state devices).faults
     pub few : length (state devices).sizes ≤ 8
 
-  module _ (old new : SessionState D) (counting : AreCounting old.core.devices) (keeps : Keeps old) where
+  -- The numbers are left that may be drawn next, where it is far from their ends.
+  abbrev pub IsLeft : SessionState D → Type 0
+  IsLeft session = IsFarFromSpent begun start (state session.core.devices) → length session.trace < 2 ^ 31 → HasNumbersLeft session.core.memory.volume
+
+  -- The next entry finds room, where the session began well with a volume that left some.
+  abbrev pub FindsRoom : SessionState D → Type 0
+  FindsRoom session = tells → BeginsWell begun start → LeavesRoom begun → HasRoomForNext session.core.memory.volume
+
+  module _ (old new : SessionState D) (left : IsLeft new) (room : FindsRoom new) (counting : AreCounting old.core.devices) (keeps : Keeps old) where
     -- by an operation that was answered
     keeps_served : (op : Op) (reply : Reply) → IsServed state op reply old new → Keeps new
     keeps_served op reply served = record {
       rest = served.rest;
       failures = subst (λ (trace : History). KeepsFailures begun start (state new.core.devices) new.core.memory.volume.halted trace) (sym served.answered.trace)
           (failures_served begun start (state old.core.devices) (state new.core.devices) old.trace served.goes_on counting.goes_on counting.counts counting.few old.core.memory.volume.halted new.core.memory.volume.halted op reply
-          (faults_caused reply new.core.memory.volume (state old.core.devices).faults (state new.core.devices).faults served.cause) served.halts keeps.failures);
+          (faults_caused op reply new.core.memory.volume (state old.core.devices).faults (state new.core.devices).faults served.cause) served.halts keeps.failures);
+      unspent = subst (λ (trace : History). AreUnspent tells begun start (state new.core.devices) trace) (sym served.answered.trace)
+          (unspent_served tells begun start (state old.core.devices) (state new.core.devices) old.trace op reply new.core.memory.volume (state old.core.devices).faults (state new.core.devices).faults served.goes_on served.cause
+          (subst (λ (trace : History). IsFarFromSpent begun start (state new.core.devices) → length trace < 2 ^ 31 → HasNumbersLeft new.core.memory.volume) served.answered.trace left) room keeps.unspent);
     }
 
     -- and where there was no memory for it
@@ -41,6 +56,8 @@ module _ {D : Type 0} (begun : Found) (start : DevicesState) (state : D → Devi
       rest = unserved.rest;
       failures = subst (λ (trace : History). KeepsFailures begun start (state new.core.devices) new.core.memory.volume.halted trace) (sym (ap (λ (s : SessionState D). s.trace) unserved.same))
           (failures_later begun start (state old.core.devices) (state new.core.devices) old.trace unserved.goes_on old.core.memory.volume.halted new.core.memory.volume.halted unserved.halted unserved.unfailed keeps.failures);
+      unspent = subst (λ (trace : History). AreUnspent tells begun start (state new.core.devices) trace) (sym (ap (λ (s : SessionState D). s.trace) unserved.same))
+          (unspent_later tells begun start (state old.core.devices) (state new.core.devices) old.trace unserved.goes_on keeps.unspent);
     }
 
     keeps_result : (result : Result Reply AllocError) (op : Op) → IfOk result (λ reply. IsServed state op reply old new) → OnErr result (IsUnserved state old new) → Keeps new
@@ -48,7 +65,7 @@ module _ {D : Type 0} (begun : Found) (start : DevicesState) (state : D → Devi
     keeps_result (Err error) op served unserved = keeps_unserved unserved
 
   -- Room was made first.
-  pub keeps_call : (result : Result Reply AllocError) (op : Op) (old mid new : SessionState D) → mid ≡ record old { spare = mid.spare } → AreCounting old.core.devices → Keeps old
+  pub keeps_call : (result : Result Reply AllocError) (op : Op) (old mid new : SessionState D) → mid ≡ record old { spare = mid.spare } → IsLeft new → FindsRoom new → AreCounting old.core.devices → Keeps old
       → IfOk result (λ reply. IsServed state op reply mid new) → OnErr result (IsUnserved state mid new) → Keeps new
-  keeps_call result op old mid new same counting keeps served unserved =
-      keeps_result mid new (subst (λ (s : SessionState D). AreCounting s.core.devices) (sym same) counting) (subst Keeps (sym same) keeps) result op served unserved
+  keeps_call result op old mid new same left room counting keeps served unserved =
+      keeps_result mid new left room (subst (λ (s : SessionState D). AreCounting s.core.devices) (sym same) counting) (subst Keeps (sym same) keeps) result op served unserved

@@ -1,7 +1,6 @@
 -- What a history says of failures, after one more entry, and while calls of devices succeed.
 use Rattle.std.proofs.Common.{◌≡◌, ℕ, zero, suc, ◌+◌, ◌<◌, ◌≤◌, Bool, true, false, cond, not, List, [], ◌∷◌, ◌++◌, length, refl, ap, ◌∙◌, sym, subst, arith, Option, Some, None}
-use Rattle.std.specs.Prelude.{◌&&◌, ◌||◌, ◌==◌, All, count_by, is_some, option_map, slice_index_or}
-use Rattle.std.specs.List.{list_any}
+use Rattle.std.specs.Prelude.{◌&&◌, ◌||◌, ◌==◌, All, count_by, slice_index_or}
 use Rattle.std.proofs.lemmas.Bool.{false≢true}
 use Rattle.std.proofs.lemmas.Bool.Decides.{nat_tests}
 use Rattle.std.proofs.lemmas.List.Elements.{All-nil, All-cons, All-push}
@@ -10,9 +9,9 @@ use Rattle.std.proofs.lemmas.List.Sums.{sum_by-append}
 use Rattle.core_memory.specs.declared.answer.Halt.{Halt as MemoryHalt}
 use Rattle.dev_model.specs.Devices.{AreFaultCounts, DevicesState, FaultCounts, risen, with_write_fault}
 use Rattle.dev_model.specs.Disk.{changed}
-use Rattle.dev_model.specs.Frames.{GoOn, after_writes}
+use Rattle.dev_model.specs.Frames.{GoOn}
 use Rattle.forest_ops.specs.Classes.{class_of, is_changing}
-use Rattle.forest_ops.specs.History.{EachEntry, History, after_all, is_commit, is_done, is_idle}
+use Rattle.forest_ops.specs.History.{History, after_all, is_commit, is_done, is_idle}
 use Rattle.forest_ops.specs.HistoryLaws.{EachEntry-push}
 use Rattle.forest_ops.specs.declared.operation.Entry.{Entry}
 use Rattle.forest_ops.specs.declared.operation.Op.{Op}
@@ -20,12 +19,12 @@ use Rattle.forest_ops.specs.declared.operation.Reply.{Reply}
 use Rattle.forest_ops.specs.declared.operation.Reply.TheVariants as replies
 use Rattle.image_view.specs.Found.{Found}
 use Rattle.plain_forest.specs.Forest.{Forest}
-use Rattle.run_history.specs.Failures.{AgreesWith, AreCounted, Halts, HaveCauses, NoCommitAfterHalt, device_faults, has_failed, has_halted, is_device_fault, is_fault_of, is_halted, is_sync, shows_halt}
+use Rattle.run_history.specs.Failures.{AgreesWith, AreCounted, Halts, HaveCauses, device_faults, has_failed, has_halted, is_device_fault, is_fault_of, is_halted, is_sync, shows_halt}
 use Rattle.run_history.specs.declared.halt.Halt.{Halt}
 use Rattle.vol_session.specs.Marks.{forest_found}
 use Rattle.vol_types.specs.Faults.{RoseBy}
 use Rattle.volume.specs.Serving.{HaltsAs}
-use Rattle.volume.specs.States.{KeepsFailures, halt_told, halted_device}
+use Rattle.volume.specs.States.{KeepsFailures, halt_told}
 
 -- the entry of client 0
 abbrev pub entry_of : Op → Reply → Entry

@@ -1,26 +1,24 @@
 -- What replies show of themselves: a failure is no commit, and what the forest answers a plan shows no failure.
-use Rattle.std.proofs.Common.{◌≡◌, ℕ, ◌<◌, ◌≤◌, Bool, true, false, List, [], Option, Some, None, refl, sym, ap, ◌∙◌, subst}
-use Rattle.std.specs.Prelude.{◌≢◌, ◌&&◌, ◌||◌, not}
+use Rattle.std.proofs.Common.{◌≡◌, ℕ, Bool, true, false, List, Option, None, refl, sym, ap, ◌∙◌}
+use Rattle.std.specs.Prelude.{◌≢◌, ◌&&◌, ◌||◌}
 use Rattle.std.proofs.lemmas.Bool.{false≢true, true≢false}
 use Rattle.core_memory.specs.States.{State}
 use Rattle.core_memory.specs.Volumes.{Volume}
 use Rattle.core_memory.specs.declared.answer.Halt.{Halt as MemoryHalt}
-use Rattle.dev_model.specs.Devices.{FaultCounts, with_write_fault}
-use Rattle.forest_ops.specs.Classes.{class_of, is_changing, is_lost, looks, may_fail, may_have}
-use Rattle.forest_ops.specs.History.{commits, is_done, is_idle}
-use Rattle.forest_ops.specs.Steps.{answer_of}
+use Rattle.dev_model.specs.Devices.{FaultCounts}
+use Rattle.forest_ops.specs.Classes.{class_of, is_lost, looks, may_fail, may_have}
+use Rattle.forest_ops.specs.History.{commits, is_done}
 use Rattle.forest_ops.specs.declared.operation.Class.{Class}
 use Rattle.forest_ops.specs.declared.operation.Class.TheVariants.{Changes, Reads, Sweeps, Syncs}
 use Rattle.forest_ops.specs.declared.operation.Op.{Op}
 use Rattle.forest_ops.specs.declared.operation.Op.TheVariants as ops
 use Rattle.forest_ops.specs.declared.operation.Reply.{Reply}
 use Rattle.forest_ops.specs.declared.operation.Reply.TheVariants as replies
-use Rattle.fs_plan.specs.Plans.{IsPlanOf, MayReply, is_planned}
+use Rattle.fs_plan.specs.Plans.{MayReply}
 use Rattle.fs_plan.specs.declared.planned.Plan.{Plan}
-use Rattle.key_meaning.specs.Forest.{forest_in}
 use Rattle.plain_forest.specs.Forest.{Forest}
 use Rattle.run_history.specs.Acknowledged.{synced_count}
-use Rattle.vol_session.specs.Sessions.{IsFailureNow, IsPlanNow, IsToldNow}
+use Rattle.vol_session.specs.Sessions.{IsFailureNow, IsPlanNow}
 use Rattle.vol_types.specs.declared.keys.Update.{Update}
 use Rattle.volume.specs.Answers.{HasCause}
 use Rattle.volume.specs.Serving.{HaltsAs, IsChange, IsDoneNow, IsForests, IsIntended}
@@ -228,12 +226,12 @@ plan_changes ops.Usage reply updates may done = absurd may
 pub record IsQuiet (reply : Reply) : Type 0 where
   pub not_so : is_done reply ≡ false
   pub unsynced : synced_count reply ≡ None
-  pub cause : (volume : Volume) (before after : FaultCounts) → after ≡ before → HasCause reply volume before after
+  pub cause : (op : Op) (volume : Volume) (before after : FaultCounts) → after ≡ before → HasCause op reply volume before after
   pub halts : (before after : ℕ) (sizes : List ℕ) (old new : Option MemoryHalt) → new ≡ old → HaltsAs reply before after sizes old new
 
 pub forests_is_quiet : (reply : Reply) → IsForests reply → IsQuiet reply
-forests_is_quiet (replies.Refused cause) is = record { not_so = refl; unsynced = refl; cause = λ volume before after same. same; halts = λ before after sizes old new same. same }
-forests_is_quiet (replies.List names) is = record { not_so = refl; unsynced = refl; cause = λ volume before after same. same; halts = λ before after sizes old new same. same }
+forests_is_quiet (replies.Refused cause) is = record { not_so = refl; unsynced = refl; cause = λ op volume before after same. same; halts = λ before after sizes old new same. same }
+forests_is_quiet (replies.List names) is = record { not_so = refl; unsynced = refl; cause = λ op volume before after same. same; halts = λ before after sizes old new same. same }
 forests_is_quiet replies.Okay is = absurd is
 forests_is_quiet (replies.More size) is = absurd is
 forests_is_quiet (replies.Synced count) is = absurd is
@@ -250,20 +248,20 @@ forests_is_quiet replies.Spent is = absurd is
 forests_is_quiet replies.NoMemory is = absurd is
 
 -- The counts after a reply are as its cause says.
-pub faults_caused : (reply : Reply) (volume : Volume) (before after : FaultCounts) → HasCause reply volume before after → after ≡ faults_after reply before
-faults_caused (replies.DeviceFault dev) volume before after cause = cause
-faults_caused (replies.Halted dev tick) volume before after cause = cause.0
-faults_caused (replies.NoSpace short) volume before after cause = cause.0
-faults_caused replies.Spent volume before after cause = cause.0
-faults_caused replies.Okay volume before after cause = cause
-faults_caused (replies.More size) volume before after cause = cause
-faults_caused (replies.Synced count) volume before after cause = cause
-faults_caused (replies.Content bytes) volume before after cause = cause
-faults_caused (replies.List names) volume before after cause = cause
-faults_caused (replies.File number size links) volume before after cause = cause
-faults_caused (replies.Dir number entries) volume before after cause = cause
-faults_caused (replies.SubNames names) volume before after cause = cause
-faults_caused (replies.Used blocks) volume before after cause = cause
-faults_caused (replies.Refused cause) volume before after is = is
-faults_caused (replies.DataLost lost) volume before after cause = cause
-faults_caused replies.NoMemory volume before after cause = absurd cause
+pub faults_caused : (op : Op) (reply : Reply) (volume : Volume) (before after : FaultCounts) → HasCause op reply volume before after → after ≡ faults_after reply before
+faults_caused op (replies.DeviceFault dev) volume before after cause = cause
+faults_caused op (replies.Halted dev tick) volume before after cause = cause.0
+faults_caused op (replies.NoSpace short) volume before after cause = cause.0
+faults_caused op replies.Spent volume before after cause = cause.0
+faults_caused op replies.Okay volume before after cause = cause
+faults_caused op (replies.More size) volume before after cause = cause
+faults_caused op (replies.Synced count) volume before after cause = cause
+faults_caused op (replies.Content bytes) volume before after cause = cause
+faults_caused op (replies.List names) volume before after cause = cause
+faults_caused op (replies.File number size links) volume before after cause = cause
+faults_caused op (replies.Dir number entries) volume before after cause = cause
+faults_caused op (replies.SubNames names) volume before after cause = cause
+faults_caused op (replies.Used blocks) volume before after cause = cause
+faults_caused op (replies.Refused cause) volume before after is = is
+faults_caused op (replies.DataLost lost) volume before after cause = cause
+faults_caused op replies.NoMemory volume before after cause = absurd cause

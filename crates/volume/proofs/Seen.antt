@@ -1,14 +1,13 @@
 -- A plan by the looks of client 0 holds for the keys in memory.
-use Rattle.std.proofs.Common.{◌≡◌, ℕ, ◌<◌, ◌^◌, Bool, true, false, cond, Option, Some, None, List, [], ◌∷◌, ◌++◌, refl, sym, ap, ◌∙◌, subst, arith}
+use Rattle.std.proofs.Common.{◌≡◌, ◌^◌, Bool, true, false, cond, Some, None, List, [], ◌∷◌, ◌++◌, refl, sym, ap, ◌∙◌, subst}
 use Rattle.std.specs.Prelude.{◌&&◌, ◌==◌, All, IfSome, nat_lt}
-use Rattle.std.specs.List.{list_all}
 use Rattle.std.proofs.lemmas.Bool.{eq-eqb, lt-ltb}
 use Rattle.std.proofs.lemmas.List.Elements.{All-head, All-tail}
 use Rattle.btree_map.specs.Trees.{keys_in}
 use Rattle.commit_plan.specs.Ids.{are_id_places, id_trees, is_id_place}
 use Rattle.core_memory.specs.States.{IsState, State, mine}
-use Rattle.core_memory.specs.Volumes.{Volume, changes_in}
-use Rattle.entry_queue.specs.Changes.{LeadTo, all_made}
+use Rattle.core_memory.specs.Volumes.{changes_in}
+use Rattle.entry_queue.specs.Changes.{all_made}
 use Rattle.entry_queue.specs.Queues.{waiting}
 use Rattle.entry_queue.specs.declared.changes.KeyChanges.{KeyChanges}
 use Rattle.fs_plan.specs.Plans.{IsGiven, IsPlanOf}
@@ -25,7 +24,6 @@ use Rattle.vol_types.specs.declared.layout.Layout.{Layout}
 use Rattle.vol_types.specs.declared.pointers.Place.{Place}
 use Rattle.vol_types.specs.declared.positions.Btree.TheVariants.{Snapshots}
 use Rattle.vol_types.specs.declared.positions.Pos.{Pos}
-use Rattle.vol_types.specs.declared.values.Value.{Value}
 use Rattle.volume.specs.Planning.{ids_told}
 
 -- Changes made in turn leave a key map one.

@@ -1,5 +1,5 @@
 -- What the parts of a call leave of a session, put together.
-use Rattle.std.proofs.Common.{◌≡◌, ℕ, ◌<◌, ◌≤◌, Bool, true, false, List, [], ◌∷◌, ◌++◌, length, Option, Some, None, Result, Ok, Err, refl, sym, ap, ◌∙◌, subst, arith, inl, inr}
+use Rattle.std.proofs.Common.{◌≡◌, ℕ, ◌<◌, ◌≤◌, true, List, [], ◌∷◌, ◌++◌, length, Option, Some, None, Result, Ok, Err, refl, sym, ap, ◌∙◌, subst, arith, inl, inr}
 use Rattle.std.specs.Prelude.{IfOk, IfSome, OnErr}
 use Rattle.std.specs.declared.alloc.AllocError.{AllocError}
 use Rattle.std.proofs.lemmas.Option.{none-some as none_some}
@@ -11,7 +11,7 @@ use Rattle.core_memory.specs.declared.answer.Answer.{Answer}
 use Rattle.core_memory.specs.declared.answer.Halt.{Halt as MemoryHalt}
 use Rattle.core_memory.specs.declared.answer.Refusal.{Refusal}
 use Rattle.core_memory.specs.declared.answer.Refusal.TheVariants as refusals
-use Rattle.dev_model.specs.Devices.{DevicesState, FaultCounts, with_write_fault}
+use Rattle.dev_model.specs.Devices.{DevicesState, FaultCounts}
 use Rattle.dev_model.specs.FrameLaws.{go_on_here, go_on_then}
 use Rattle.dev_model.specs.Frames.{GoOn, after_writes}
 use Rattle.forest_ops.specs.declared.operation.Op.{Op}
@@ -26,7 +26,7 @@ use Rattle.vol_types.specs.declared.space.Short.{Short}
 use Rattle.vol_works.specs.Works.{IsForeign, MayStopSync, IsWorked, StopsWith, stopped_by}
 use Rattle.vol_works.specs.declared.stop.Stop.{Stop}
 use Rattle.vol_works.specs.declared.stop.Stop.TheVariants as stops
-use Rattle.volume.specs.Answers.{AcknowledgesAll, HasCause, IsAnswered, IsNumberSpent, LacksSpace, acks_after}
+use Rattle.volume.specs.Answers.{AcknowledgesAll, HasCause, IsNumberSpent, LacksSpace, acks_after}
 use Rattle.volume.specs.Planning.{Standing, standing_in}
 use Rattle.volume.specs.Serving.{HaltsAs, IsEntered, IsIntended, IsMoved, IsServed, IsStepped, IsUnmade, IsUnserved, TellsStop, TellsSync}
 use Rattle.volume.specs.States.{IsAtRest}
@@ -124,7 +124,7 @@ module _ {D : Type 0} (state : D → DevicesState) where
       acks = served.answered.acks ∙ ap (λ (s : SessionState D). acks_after reply (state new.core.devices).moment s.acks) moved.rest;
       synced = λ count is. let both = served.answered.synced count is in (both.0, both.1 ∙ ap (λ (s : SessionState D). s.commits) moved.rest);
     };
-    cause = subst (λ (faults : FaultCounts). HasCause reply new.core.memory.volume faults (state new.core.devices).faults) moved.unfailed served.cause;
+    cause = subst (λ (faults : FaultCounts). HasCause op reply new.core.memory.volume faults (state new.core.devices).faults) moved.unfailed served.cause;
     halts = halts_from reply (state old.core.devices).moment (state mid.core.devices).moment (state new.core.devices).moment (state old.core.devices).sizes old.core.memory.volume.halted new.core.memory.volume.halted moved.goes_on.later
         (subst (λ (sizes : List ℕ). HaltsAs reply (state mid.core.devices).moment (state new.core.devices).moment sizes old.core.memory.volume.halted new.core.memory.volume.halted) moved.goes_on.sizes
         (subst (λ (halted : Option MemoryHalt). HaltsAs reply (state mid.core.devices).moment (state new.core.devices).moment (state mid.core.devices).sizes halted new.core.memory.volume.halted) moved.halted served.halts));
@@ -174,7 +174,7 @@ module _ {D : Type 0} (state : D → DevicesState) where
 
   -- An entry that shows no failure of a device answers an operation, where its cause and its halt are the volume's.
   pub entered_served : (op : Op) (reply : Reply) (old new : SessionState D) → IsEntered op reply old new → synced_count reply ≡ None
-      → HasCause reply old.core.memory.volume (state old.core.devices).faults (state old.core.devices).faults
+      → HasCause op reply old.core.memory.volume (state old.core.devices).faults (state old.core.devices).faults
       → HaltsAs reply (state old.core.devices).moment (state old.core.devices).moment (state old.core.devices).sizes old.core.memory.volume.halted old.core.memory.volume.halted
       → IsServed state op reply old new
   entered_served op reply old new entered unsynced cause halts = record {
@@ -183,8 +183,8 @@ module _ {D : Type 0} (state : D → DevicesState) where
       acks = ap (λ (s : SessionState D). s.acks) entered.entry ∙ acks_still reply (state new.core.devices).moment old.acks unsynced;
       synced = λ count is. absurd (none_some count (sym unsynced ∙ ap synced_count is));
     };
-    cause = subst (λ (volume : Volume). HasCause reply volume (state old.core.devices).faults (state new.core.devices).faults) (sym entered.volume)
-        (subst (λ (devices : D). HasCause reply old.core.memory.volume (state old.core.devices).faults (state devices).faults) (sym entered.devices) cause);
+    cause = subst (λ (volume : Volume). HasCause op reply volume (state old.core.devices).faults (state new.core.devices).faults) (sym entered.volume)
+        (subst (λ (devices : D). HasCause op reply old.core.memory.volume (state old.core.devices).faults (state devices).faults) (sym entered.devices) cause);
     halts = subst (λ (volume : Volume). HaltsAs reply (state old.core.devices).moment (state new.core.devices).moment (state old.core.devices).sizes old.core.memory.volume.halted volume.halted) (sym entered.volume)
         (subst (λ (devices : D). HaltsAs reply (state old.core.devices).moment (state devices).moment (state old.core.devices).sizes old.core.memory.volume.halted old.core.memory.volume.halted) (sym entered.devices) halts);
     rest = entered.rest;
@@ -193,27 +193,27 @@ module _ {D : Type 0} (state : D → DevicesState) where
 
   -- So does the forest's reply where it changes nothing,
   pub quiet_served : (op : Op) (reply : Reply) (old new : SessionState D) → IsEntered op reply old new → IsQuiet reply → IsServed state op reply old new
-  quiet_served op reply old new entered quiet = entered_served op reply old new entered quiet.unsynced (quiet.cause old.core.memory.volume _ _ refl) (quiet.halts _ _ _ _ _ refl)
+  quiet_served op reply old new entered quiet = entered_served op reply old new entered quiet.unsynced (quiet.cause op old.core.memory.volume _ _ refl) (quiet.halts _ _ _ _ _ refl)
 
   -- a failure for want of space,
-  pub lack_served : (op : Op) (reply : Reply) (short : Short) (old new : SessionState D) → reply ≡ replies.NoSpace short → LacksSpace old.core.memory.volume → IsEntered op reply old new → IsServed state op reply old new
+  pub lack_served : (op : Op) (reply : Reply) (short : Short) (old new : SessionState D) → reply ≡ replies.NoSpace short → LacksSpace op short old.core.memory.volume → IsEntered op reply old new → IsServed state op reply old new
   lack_served op reply short old new is lacks entered =
       entered_served op reply old new entered (ap synced_count is)
-      (subst (λ (r : Reply). HasCause r old.core.memory.volume (state old.core.devices).faults (state old.core.devices).faults) (sym is) (refl, lacks))
+      (subst (λ (r : Reply). HasCause op r old.core.memory.volume (state old.core.devices).faults (state old.core.devices).faults) (sym is) (refl, lacks))
       (subst (λ (r : Reply). HaltsAs r (state old.core.devices).moment (state old.core.devices).moment (state old.core.devices).sizes old.core.memory.volume.halted old.core.memory.volume.halted) (sym is) refl)
 
   -- for want of a number,
-  pub spent_served : (op : Op) (reply : Reply) (old new : SessionState D) → reply ≡ replies.Spent → IsNumberSpent old.core.memory.volume → IsEntered op reply old new → IsServed state op reply old new
+  pub spent_served : (op : Op) (reply : Reply) (old new : SessionState D) → reply ≡ replies.Spent → IsNumberSpent op old.core.memory.volume → IsEntered op reply old new → IsServed state op reply old new
   spent_served op reply old new is spent entered =
       entered_served op reply old new entered (ap synced_count is)
-      (subst (λ (r : Reply). HasCause r old.core.memory.volume (state old.core.devices).faults (state old.core.devices).faults) (sym is) (refl, spent))
+      (subst (λ (r : Reply). HasCause op r old.core.memory.volume (state old.core.devices).faults (state old.core.devices).faults) (sym is) (refl, spent))
       (subst (λ (r : Reply). HaltsAs r (state old.core.devices).moment (state old.core.devices).moment (state old.core.devices).sizes old.core.memory.volume.halted old.core.memory.volume.halted) (sym is) refl)
 
   -- and one in a session that has stopped writing.
   pub halted_served : (op : Op) (reply : Reply) (halt : MemoryHalt) (old new : SessionState D) → reply ≡ replies.Halted halt.dev halt.tick → old.core.memory.volume.halted ≡ Some halt → IsEntered op reply old new → IsServed state op reply old new
   halted_served op reply halt old new is halted entered =
       entered_served op reply old new entered (ap synced_count is)
-      (subst (λ (r : Reply). HasCause r old.core.memory.volume (state old.core.devices).faults (state old.core.devices).faults) (sym is) (refl, halted))
+      (subst (λ (r : Reply). HasCause op r old.core.memory.volume (state old.core.devices).faults (state old.core.devices).faults) (sym is) (refl, halted))
       (subst (λ (r : Reply). HaltsAs r (state old.core.devices).moment (state old.core.devices).moment (state old.core.devices).sizes old.core.memory.volume.halted old.core.memory.volume.halted) (sym is) (refl, halted))
 
   -- A change that was committed is answered.
@@ -288,9 +288,9 @@ module _ {D : Type 0} (state : D → DevicesState) where
   stopped_served op reply stops.Spent old mid new stopped tells entered =
       served_after op reply old mid new (works_move old mid stopped.worked stopped.stops.0 stopped.cause stopped.goes_on) (spent_served op reply mid new tells (inr (inl stopped.stops.1)) entered)
   stopped_served op reply (stops.NoSpace none) old mid new stopped tells entered =
-      served_after op reply old mid new (works_move old mid stopped.worked stopped.stops.0 stopped.cause stopped.goes_on) (lack_served op reply none.short mid new tells (inr (inr (inr (inr (inl (none, stopped.stops.1)))))) entered)
+      served_after op reply old mid new (works_move old mid stopped.worked stopped.stops.0 stopped.cause stopped.goes_on) (lack_served op reply none.short mid new tells (inr (inr (inr (inr (record { why = inl (none, stopped.stops.1, refl) }))))) entered)
   stopped_served op reply (stops.Foreign refusal) old mid new stopped tells entered =
-      served_after op reply old mid new (works_move old mid stopped.worked stopped.stops.0 stopped.cause stopped.goes_on) (lack_served op reply _ mid new tells (inr (inr (inr (inr (inr (refusal, stopped.stops.1)))))) entered)
+      served_after op reply old mid new (works_move old mid stopped.worked stopped.stops.0 stopped.cause stopped.goes_on) (lack_served op reply _ mid new tells (inr (inr (inr (inr (record { why = inr (refusal, stopped.stops.1, refl) }))))) entered)
   stopped_served op reply stops.NoMemory old mid new stopped tells entered = absurd tells
 
   -- and leaves the session unserved where no device failed and memory has ended.
@@ -303,8 +303,8 @@ module _ {D : Type 0} (state : D → DevicesState) where
   stopped_moves stops.NoMemory old mid stopped none = works_move old mid stopped.worked stopped.stops stopped.cause stopped.goes_on
 
   -- The ring has no room for an entry of a sync.
-  ring_spent : (refusal : Refusal) (volume : Volume) → MayStopSync (stops.Foreign refusal) → IsForeign volume refusal → IsNumberSpent volume
-  ring_spent (refusals.RingFull full) volume journal foreign = inr (inr (record { refusal = refusals.RingFull full; of_ring = tt; foreign = foreign }))
+  ring_spent : (refusal : Refusal) (volume : Volume) → MayStopSync (stops.Foreign refusal) → IsForeign volume refusal → IsNumberSpent Sync volume
+  ring_spent (refusals.RingFull full) volume journal foreign = inr (inr (record { sync = refl; refusal = refusals.RingFull full; of_ring = tt; foreign = foreign }))
   ring_spent (refusals.NeedSplit need) volume journal foreign = absurd journal
   ring_spent (refusals.Halted halt) volume journal foreign = absurd foreign
   ring_spent refusals.Spent volume journal foreign = absurd foreign
@@ -355,7 +355,7 @@ module _ {D : Type 0} (state : D → DevicesState) where
   -- ---- by the result of a part
 
   -- A change that lacks space is answered, where there was memory.
-  pub lack_result : (result : Result Reply AllocError) (op : Op) (short : Short) (old new : SessionState D) → LacksSpace old.core.memory.volume → IfOk result (λ reply. IsEntered op reply old new) → IfOk result (λ reply. reply ≡ replies.NoSpace short)
+  pub lack_result : (result : Result Reply AllocError) (op : Op) (short : Short) (old new : SessionState D) → LacksSpace op short old.core.memory.volume → IfOk result (λ reply. IsEntered op reply old new) → IfOk result (λ reply. reply ≡ replies.NoSpace short)
       → IfOk result (λ reply. IsServed state op reply old new)
   lack_result (Ok reply) op short old new lacks entered is = lack_served op reply short old new is lacks entered
   lack_result (Err error) op short old new lacks entered is = tt

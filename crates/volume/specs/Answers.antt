@@ -1,5 +1,6 @@
 -- What the call of an operation answers, and the cause of each failure.
 use Rattle.std.specs.Prelude.{◌≡◌, ◌⊎◌, ℕ, true, ⊤, Some, List, [], ◌∷◌, ◌++◌}
+use Rattle.btree_map.specs.Trees.{keys_in}
 use Rattle.commit_plan.specs.Splits.{IsSplitNeed}
 use Rattle.commit_plan.specs.declared.splits.NeedSplit.{NeedSplit}
 use Rattle.core_memory.specs.Commits.{AreIntended}
@@ -10,12 +11,19 @@ use Rattle.core_memory.specs.declared.answer.Refusal.TheVariants as refusals
 use Rattle.core_memory.specs.declared.answer.Refusal.{Refusal}
 use Rattle.dev_model.specs.Devices.{DevicesState, FaultCounts, with_write_fault}
 use Rattle.forest_ops.specs.declared.operation.Op.{Op}
+use Rattle.forest_ops.specs.declared.operation.Op.TheVariants.{Sync}
 use Rattle.forest_ops.specs.declared.operation.Reply.{Reply}
-use Rattle.forest_ops.specs.declared.operation.Reply.TheVariants.{DeviceFault, Halted, NoMemory, NoSpace, Spent, Synced}
+use Rattle.forest_ops.specs.declared.operation.Reply.TheVariants.{DeviceFault, Halted, NoMemory, NoSpace, Okay, Spent, Synced}
 use Rattle.run_history.specs.declared.acks.Ack.{Ack}
+use Rattle.fs_plan.specs.Plans.{IsPlanOf}
+use Rattle.key_meaning.specs.Checks.{IsSound}
+use Rattle.key_meaning.specs.Tidy.{IsTidy}
 use Rattle.vol_core.specs.Rested.{IsRested}
 use Rattle.vol_session.specs.Sessions.{SessionState}
 use Rattle.vol_types.specs.declared.keys.Update.{Update}
+use Rattle.vol_types.specs.declared.layout.Layout.{Layout}
+use Rattle.vol_types.specs.declared.pointers.Place.{Place}
+use Rattle.vol_types.specs.declared.space.Short.{Short}
 use Rattle.vol_works.specs.Works.{IsForeign, LackedSpace, LacksNumber}
 
 -- the acknowledgements after a reply at this moment
@@ -33,63 +41,91 @@ pub record IsAnswered {D : Type 0} (state : D → DevicesState) (op : Op) (reply
 abbrev pub AcknowledgesAll : ℕ → Reply → Type 0
 AcknowledgesAll commits reply = (count : ℕ) → reply ≡ Synced count → count ≡ commits
 
--- A leaf would be too large with some updates, so that the node would have to be split.
-pub record IsLeafFull (volume : Volume) : Type 0 where
+-- Client 0 would do the operation by these updates: they are a plan of it for the keys in memory, sound and tidy as these are.
+abbrev pub AreUpdatesOf : Op → Volume → List Update → Type 0
+AreUpdatesOf op volume updates = (nodes : List Place) (layout : Layout) → IsSound (keys_in volume.trees) nodes layout → IsTidy (keys_in volume.trees)
+    → IsPlanOf (keys_in volume.trees) nodes layout 0 (record { op = op; updates = updates; reply = Okay })
+
+-- what is told of the buckets where no bucket lacks
+abbrev pub nothing_short : Short
+nothing_short = record { need = 0; free = []; held = [] }
+
+-- A leaf would be too large with the operation's updates, so that the node would have to be split.
+pub record IsLeafFull (op : Op) (short : Short) (volume : Volume) : Type 0 where
   pub updates : List Update
+  pub of_op : AreUpdatesOf op volume updates
   pub need : NeedSplit
   pub splits : IsSplitNeed volume.trees updates need
+  pub told : short ≡ nothing_short
 
--- Some updates may not be made at once, as they don't fit an entry of the journal; so it is only of a plan over keys that aren't sound.
-pub record IsEntryFull (volume : Volume) : Type 0 where
+-- The operation's updates may not be made at once, as they don't fit an entry of the journal; so it is only over keys that aren't sound.
+pub record IsEntryFull (op : Op) (short : Short) (volume : Volume) : Type 0 where
   pub updates : List Update
+  pub of_op : AreUpdatesOf op volume updates
   pub unfit : ¬ AreIntended volume.layout.metadata_replicas updates
+  pub told : short ≡ nothing_short
 
--- The commit of some updates is refused since there are too few free buckets, and a checkpoint would free none.
-pub record AreBucketsFull (volume : Volume) : Type 0 where
+-- The commit of the operation's updates is refused since there are too few free buckets, and a checkpoint would free none.
+pub record AreBucketsFull (op : Op) (short : Short) (volume : Volume) : Type 0 where
   pub updates : List Update
+  pub of_op : AreUpdatesOf op volume updates
   pub none : NoSpaceHere
   pub refused : IsRefused volume updates true (refusals.NoSpace none)
   pub idle : none.idle ≡ true
+  pub told : short ≡ none.short
 
--- It is a refusal for lack of room in the ring, or of free buckets.
-abbrev pub IsOfSpace : Refusal → Type 0
-IsOfSpace (refusals.RingFull full) = ⊤
-IsOfSpace (refusals.NoSpace none) = ⊤
-IsOfSpace other = ⊥
+-- It is a refusal for lack of room in the ring, or of free buckets, and what is told of the buckets is its.
+abbrev pub TellsRefusal : Short → Refusal → Type 0
+TellsRefusal short (refusals.RingFull full) = short ≡ nothing_short
+TellsRefusal short (refusals.NoSpace none) = short ≡ none.short
+TellsRefusal short other = ⊥
 
--- Both works rest, as after a checkpoint, and still the commit of some updates is refused, for lack of room in the ring or of free buckets.
-pub record IsFullAtRest (volume : Volume) : Type 0 where
+-- Both works rest, as after a checkpoint, and still the commit of the operation's updates is refused, for lack of room in the ring or of free buckets.
+pub record IsFullAtRest (op : Op) (short : Short) (volume : Volume) : Type 0 where
   pub updates : List Update
+  pub of_op : AreUpdatesOf op volume updates
   pub refusal : Refusal
   pub rested : IsRested volume
   pub refused : IsRefused volume updates true refusal
-  pub space : IsOfSpace refusal
+  pub told : TellsRefusal short refusal
 
--- There is no space, by one of these causes, or since a checkpoint had none.
-abbrev pub LacksSpace : Volume → Type 0
-LacksSpace volume = IsLeafFull volume ⊎ IsEntryFull volume ⊎ AreBucketsFull volume ⊎ IsFullAtRest volume ⊎ ((none : NoSpaceHere) × LackedSpace volume none) ⊎ ((refusal : Refusal) × IsForeign volume refusal)
+-- There was no space for a checkpoint: for its leaves, or for its entries, or a leaf is too large by durable entries alone.
+pub record HasNoCheckpoint (short : Short) (volume : Volume) : Type 0 where
+  pub why : ((none : NoSpaceHere) × LackedSpace volume none × (short ≡ none.short)) ⊎ ((refusal : Refusal) × IsForeign volume refusal × (short ≡ nothing_short))
+
+-- There is no space for the operation, by one of these causes.
+abbrev pub LacksSpace : Op → Short → Volume → Type 0
+LacksSpace op short volume = IsLeafFull op short volume ⊎ IsEntryFull op short volume ⊎ AreBucketsFull op short volume ⊎ IsFullAtRest op short volume ⊎ HasNoCheckpoint short volume
 
 -- It is a refusal for lack of room in the ring.
 abbrev pub IsOfRing : Refusal → Type 0
 IsOfRing (refusals.RingFull full) = ⊤
 IsOfRing other = ⊥
 
--- The ring has no block left for an entry, as only an image of another program shows.
-pub record IsRingSpent (volume : Volume) : Type 0 where
+-- The operation is a sync, and the ring has no block left for an entry, as only an image of another program shows.
+pub record IsRingSpent (op : Op) (volume : Volume) : Type 0 where
+  pub sync : op ≡ Sync
   pub refusal : Refusal
   pub of_ring : IsOfRing refusal
   pub foreign : IsForeign volume refusal
 
--- No number is left for the commit of some updates, or for a work on what is durable, or the ring has no block left.
-abbrev pub IsNumberSpent : Volume → Type 0
-IsNumberSpent volume = ((updates : List Update) × (¬ HasCommitNumbers volume updates true)) ⊎ LacksNumber volume ⊎ IsRingSpent volume
+-- No number is left for the commit of the operation's updates, which fit an entry of the journal.
+pub record IsCommitSpent (op : Op) (volume : Volume) : Type 0 where
+  pub updates : List Update
+  pub of_op : AreUpdatesOf op volume updates
+  pub fit : AreIntended volume.layout.metadata_replicas updates
+  pub spent : ¬ HasCommitNumbers volume updates true
 
--- The cause of a reply: a failure of a device is the only one that its counts tell; a halt is the session's; where space or a number is lacking, the volume
--- lacks it; want of memory is told by no reply; and with every other reply no call failed.
-abbrev pub HasCause : Reply → Volume → FaultCounts → FaultCounts → Type 0
-HasCause (DeviceFault dev) volume before after = after ≡ with_write_fault dev before
-HasCause (Halted dev tick) volume before after = (after ≡ before) × (volume.halted ≡ Some (record { dev = dev; tick = tick }))
-HasCause (NoSpace short) volume before after = (after ≡ before) × LacksSpace volume
-HasCause Spent volume before after = (after ≡ before) × IsNumberSpent volume
-HasCause NoMemory volume before after = ⊥
-HasCause reply volume before after = after ≡ before
+-- No number is left for the operation's commit, or for a work on what is durable, or the ring has no block left for a sync.
+abbrev pub IsNumberSpent : Op → Volume → Type 0
+IsNumberSpent op volume = IsCommitSpent op volume ⊎ LacksNumber volume ⊎ IsRingSpent op volume
+
+-- The cause of a reply to an operation, in the volume that it leaves: a failure of a device is the only one that its counts tell; a halt is the session's; where space or a
+-- number is lacking, the volume lacks it; want of memory is told by no reply; and with every other reply no call failed.
+abbrev pub HasCause : Op → Reply → Volume → FaultCounts → FaultCounts → Type 0
+HasCause op (DeviceFault dev) volume before after = after ≡ with_write_fault dev before
+HasCause op (Halted dev tick) volume before after = (after ≡ before) × (volume.halted ≡ Some (record { dev = dev; tick = tick }))
+HasCause op (NoSpace short) volume before after = (after ≡ before) × LacksSpace op short volume
+HasCause op Spent volume before after = (after ≡ before) × IsNumberSpent op volume
+HasCause op NoMemory volume before after = ⊥
+HasCause op reply volume before after = after ≡ before

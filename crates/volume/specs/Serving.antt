@@ -1,6 +1,7 @@
 -- How the parts of a call move a session, and what an operation leaves of it.
 use Rattle.std.specs.Prelude.{◌≡◌, ℕ, ◌<◌, ◌≤◌, ⊤, true, Option, Some, None, IsSome, List, [], ◌∷◌, ◌++◌, length}
 use Rattle.btree_map.specs.Trees.{keys_in}
+use Rattle.core_memory.specs.Commits.{AreIntended}
 use Rattle.core_memory.specs.Events.{intended_by}
 use Rattle.core_memory.specs.Rulings.{IsRefused}
 use Rattle.core_memory.specs.States.{State, mine, other_holder}
@@ -23,10 +24,9 @@ use Rattle.key_meaning.specs.Forest.{Read, forest_in}
 use Rattle.plain_forest.specs.Forest.{Forest}
 use Rattle.run_history.specs.declared.halt.Halt.{Halt}
 use Rattle.vol_session.specs.Sessions.{IfSoundKeys, IsPlanNow, SessionState}
-use Rattle.vol_types.specs.declared.space.Short.{Short}
 use Rattle.vol_works.specs.declared.stop.Stop.{Stop}
 use Rattle.vol_works.specs.declared.stop.Stop.TheVariants as stops
-use Rattle.volume.specs.Answers.{HasCause, IsAnswered}
+use Rattle.volume.specs.Answers.{HasCause, IsAnswered, nothing_short}
 use Rattle.volume.specs.States.{IsAtRest}
 
 -- Client 0 has an operation under way, and no other actor has the turn.
@@ -68,7 +68,7 @@ HaltsAs reply before after sizes old new = new ≡ old
 -- The operation was answered, with a cause, and client 0 has nothing under way.
 pub record IsServed {D : Type 0} (state : D → DevicesState) (op : Op) (reply : Reply) (old new : SessionState D) : Type 0 where
   pub answered : IsAnswered state op reply old new
-  pub cause : HasCause reply new.core.memory.volume (state old.core.devices).faults (state new.core.devices).faults
+  pub cause : HasCause op reply new.core.memory.volume (state old.core.devices).faults (state new.core.devices).faults
   pub halts : HaltsAs reply (state old.core.devices).moment (state new.core.devices).moment (state old.core.devices).sizes old.core.memory.volume.halted new.core.memory.volume.halted
   pub rest : IsAtRest new.core.memory
   pub goes_on : GoOn (state old.core.devices) (state new.core.devices)
@@ -97,11 +97,12 @@ IsForests (replies.Refused cause) = ⊤
 IsForests (replies.List names) = ⊤
 IsForests other = ⊥
 
--- Client 0 intends updates that make the change: with them the keys in memory mean the forest after it.
+-- Client 0 intends updates that fit an entry of the journal and make the change: with them the keys in memory mean the forest after it.
 pub record IsIntended (memory : State) (op : Op) : Type 0 where
   pub under : IsUnderWay memory
   pub change : IsChange op
   pub intended : IsSome (mine memory 0).intended
+  pub fit : AreIntended memory.volume.layout.metadata_replicas (intended_by memory 0)
   pub now : IsPlanNow memory 0 (record { op = op; updates = intended_by memory 0; reply = replies.Okay })
 
 -- What client 0 intends wasn't committed: it is refused, or there was no memory.
@@ -109,10 +110,6 @@ abbrev pub IsUnmade : State → Answer → Type 0
 IsUnmade memory (answers.Refused refusal) = IsRefused memory.volume (intended_by memory 0) true refusal
 IsUnmade memory answers.NoMemory = ⊤
 IsUnmade memory other = ⊥
-
--- what is told of the buckets where no bucket lacks
-abbrev pub nothing_short : Short
-nothing_short = record { need = 0; free = []; held = [] }
 
 -- The reply to a change tells why a checkpoint ended early; want of memory is told by none.
 abbrev pub TellsStop : Stop → Reply → Type 0

@@ -1,17 +1,21 @@
 -- What a volume keeps between its operations, beside what its session keeps: the failures that its history tells, and what client 0 has under way, which is nothing.
-use Rattle.std.specs.Prelude.{◌≡◌, ℕ, false, Option, None, option_map, is_some}
+use Rattle.std.specs.Prelude.{◌≡◌, ◌<◌, ◌^◌, ℕ, All, false, Option, None, length, option_map, is_some}
 use Rattle.core_memory.specs.Actors.{holds}
 use Rattle.core_memory.specs.States.{State, mine}
-use Rattle.core_memory.specs.Volumes.{Volume}
 use Rattle.core_memory.specs.declared.answer.Halt.{Halt as MemoryHalt}
 use Rattle.dev_model.specs.Devices.{DevicesState}
 use Rattle.dev_model.specs.Frames.{after_writes}
 use Rattle.forest_ops.specs.History.{History}
+use Rattle.forest_ops.specs.declared.operation.Entry.{Entry}
+use Rattle.forest_ops.specs.declared.operation.Op.TheVariants.{Sync}
+use Rattle.forest_ops.specs.declared.operation.Reply.TheVariants.{Spent}
 use Rattle.image_view.specs.Found.{Found}
 use Rattle.run_history.specs.Failures.{Halts, HaveCauses, NoCommitAfterHalt, has_failed}
 use Rattle.run_history.specs.declared.halt.Halt.{Halt}
-use Rattle.vol_core.specs.Cores.{CoreState}
 use Rattle.vol_session.specs.Marks.{forest_found}
+use Rattle.vol_core.specs.Room.{LeavesRoom}
+use Rattle.vol_session.specs.Numbers.{IsFarFromSpent}
+use Rattle.vol_session.specs.Survivors.{BeginsWell}
 
 -- how a session stopped writing, in the words of histories
 abbrev pub halt_told : Option MemoryHalt → Option Halt
@@ -36,7 +40,20 @@ pub record KeepsFailures (begun : Found) (start state : DevicesState) (halted : 
   pub no_commit : NoCommitAfterHalt (forest_found begun start) trace
   pub causes : HaveCauses start.faults state.faults trace
 
+-- The devices tell what they hold, and the session began well with a volume that left room in the ring of the journal.
+pub record BeganWithRoom (tells : Type 0) (begun : Found) (start : DevicesState) : Type 0 where
+  pub told : tells
+  pub well : BeginsWell begun start
+  pub room : LeavesRoom begun
+
+-- Where what was found is far from the end of each number, and the session and its history are short, no entry says that a number is used up, but a sync's, and that only
+-- where the session didn't begin with room.
+abbrev pub AreUnspent : Type 0 → Found → DevicesState → DevicesState → History → Type 0
+AreUnspent tells begun start state trace =
+    IsFarFromSpent begun start state → length trace < 2 ^ 31 → All (λ (entry : Entry). entry.reply ≡ Spent → (entry.op ≡ Sync) × ¬ BeganWithRoom tells begun start) trace
+
 -- What is kept between operations.
-pub record IsBetween (begun : Found) (start state : DevicesState) (memory : State) (trace : History) : Type 0 where
+pub record IsBetween (tells : Type 0) (begun : Found) (start state : DevicesState) (memory : State) (trace : History) : Type 0 where
   pub rest : IsAtRest memory
   pub failures : KeepsFailures begun start state memory.volume.halted trace
+  pub unspent : AreUnspent tells begun start state trace

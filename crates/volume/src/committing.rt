@@ -51,6 +51,8 @@ fn intend<D: Devices, O: Opening>(session: &mut Session<D, O>, updates: Updates)
     ensures stepped { IsStepped session.old session.new }
     ensures under { IsUnderWay session.new.core.memory }
     ensures intended { result ≡ true → (mine session.new.core.memory 0).intended ≡ Some updates }
+    ensures fit { result ≡ true
+        → AreIntended session.new.core.memory.volume.layout.metadata_replicas updates }
     ensures unfit { result ≡ false
         → ¬ AreIntended session.new.core.memory.volume.layout.metadata_replicas updates }
 {

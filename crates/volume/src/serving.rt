@@ -5,10 +5,9 @@ ghost use Rattle.forest_ops.specs.declared.operation.Op.TheVariants.{Sync};
 ghost use Rattle.forest_ops.specs.declared.operation.Reply.TheVariants.{DeviceFault, Okay};
 ghost use Rattle.fs_plan.specs.Plans.{MayReply, is_planned};
 ghost use Rattle.vol_session.specs.Sessions.{IsFailureNow, IsPlanNow};
-ghost use Rattle.vol_types.specs.declared.space.Short.{Short as AShort};
 ghost use Rattle.vol_works.specs.Works.{MayStopSync};
-ghost use Rattle.volume.specs.Answers.{LacksSpace};
-ghost use Rattle.volume.specs.Serving.{IsChange, IsDoneNow, IsEntered, IsForests, IsServed, IsStepped, IsUnderWay, IsUnserved, TellsSync, halt_refused, nothing_short};
+ghost use Rattle.volume.specs.Answers.{nothing_short};
+ghost use Rattle.volume.specs.Serving.{IsChange, IsDoneNow, IsEntered, IsForests, IsServed, IsStepped, IsUnderWay, IsUnserved, TellsSync, halt_refused};
 ghost use Rattle.volume.specs.States.{IsAtRest, halt_told};
 
 use crate::committing::make;

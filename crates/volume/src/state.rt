@@ -13,7 +13,7 @@ ghost use Rattle.vol_session.specs.Marks.{forest_found};
 ghost use Rattle.vol_session.specs.Sessions.{IsExact};
 ghost use Rattle.vol_session.specs.Survivors.{BeginsWell, Survive};
 ghost use Rattle.volume.specs.Answers.{AcknowledgesAll, HasCause, IsAnswered};
-ghost use Rattle.volume.specs.States.{halt_told, halted_device};
+ghost use Rattle.volume.specs.States.{AreUnspent, halt_told, halted_device};
 
 use crate::serving::{answer, halt_of};
 use dev_model::Devices;
@@ -50,7 +50,7 @@ impl<D: Devices, O: Opening> Model for VolState<D, O> {
 
     ghost view = { λ v. v.session };
 
-    ghost invariant = { λ v. IsBetween O.found O.start (D.state v.session.core.devices) v.session.core.memory v.session.trace };
+    ghost invariant = { λ v. IsBetween D.tells O.found O.start (D.state v.session.core.devices) v.session.core.memory v.session.trace };
 }
 
 impl<D: Devices, O: Opening> VolState<D, O> {
@@ -94,7 +94,7 @@ impl<D: Devices, O: Opening> VolState<D, O> {
     pub fn call(&mut self, op: Op) -> Result<Reply, AllocError>
         requires { is_planned op ≡ true }
         ensures answers { IfOk result (λ reply. IsAnswered D.state op reply self.old self.new) }
-        ensures cause { IfOk result (λ reply. HasCause reply self.new.core.memory.volume
+        ensures cause { IfOk result (λ reply. HasCause op reply self.new.core.memory.volume
             (D.state self.old.core.devices).faults (D.state self.new.core.devices).faults) }
         ensures synced { IfOk result (AcknowledgesAll (commit_count
             (forest_found O.found O.start) self.old.trace)) }
@@ -107,13 +107,16 @@ impl<D: Devices, O: Opening> VolState<D, O> {
         self.session.see_kept();
         let _count = self.session.devices().count();
         self.session.reserve()?;
-        answer(self.alloc, &mut self.session, op)
+        let result = answer(self.alloc, &mut self.session, op);
+        self.session.see_numbers();
+        self.session.see_room();
+        result
     }
 
     /// Ends the session: its devices, its history, its acknowledgements, and how it stopped writing, if it did.
     ///
     /// It has stopped writing exactly where an entry says that a device failed (`failed`), and then one write or flush has failed since the opening, and no other call (`only`). What
-    /// its entries say of failures agrees (`halts`, `no_commit`, `causes`). Where the devices tell what they hold, and it began with a sound and tidy volume, its history
+    /// its entries say of failures agrees (`halts`, `no_commit`, `causes`). None says that a number is used up, where what was found is far from that, it left room in the journal, and the session is short (`unspent`). Where the devices tell what they hold, and it began with a sound and tidy volume, its history
     /// is legal (`legal`), an operation that would change the forest fails only where this wouldn't refuse it (`exact`), and whatever a crash has left at a moment since mounts as the volume
     /// after a prefix of its commits, with all that was acknowledged by then (`survives`).
     pub fn finish(self) -> Finished<D>
@@ -127,6 +130,7 @@ impl<D: Devices, O: Opening> VolState<D, O> {
         ensures halts { Halts result.halted O.start (D.state result.devices) result.trace }
         ensures no_commit { NoCommitAfterHalt (forest_found O.found O.start) result.trace }
         ensures causes { HaveCauses O.start.faults (D.state result.devices).faults result.trace }
+        ensures unspent { AreUnspent D.tells O.found O.start (D.state result.devices) result.trace }
         ensures acknowledged { AreAcks O.start.moment (D.state result.devices).moment result.trace
             result.acks }
         ensures legal { D.tells → BeginsWell O.found O.start

@@ -4,7 +4,7 @@ use Rattle.std.specs.Prelude.{All, IsSome, is_some}
 use Rattle.std.specs.Ordering.{nat_cmp}
 use Rattle.fs_plan.proofs.Filed.{carried_both, drawn_has, filed, found_is_good, good_is_name, if_made, last_is_good}
 use Rattle.fs_plan.proofs.Filing.{new_inode_fits}
-use Rattle.fs_plan.proofs.Looks.{seen_before}
+use Rattle.fs_plan.proofs.Looks.{looks_then, seen_before}
 use Rattle.fs_plan.proofs.Placing.{made_locked, made_lost, made_root}
 use Rattle.fs_plan.specs.Looking.{IsDirectoryAt, IsSpot, directory_along}
 use Rattle.fs_plan.specs.Making.{new_inode}
@@ -81,3 +81,8 @@ returns-clause-made g c = carried_both c.new_file.result _ _ _
           (c.drawn_inodes_want_names.ensures.sound keys a.client id new_inode seen.is_map c.requires tidy.drawn leaf nodes layout sound);
     }))
     c.new_file.ensures.made c.new_file.ensures.fits
+
+pub returns-clause-looks : goal.returns-clause-looks
+returns-clause-looks g c =
+    let made = g.V.View.made in
+    looks_then (made c.args.view.now) (made c.directory_along.new.view) (made c.new_file.new.view) c.in_ok-spot.ensures.looks c.new_file.ensures.looks

@@ -51,3 +51,28 @@ loop-flags-preserved g c =
       looks_then (made a.view.now) (made c.next_slot.new.view) (made c.nearest.new.view) (looks_then (made a.view.now) (made c.loop-flags.view) (made c.next_slot.new.view) c.loop-flags.invariant.1 one) two,
       c.in_ok-value.ensures.ids ∙ c.in_ok-slot.ensures.ids ∙ c.loop-flags.invariant.2,
     )
+
+pub returns-in_err-slot-clause-looks : goal.returns-in_err-slot-clause-looks
+returns-in_err-slot-clause-looks g c =
+    let made = g.V.View.made in
+    looks_then (made c.args.view.now) (made c.loop-flags.view) (made c.next_slot.new.view) c.loop-flags.invariant.1 c.in_err-slot.ensures.looks
+
+pub returns-in_default-clause-looks : goal.returns-in_default-clause-looks
+returns-in_default-clause-looks g c =
+    let made = g.V.View.made in
+    looks_then (made c.args.view.now) (made c.loop-flags.view) (made c.next_slot.new.view) c.loop-flags.invariant.1 c.in_ok-slot.ensures.looks
+
+pub returns-in_err-value-clause-looks : goal.returns-in_err-value-clause-looks
+returns-in_err-value-clause-looks g c =
+    let made = g.V.View.made in
+    looks_then (made c.args.view.now) (made c.next_slot.new.view) (made c.nearest.new.view) (looks_then (made c.args.view.now) (made c.loop-flags.view) (made c.next_slot.new.view) c.loop-flags.invariant.1 c.in_ok-slot.ensures.looks) c.in_err-value.ensures.looks
+
+pub returns-in_err-put_links-clause-looks : goal.returns-in_err-put_links-clause-looks
+returns-in_err-put_links-clause-looks g c =
+    let made = g.V.View.made in
+    looks_then (made c.args.view.now) (made c.next_slot.new.view) (made c.nearest.new.view) (looks_then (made c.args.view.now) (made c.loop-flags.view) (made c.next_slot.new.view) c.loop-flags.invariant.1 c.in_ok-slot.ensures.looks) c.in_ok-value.ensures.looks
+
+pub returns-then-slot-clause-looks : goal.returns-then-slot-clause-looks
+returns-then-slot-clause-looks g c =
+    let made = g.V.View.made in
+    looks_then (made c.args.view.now) (made c.next_slot.new.view) (made c.nearest.new.view) (looks_then (made c.args.view.now) (made c.loop-flags.view) (made c.next_slot.new.view) c.loop-flags.invariant.1 c.in_ok-slot.ensures.looks) c.in_ok-value.ensures.looks

@@ -1,6 +1,6 @@
 -- The directory, or the first refusal, in the forest's order.
 use Rattle.std.proofs.Common.{◌∙◌, sym}
-use Rattle.fs_plan.proofs.Looks.{gave_before, seen_before}
+use Rattle.fs_plan.proofs.Looks.{gave_before, looks_then, seen_before}
 use Rattle.fs_plan.proofs.Walked.{along_directory, along_file, along_lost, along_none}
 use Rattle.fs_plan.proofs.walking.directory_along.Goals as goal
 
@@ -35,3 +35,31 @@ returns-clause-found g c = λ keys read seen.
       leads = along_directory keys read c.args.path.now c.args.names.now (sym c.is_good.ensures ∙ c.if-not-is_good.false) c.in-Some.sub sub
           c.in-Ok.number (sym c.in-Ok.is ∙ c.in_ok-number.ensures.found keys read walked) directory;
     }
+
+pub returns-in_err-number-clause-looks : goal.returns-in_err-number-clause-looks
+returns-in_err-number-clause-looks g c =
+    let made = g.V.View.made in
+    looks_then (made c.args.view.now) (made c.subvolume.new.view) (made c.walk.new.view) c.in_ok-sub.ensures.looks c.in_err-number.ensures.looks
+
+pub returns-in-Err-clause-looks : goal.returns-in-Err-clause-looks
+returns-in-Err-clause-looks g c =
+    let made = g.V.View.made in
+    looks_then (made c.args.view.now) (made c.subvolume.new.view) (made c.walk.new.view) c.in_ok-sub.ensures.looks c.in_ok-number.ensures.looks
+
+pub returns-in_err-is_directory-clause-looks : goal.returns-in_err-is_directory-clause-looks
+returns-in_err-is_directory-clause-looks g c =
+    let made = g.V.View.made in
+    looks_then (made c.args.view.now) (made c.walk.new.view) (made c.is_directory.new.view)
+    (looks_then (made c.args.view.now) (made c.subvolume.new.view) (made c.walk.new.view) c.in_ok-sub.ensures.looks c.in_ok-number.ensures.looks) c.in_err-is_directory.ensures.looks
+
+pub returns-then-not-branch-clause-looks : goal.returns-then-not-branch-clause-looks
+returns-then-not-branch-clause-looks g c =
+    let made = g.V.View.made in
+    looks_then (made c.args.view.now) (made c.walk.new.view) (made c.is_directory.new.view)
+    (looks_then (made c.args.view.now) (made c.subvolume.new.view) (made c.walk.new.view) c.in_ok-sub.ensures.looks c.in_ok-number.ensures.looks) c.in_ok-is_directory.ensures.looks
+
+pub returns-clause-looks : goal.returns-clause-looks
+returns-clause-looks g c =
+    let made = g.V.View.made in
+    looks_then (made c.args.view.now) (made c.walk.new.view) (made c.is_directory.new.view)
+    (looks_then (made c.args.view.now) (made c.subvolume.new.view) (made c.walk.new.view) c.in_ok-sub.ensures.looks c.in_ok-number.ensures.looks) c.in_ok-is_directory.ensures.looks

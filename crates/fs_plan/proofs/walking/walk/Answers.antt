@@ -33,3 +33,13 @@ loop-name-preserved g c =
       looks_then (made a.view.now) (made c.loop-name.view) (made c.named.new.view) c.loop-name.invariant.1 looks,
       c.in_ok-next.ensures.ids ∙ c.loop-name.invariant.2,
     )
+
+pub returns-in-Err-clause-looks : goal.returns-in-Err-clause-looks
+returns-in-Err-clause-looks g c =
+    let made = g.V.View.made in
+    looks_then (made c.args.view.now) (made c.loop-name.view) (made c.named.new.view) c.loop-name.invariant.1 c.in_ok-next.ensures.looks
+
+pub returns-in_err-next-clause-looks : goal.returns-in_err-next-clause-looks
+returns-in_err-next-clause-looks g c =
+    let made = g.V.View.made in
+    looks_then (made c.args.view.now) (made c.loop-name.view) (made c.named.new.view) c.loop-name.invariant.1 c.in_err-next.ensures.looks

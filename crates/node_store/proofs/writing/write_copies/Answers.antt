@@ -24,6 +24,7 @@ loop-place-init g c =
       lengths = λ tells. started (λ _ _ image. HasLengthsOf (now state) image) state (λ image may. (image, may, refl));
       goes_on = go_on_here state;
       faults = refl;
+      time = λ some. absurd (omega (arith, some));
     }
 
 pub write_copy-requires-clause-place : goal.write_copy-requires-clause-place
@@ -62,6 +63,7 @@ loop-place-preserved g c =
       asks = λ tells opens. hold_by_write opens (IsCopyBlock places c.args.n bytes) old mid so_far.goes_on.later (so_far.asks tells opens) result place.dev block bytes new (hit, refl) (call.disks tells);
       goes_on = go_on_then old mid new so_far.goes_on (go_on_by_write D.tells place.dev result (MayBeWritten place.dev block bytes (now mid)) (Is (changed place.dev (written block bytes) (now mid))) mid new call c.write_copy.ensures.sizes);
       faults = c.in_ok-write_copy.ensures.call.faults ∙ so_far.faults;
+      time = λ some. let rose = c.in_ok-write_copy.ensures.call.takes_time in let later = so_far.goes_on.later in omega (arith, rose, later);
     }
 
 pub returns-in_err-write_copy-clause-crashes : goal.returns-in_err-write_copy-clause-crashes

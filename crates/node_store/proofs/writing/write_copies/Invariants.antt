@@ -6,6 +6,7 @@ use Rattle.dev_model.specs.Crashes.{EachCrash, IsCrashImageBut, SameBut}
 use Rattle.dev_model.specs.Frames.{GoOn}
 use Rattle.dev_model.specs.HeldBlocks.{HoldOnly}
 use Rattle.node_store.specs.Writes.{HasLengthsOf, IsCopyBlock, IsCopyOf}
+use Rattle.vol_types.specs.Faults.{RoseBy}
 use Rattle.node_store.proofs.writing.write_copies.Given as goal
 
 abbrev pub invariant-loop-place : goal.invariant-loop-place
@@ -20,4 +21,5 @@ invariant-loop-place g l =
       lengths : D.tells → EachCrash (λ _ _ image. HasLengthsOf (now (D.state first)) image) (D.state first) (D.state l.devices);
       goes_on : GoOn (D.state first) (D.state l.devices);
       faults : (D.state l.devices).faults ≡ (D.state first).faults;
+      time : 0 < l.place-index → RoseBy 1 (D.state first).moment (D.state l.devices).moment;
     }

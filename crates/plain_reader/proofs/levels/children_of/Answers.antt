@@ -1,11 +1,10 @@
-use Rattle.std.proofs.Common.{◌≡◌, ◌<◌, ◌∙◌, [], List, length, get_or, subst, sym}
-use Rattle.image_view.specs.Trees.{ends_at, first_place}
+use Rattle.std.proofs.Common.{◌≡◌, ◌<◌, ◌≤◌, ◌∙◌, [], List, ap, length, get_or, subst, sym, true}
+use Rattle.image_view.specs.Trees.{child_in, ends_at, first_place}
 use Rattle.vol_types.specs.Ranges.{IsValue}
 use Rattle.vol_types.specs.declared.positions.Pos.{Pos}
 use Rattle.vol_types.specs.declared.values.Value.{Value}
-use Rattle.image_view.specs.Trees.{child_in}
 use Rattle.plain_reader.proofs.LevelTold.{found_from}
-use Rattle.plain_reader.proofs.LoopsTold.{all_at, child_of_level, child_step, level_pushed}
+use Rattle.plain_reader.proofs.LoopsTold.{all_at, child_of_level, child_step, children_end, level_pushed}
 use Rattle.plain_reader.proofs.levels.children_of.Goals as goal
 
 pub loop-pos-preserved : goal.loop-pos-preserved
@@ -23,3 +22,12 @@ loop-pos-preserved c =
       nodes = level_pushed level c.loop-pos.children c.push.new.self c.in-Some.child c.in_ok-push-in-Some.ensures.ok c.loop-pos.invariant.nodes
           (child_of_level level item c.in-Some.child is (all_at IsValue node.entries i item lt at c.requires.in_range));
     }
+
+pub returns-clause-found : goal.returns-clause-found
+returns-clause-found c =
+    let level = c.args.level in
+    let node = c.args.node.now in
+    let le : length node.entries ≤ c.loop-pos.pos-index = subst (λ (es : List (Pos × Value)). length es ≤ c.loop-pos.pos-index) c.as_slice-pos-items.ensures c.loop-pos-test.false in
+    let ends : ends_at node.greatest node.entries ≡ true = sym (c.ends_at.ensures ∙ ap (ends_at node.greatest) c.as_slice.ensures) ∙ c.if-not-ends_at.false in
+    children_end level (first_place node.pointer) (ends_at node.greatest node.entries) true node.entries c.loop-pos.pos-index c.loop-pos.children (found_from (child_in level) (first_place node.pointer) (ends_at node.greatest node.entries) [] node.entries)
+    le ends c.loop-pos.invariant.found

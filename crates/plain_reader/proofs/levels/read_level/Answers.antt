@@ -4,7 +4,7 @@ use Rattle.std.specs.Map.{values_of}
 use Rattle.dev_model.specs.Devices.{now}
 use Rattle.dev_model.specs.Disk.{Image, as_read}
 use Rattle.dev_model.specs.FrameLaws.{only_read_then}
-use Rattle.geometry.specs.Faults.{SomeFailed}
+use Rattle.geometry.specs.Faults.{DeviceFailed, SomeFailed}
 use Rattle.image_view.specs.Found.{sets_in, updates_of}
 use Rattle.image_view.specs.Trees.{Wanted, read_level, read_node}
 use Rattle.tree_nodes.specs.Levels.{IsNodeOf}
@@ -13,10 +13,11 @@ use Rattle.vol_types.specs.Ranges.{IsValue}
 use Rattle.vol_types.specs.declared.pointers.NodePtr.{NodePtr}
 use Rattle.plain_reader.specs.Answers.{IsRagged, PlacesAgree, Tells}
 use Rattle.plain_reader.specs.Changes.{all_noted}
+use Rattle.plain_reader.specs.Faults.{tree_fault_device}
 use Rattle.plain_reader.specs.Nodes.{node_in}
 use Rattle.plain_reader.specs.declared.nodes.FoundNode.{FoundNode}
-use Rattle.plain_reader.proofs.Counts.{of_first, sure_before, sure_behind}
-use Rattle.plain_reader.proofs.LoopsTold.{all_at, all_pushed, handed_tells, level_step, level_stops, pointers_step}
+use Rattle.plain_reader.proofs.Counts.{cause_behind, of_first, sure_before, sure_behind}
+use Rattle.plain_reader.proofs.LoopsTold.{all_at, all_pushed, handed_device, handed_tells, level_step, level_stops, pointers_step}
 use Rattle.plain_reader.proofs.levels.read_level.Goals as goal
 
 pub read_changed-requires-clause-pointer : goal.read_changed-requires-clause-pointer
@@ -89,3 +90,29 @@ loop-greatest-preserved g c =
       in_range = all_pushed (λ (n : FoundNode). All IsValue (values_of n.entries)) c.loop-greatest.read c.push.new.self node c.in_ok-push.ensures.ok so_far.in_range c.in_ok-node.ensures.in_range;
       read = only_read_then D.tells first mid new so_far.read c.read_changed.ensures.read;
     }
+
+pub returns-in_err-node-clause-read : goal.returns-in_err-node-clause-read
+returns-in_err-node-clause-read g c =
+    let D = g.D.Devices in
+    let first = D.state c.args.devices.now in
+    let mid = D.state c.loop-greatest.devices in
+    let new = D.state c.read_changed.new.devices in
+    only_read_then D.tells first mid new c.loop-greatest.invariant.read c.read_changed.ensures.read
+
+pub returns-in_err-push-clause-read : goal.returns-in_err-push-clause-read
+returns-in_err-push-clause-read g c =
+    let D = g.D.Devices in
+    let first = D.state c.args.devices.now in
+    let mid = D.state c.loop-greatest.devices in
+    let new = D.state c.read_changed.new.devices in
+    only_read_then D.tells first mid new c.loop-greatest.invariant.read c.read_changed.ensures.read
+
+pub returns-in_err-node-clause-cause : goal.returns-in_err-node-clause-cause
+returns-in_err-node-clause-cause g c =
+    let D = g.D.Devices in
+    let first = D.state c.args.devices.now in
+    let mid = D.state c.loop-greatest.devices in
+    let new = D.state c.read_changed.new.devices in
+    let fault = c.in_err-node.field-0.0 in
+    handed_device c.from_residual-in_err-node.result fault (λ dev. DeviceFailed dev first.faults new.faults) c.from_residual-in_err-node.ensures.1
+    (cause_behind (tree_fault_device fault) first.faults mid.faults new.faults c.loop-greatest.invariant.read.calls c.in_err-node.ensures.cause)

@@ -323,3 +323,45 @@ returns-in-Ok-clause-front g c told =
       session_is = of_first D.tells old one two c.layout_of.ensures.read c.session_of.ensures.read told (λ (im : Image). ok_or (session_in layout im) NoEntry ≡ Ok session) (c.in_ok-session.ensures.found told);
       entries_are = of_first D.tells old two three r2 c.needed_of.ensures.read told (λ (im : Image). entries_in layout (area_of im) ≡ Ok (with_last needed)) (c.in_ok-needed.ensures.found told);
     }
+
+pub returns-in_err-session-clause-read : goal.returns-in_err-session-clause-read
+returns-in_err-session-clause-read g c =
+    let D = g.D.Devices in
+    let old = D.state c.args.devices.now in
+    let one = D.state c.layout_of.new.devices in
+    let two = D.state c.session_of.new.devices in
+    only_read_then D.tells old one two c.layout_of.ensures.read c.session_of.ensures.read
+
+pub returns-in_err-needed-clause-read : goal.returns-in_err-needed-clause-read
+returns-in_err-needed-clause-read g c =
+    let D = g.D.Devices in
+    let old = D.state c.args.devices.now in
+    let one = D.state c.layout_of.new.devices in
+    let two = D.state c.session_of.new.devices in
+    let three = D.state c.needed_of.new.devices in
+    let r2 = only_read_then D.tells old one two c.layout_of.ensures.read c.session_of.ensures.read in
+    only_read_then D.tells old two three r2 c.needed_of.ensures.read
+
+pub returns-in-Ok-clause-read : goal.returns-in-Ok-clause-read
+returns-in-Ok-clause-read g c =
+    let D = g.D.Devices in
+    let old = D.state c.args.devices.now in
+    let one = D.state c.layout_of.new.devices in
+    let two = D.state c.session_of.new.devices in
+    let three = D.state c.needed_of.new.devices in
+    let r2 = only_read_then D.tells old one two c.layout_of.ensures.read c.session_of.ensures.read in
+    let four = D.state c.btrees_of.new.devices in
+    let r3 = only_read_then D.tells old two three r2 c.needed_of.ensures.read in
+    only_read_then D.tells old three four r3 c.btrees_of.ensures.read
+
+pub returns-in-Err-clause-read : goal.returns-in-Err-clause-read
+returns-in-Err-clause-read g c =
+    let D = g.D.Devices in
+    let old = D.state c.args.devices.now in
+    let one = D.state c.layout_of.new.devices in
+    let two = D.state c.session_of.new.devices in
+    let three = D.state c.needed_of.new.devices in
+    let r2 = only_read_then D.tells old one two c.layout_of.ensures.read c.session_of.ensures.read in
+    let four = D.state c.btrees_of.new.devices in
+    let r3 = only_read_then D.tells old two three r2 c.needed_of.ensures.read in
+    only_read_then D.tells old three four r3 c.btrees_of.ensures.read

@@ -3,18 +3,20 @@ use Rattle.std.specs.List.{flat_map}
 use Rattle.std.specs.Map.{values_of}
 use Rattle.dev_model.specs.Devices.{now}
 use Rattle.dev_model.specs.Disk.{Image, as_read}
-use Rattle.geometry.specs.Faults.{SomeFailed}
+use Rattle.dev_model.specs.FrameLaws.{only_read_then}
+use Rattle.geometry.specs.Faults.{DeviceFailed, SomeFailed}
 use Rattle.image_view.specs.Found.{sets_in, updates_of}
 use Rattle.image_view.specs.Trees.{BtreeRead, children_of, each_of, ends_of, read_down, read_level}
 use Rattle.tree_nodes.specs.Levels.{Level}
 use Rattle.vol_types.specs.Positions.{least_pos}
 use Rattle.plain_reader.specs.Answers.{AreRagged, IsSureBtree, PlacesAgree, Tells}
+use Rattle.plain_reader.specs.Faults.{tree_fault_device}
 use Rattle.plain_reader.specs.Nodes.{joined_levels, node_in, ragged_births}
 use Rattle.plain_reader.specs.Volumes.{btree_in}
 use Rattle.plain_reader.specs.declared.found.FoundBtree.{FoundBtree}
 use Rattle.plain_reader.specs.declared.nodes.FoundNode.{FoundNode}
-use Rattle.plain_reader.proofs.Counts.{of_first, sure_before, sure_behind}
-use Rattle.plain_reader.proofs.LoopsTold.{handed_tells}
+use Rattle.plain_reader.proofs.Counts.{cause_behind, of_first, sure_before, sure_behind}
+use Rattle.plain_reader.proofs.LoopsTold.{handed_device, handed_tells}
 use Rattle.plain_reader.proofs.RaggedTold.{ragged_leaves, ragged_upper}
 use Rattle.plain_reader.proofs.TreeTold.{below_fault, leaves_told, level_fault, rest_fault, sure_level, sure_rest, upper_told}
 use Rattle.plain_reader.proofs.trees.«+read_down».Goals as goal
@@ -177,3 +179,37 @@ returns-clause-ragged g t c told unfailed =
     (c.in_ok-rest.ensures.ragged told (sure_behind D.tells first mid new c.read_level.ensures.read c.read_down.ensures.read {P = ⊥} unfailed)))
     (ap (λ (b : BtreeRead). b.levels) c.in_ok-under.ensures.btree)
     (c.in_ok-under.ensures.ragged ∙ ap (λ (ns : List FoundNode). ragged_births ns ++ rest.ragged) c.as_slice-3.ensures)
+
+pub returns-in_err-rest-clause-read : goal.returns-in_err-rest-clause-read
+returns-in_err-rest-clause-read g t c =
+    let D = g.D.Devices in
+    let first = D.state c.args.devices.now in
+    let mid = D.state c.read_level.new.devices in
+    let new = D.state c.read_down.new.devices in
+    only_read_then D.tells first mid new c.read_level.ensures.read c.read_down.ensures.read
+
+pub returns-in_err-under-clause-read : goal.returns-in_err-under-clause-read
+returns-in_err-under-clause-read g t c =
+    let D = g.D.Devices in
+    let first = D.state c.args.devices.now in
+    let mid = D.state c.read_level.new.devices in
+    let new = D.state c.read_down.new.devices in
+    only_read_then D.tells first mid new c.read_level.ensures.read c.read_down.ensures.read
+
+pub returns-clause-read : goal.returns-clause-read
+returns-clause-read g t c =
+    let D = g.D.Devices in
+    let first = D.state c.args.devices.now in
+    let mid = D.state c.read_level.new.devices in
+    let new = D.state c.read_down.new.devices in
+    only_read_then D.tells first mid new c.read_level.ensures.read c.read_down.ensures.read
+
+pub returns-in_err-rest-clause-cause : goal.returns-in_err-rest-clause-cause
+returns-in_err-rest-clause-cause g t c =
+    let D = g.D.Devices in
+    let first = D.state c.args.devices.now in
+    let mid = D.state c.read_level.new.devices in
+    let new = D.state c.read_down.new.devices in
+    let fault = c.in_err-rest.field-0.0 in
+    handed_device c.from_residual-in_err-rest.result fault (λ dev. DeviceFailed dev first.faults new.faults) c.from_residual-in_err-rest.ensures.1
+    (cause_behind (tree_fault_device fault) first.faults mid.faults new.faults c.read_level.ensures.read.calls c.in_err-rest.ensures.cause)

@@ -4,14 +4,15 @@ use Rattle.std.specs.Map.{values_of}
 use Rattle.dev_model.specs.Devices.{now}
 use Rattle.dev_model.specs.Disk.{Image, as_read}
 use Rattle.dev_model.specs.FrameLaws.{only_read_then}
-use Rattle.geometry.specs.Faults.{SomeFailed}
+use Rattle.geometry.specs.Faults.{DeviceFailed, SomeFailed}
 use Rattle.image_view.specs.Found.{sets_in, updates_of}
 use Rattle.image_view.specs.Trees.{btree_of, each_of, with_roots}
 use Rattle.plain_reader.specs.Answers.{AreRagged, IsSureBtree, Tells}
+use Rattle.plain_reader.specs.Faults.{tree_fault_device}
 use Rattle.plain_reader.specs.Volumes.{btree_in}
 use Rattle.plain_reader.specs.declared.found.FoundBtree.{FoundBtree}
-use Rattle.plain_reader.proofs.Counts.{of_first, sure_before, sure_behind}
-use Rattle.plain_reader.proofs.LoopsTold.{all_pushed, btrees_step, btrees_stop, handed_tells, sure_at}
+use Rattle.plain_reader.proofs.Counts.{cause_behind, of_first, sure_before, sure_behind}
+use Rattle.plain_reader.proofs.LoopsTold.{all_pushed, btrees_step, btrees_stop, handed_device, handed_tells, sure_at}
 use Rattle.plain_reader.proofs.trees.read_btrees.Goals as goal
 
 pub returns-in_err-btree-clause-found : goal.returns-in_err-btree-clause-found
@@ -77,3 +78,29 @@ loop-number-preserved g c =
           (c.in_ok-btree.ensures.ragged told (sure_behind D.tells first mid new so_far.read c.read_btree.ensures.read {P = ⊥} unfailed)));
       read = only_read_then D.tells first mid new so_far.read c.read_btree.ensures.read;
     }
+
+pub returns-in_err-btree-clause-read : goal.returns-in_err-btree-clause-read
+returns-in_err-btree-clause-read g c =
+    let D = g.D.Devices in
+    let first = D.state c.args.devices.now in
+    let mid = D.state c.loop-number.devices in
+    let new = D.state c.read_btree.new.devices in
+    only_read_then D.tells first mid new c.loop-number.invariant.read c.read_btree.ensures.read
+
+pub returns-in_err-push-clause-read : goal.returns-in_err-push-clause-read
+returns-in_err-push-clause-read g c =
+    let D = g.D.Devices in
+    let first = D.state c.args.devices.now in
+    let mid = D.state c.loop-number.devices in
+    let new = D.state c.read_btree.new.devices in
+    only_read_then D.tells first mid new c.loop-number.invariant.read c.read_btree.ensures.read
+
+pub returns-in_err-btree-clause-cause : goal.returns-in_err-btree-clause-cause
+returns-in_err-btree-clause-cause g c =
+    let D = g.D.Devices in
+    let first = D.state c.args.devices.now in
+    let mid = D.state c.loop-number.devices in
+    let new = D.state c.read_btree.new.devices in
+    let fault = c.in_err-btree.field-0.0 in
+    handed_device c.from_residual.result fault (λ dev. DeviceFailed dev first.faults new.faults) c.from_residual.ensures.1
+    (cause_behind (tree_fault_device fault) first.faults mid.faults new.faults c.loop-number.invariant.read.calls c.in_err-btree.ensures.cause)

@@ -35,7 +35,7 @@ returns-in_err-loaded-clause-cause g c arguments run =
     let first = c.args.devices.now in
     let last = c.mount.new.devices in
     handed_on c.from_residual-in_err-loaded.result (EarlyCause S.tells D.tells arguments left (D.state first) (D.state last) first last) c.in_err-loaded.field-0.0 c.from_residual-in_err-loaded.ensures.1
-    (inr (record { run = run; script = c.in_ok-script.script; gave = c.in_ok-script.ensures.gave; cause = c.in_err-loaded.ensures.cause }))
+    (inr (inl (record { run = run; script = c.in_ok-script.script; gave = c.in_ok-script.ensures.gave; cause = c.in_err-loaded.ensures.cause })))
 
 pub returns-in_err-loaded-clause-source : goal.returns-in_err-loaded-clause-source
 returns-in_err-loaded-clause-source g c =

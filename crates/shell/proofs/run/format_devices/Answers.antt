@@ -9,11 +9,11 @@ pub returns-in-Ok-clause-formats : goal.returns-in-Ok-clause-formats
 returns-in-Ok-clause-formats g c =
     let D = g.D.Devices in
     let K = g.K.Sink in
-    format_done D.state K.tells D.tells c.args.layout.now c.args.devices c.format.new.devices c.end_formatted.result.devices c.args.line.now
-    (K.held c.args.sink.now) (K.held c.end_formatted.new.sink) (K.faults c.args.sink.now) (K.faults c.end_formatted.new.sink) c.end_formatted.result.status c.end_formatted.result.early_end c.end_formatted.result.trace c.end_formatted.result.acks
-    c.requires.line c.format.ensures.moment c.format.ensures.survives (λ told. holds_fresh c.fresh_volumes_may_run.ensures c.args.layout.now (D.state c.format.new.devices) c.requires.layout (c.in-Ok.ensures.done told))
+    format_done D.state K.tells D.tells c.args.layout.now c.args.devices c.format.new.devices c.end_told.result.devices c.args.line.now
+    (K.held c.args.sink.now) (K.held c.end_told.new.sink) (K.faults c.args.sink.now) (K.faults c.end_told.new.sink) c.end_told.result.status c.end_told.result.early_end c.end_told.result.trace c.end_told.result.acks
+    c.requires.line c.format.ensures.moment c.format.ensures.survives (λ told. holds_fresh c.fresh_volumes_may_run.ensures.may c.fresh_volumes_may_run.ensures.room c.args.layout.now (D.state c.format.new.devices) c.requires.layout (c.in-Ok.ensures.done told))
     (subst (λ result. AreAfterCalls (failed_device result) (D.state c.args.devices).faults (D.state c.format.new.devices).faults) c.in-Ok.is c.format.ensures.cause)
-    c.end_formatted.ensures.devices c.end_formatted.ensures.early c.end_formatted.ensures.ends
+    c.end_told.ensures.devices c.end_told.ensures.early c.end_told.ensures.ends
 
 pub returns-in-Err-clause-formats : goal.returns-in-Err-clause-formats
 returns-in-Err-clause-formats g c =

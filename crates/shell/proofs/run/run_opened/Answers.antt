@@ -22,6 +22,7 @@ returns-clause-ran g c =
       halts = kept.halts;
       no_commit = kept.no_commit;
       causes = kept.causes;
+      unspent = kept.unspent;
       acknowledged = kept.acknowledged;
       legal = kept.legal;
       exact = kept.exact;

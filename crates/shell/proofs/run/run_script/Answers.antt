@@ -1,4 +1,4 @@
-use Rattle.std.proofs.Common.{◌≤◌, ⊎_elim, [], sym, subst}
+use Rattle.std.proofs.Common.{◌≤◌, inl, ⊎_elim, [], sym, subst}
 use Rattle.replay.specs.Volumes.{found_in}
 use Rattle.run_safety.specs.Runs.{RunSurvives}
 use Rattle.shell.specs.Causes.{EarlyCause}
@@ -21,15 +21,16 @@ returns-in-Ok g c arguments run =
     let sink_after = c.run_plan.new.sink in
     let ended = c.run_plan.result in
     let left = S.left c.args.source.now in
+    let left_after = S.left c.prepare.new.source in
     let failed = S.faults c.args.source.now in
     let failed_after = S.faults c.prepare.new.source in
     ⊎_elim
     (λ (ran : RunsOpened D.state D.tells K.tells K.held K.given_at K.faults (found_in plan.loaded) (D.state mid) plan.script sink sink_after ended.devices ended.status ended.early_end ended.trace ended.acks).
-    ran_opened S.tells K.tells D.tells D.state K.held K.given_at K.faults arguments left failed failed_after sink sink_after first ended.devices ended.status ended.early_end ended.trace ended.acks ended.shorts
+    ran_opened S.tells K.tells D.tells D.state K.held K.given_at K.faults arguments left left_after failed failed_after sink sink_after first ended.devices ended.status ended.early_end ended.trace ended.acks ended.shorts
     (found_in plan.loaded) (D.state mid) plan.script c.runs_are_safe.ensures.begins c.runs_are_safe.ensures.session (λ told. g.met.D.Devices.sound told mid)
     c.in-Ok.ensures.opened c.prepare.ensures.keeps c.prepare.ensures.goes_on c.in-Ok.ensures.gave c.in-Ok.ensures.still run ran c.run_plan.ensures.shorts)
     (λ (unopened : EndsUnopened K.tells K.held K.faults mid ended.devices sink sink_after ended.status ended.early_end ended.trace ended.acks).
-    ended_unopened S.tells K.tells D.tells D.state K.held K.given_at K.faults arguments left failed failed_after sink sink_after first ended.devices ended.status ended.early_end ended.trace ended.acks ended.shorts
+    ended_unopened S.tells K.tells D.tells D.state K.held K.given_at K.faults arguments left left_after failed failed_after sink sink_after first ended.devices ended.status ended.early_end ended.trace ended.acks ended.shorts
     mid plan.script c.runs_are_safe.ensures.opening c.prepare.ensures.keeps c.prepare.ensures.goes_on c.prepare.ensures.unmounted c.in-Ok.ensures.gave c.in-Ok.ensures.still run unopened c.run_plan.ensures.shorts)
     c.run_plan.ensures.ran
 
@@ -47,7 +48,7 @@ returns-in-Err g c arguments run =
     let old = D.state first in
     let all : Run g.row.D.Denot g.row.K.Denot = record {
       arguments = arguments;
-      streams = record { left = left; held = K.held c.args.sink.now; held_after = K.held c.end_early.new.sink };
+      streams = record { left = left; left_after = S.left c.prepare.new.source; held = K.held c.args.sink.now; held_after = K.held c.end_early.new.sink };
       faults = record { source = S.faults c.args.source.now; source_after = S.faults c.prepare.new.source; sink = K.faults c.args.sink.now; sink_after = K.faults c.end_early.new.sink };
       sink = c.args.sink.now;
       sink_after = c.end_early.new.sink;
@@ -64,6 +65,7 @@ returns-in-Err g c arguments run =
     ended_early S.tells K.tells D.tells K.held K.given_at all end early.ends
     (subst (λ d. EarlyCause S.tells D.tells arguments left old (D.state d) first d end) (sym early.devices) (c.in-Err.ensures.cause arguments run))
     c.in-Err.ensures.source
+    (inl run)
     (subst (λ d. OnlyReadUnmounted D.tells old (D.state d)) (sym early.devices) c.prepare.ensures.unmounted)
     (λ told f may. subst (λ d. RunSurvives f old (D.state d) [] []) (sym early.devices) (c.runs_are_safe.ensures.opening f old (D.state mid) may (c.prepare.ensures.keeps told f may.on)))
     (subst (λ d. old.moment ≤ (D.state d).moment) (sym early.devices) c.prepare.ensures.goes_on.later)

@@ -1,19 +1,45 @@
-use Rattle.std.proofs.Common.{◌≤◌, inl, [], Some, refl, ap, ◌∙◌, sym, subst, arith}
+use Rattle.std.proofs.Common.{◌≤◌, inl, inr, [], Some, refl, ap, ◌∙◌, sym, subst, arith}
 use Rattle.std.specs.Prelude.{length}
 use Rattle.dev_model.specs.FrameLaws.{only_read_here}
 use Rattle.run_safety.specs.Runs.{RunSurvives}
 use Rattle.shell.specs.declared.early_end.EarlyEnd.TheVariants.{OutOfMemory}
 use Rattle.shell.specs.declared.task.Task.{Task}
-use Rattle.shell.specs.Tasks.{IsFormat}
+use Rattle.shell.specs.Tasks.{IsFormat, IsInfo}
 use Rattle.shell.specs.Mounts.{OnlyReadUnmounted}
 use Rattle.shell.specs.Runs.{Run}
 use Rattle.shell.proofs.Asking.{Fits, format_fits}
 use Rattle.shell.proofs.EndingEarly.{ended_early, formatted}
+use Rattle.shell.proofs.Informing.{informed}
 use Rattle.shell.proofs.Sessions.{untouched_survives}
 use Rattle.shell.proofs.run.run_task.Goals as goal
 
 pub returns-in-Run : goal.returns-in-Run
 returns-in-Run g c arguments asked = c.run_script.ensures arguments (asked ∙ ap (λ (task : Task). Some task) c.in-Run.is)
+
+pub returns-in-Info : goal.returns-in-Info
+returns-in-Info g c arguments asked =
+    let D = g.D.Devices in
+    let S = g.S.Source in
+    let K = g.K.Sink in
+    let ended = c.inform.result in
+    let info : IsInfo arguments (D.state c.args.devices).sizes = asked ∙ ap (λ (task : Task). Some task) c.in-Info.is in
+    let all : Run g.row.D.Denot g.row.K.Denot = record {
+      arguments = arguments;
+      streams = record { left = S.left c.args.source.now; left_after = S.left c.args.source.now; held = K.held c.args.sink.now; held_after = K.held c.inform.new.sink };
+      faults = record { source = S.faults c.args.source.now; source_after = S.faults c.args.source.now; sink = K.faults c.args.sink.now; sink_after = K.faults c.inform.new.sink };
+      sink = c.args.sink.now;
+      sink_after = c.inform.new.sink;
+      devices = c.args.devices;
+      devices_after = ended.devices;
+      state = D.state c.args.devices;
+      state_after = D.state ended.devices;
+      status = ended.status;
+      early_end = ended.early_end;
+      trace = ended.trace;
+      acks = ended.acks;
+      shorts = ended.shorts;
+    } in
+    informed S.tells K.tells D.tells K.held K.given_at all info refl refl c.runs_are_safe.ensures.opening c.inform.ensures.shorts c.inform.ensures.informs
 
 pub formatted_line-requires : goal.formatted_line-requires
 formatted_line-requires g c =
@@ -43,7 +69,7 @@ returns-in-Ok g c arguments asked =
     let format : IsFormat arguments (D.state c.args.devices).sizes layout = asked ∙ ap (λ (task : Task). Some task) c.in-Format.is in
     let all : Run g.row.D.Denot g.row.K.Denot = record {
       arguments = arguments;
-      streams = record { left = S.left c.args.source.now; held = K.held c.args.sink.now; held_after = K.held c.format_devices.new.sink };
+      streams = record { left = S.left c.args.source.now; left_after = S.left c.args.source.now; held = K.held c.args.sink.now; held_after = K.held c.format_devices.new.sink };
       faults = record { source = S.faults c.args.source.now; source_after = S.faults c.args.source.now; sink = K.faults c.args.sink.now; sink_after = K.faults c.format_devices.new.sink };
       sink = c.args.sink.now;
       sink_after = c.format_devices.new.sink;
@@ -57,7 +83,7 @@ returns-in-Ok g c arguments asked =
       acks = ended.acks;
       shorts = ended.shorts;
     } in
-    formatted S.tells K.tells D.tells K.held K.given_at all layout format c.format_devices.ensures.formats refl c.format_devices.ensures.shorts
+    formatted S.tells K.tells D.tells K.held K.given_at all layout format c.format_devices.ensures.formats refl refl c.format_devices.ensures.shorts
 
 pub returns : goal.returns
 returns g c arguments asked =
@@ -71,7 +97,7 @@ returns g c arguments asked =
     let left = S.left c.args.source.now in
     let all : Run g.row.D.Denot g.row.K.Denot = record {
       arguments = arguments;
-      streams = record { left = left; held = K.held c.args.sink.now; held_after = K.held c.end_early.new.sink };
+      streams = record { left = left; left_after = left; held = K.held c.args.sink.now; held_after = K.held c.end_early.new.sink };
       faults = record { source = S.faults c.args.source.now; source_after = S.faults c.args.source.now; sink = K.faults c.args.sink.now; sink_after = K.faults c.end_early.new.sink };
       sink = c.args.sink.now;
       sink_after = c.end_early.new.sink;
@@ -86,7 +112,7 @@ returns g c arguments asked =
       shorts = ended.shorts;
     } in
     ended_early S.tells K.tells D.tells K.held K.given_at all OutOfMemory early.ends
-    (inl (record { cause = inl tt; untouched = early.devices })) refl
+    (inl (record { cause = inl tt; untouched = early.devices })) refl (inr refl)
     (subst (λ d. OnlyReadUnmounted D.tells old (D.state d)) (sym early.devices) (λ told unfailed error. only_read_here D.tells old))
     (λ told f may. subst (λ d. RunSurvives f old (D.state d) [] []) (sym early.devices) (untouched_survives c.runs_are_safe.ensures.opening f old may))
     (subst (λ d. old.moment ≤ (D.state d).moment) (sym early.devices) (omega arith))

@@ -1,4 +1,4 @@
-use Rattle.std.proofs.Common.{◌≡◌, ◌≤◌, inl, [], Some, None, Global, map, sym, subst, arith}
+use Rattle.std.proofs.Common.{◌≡◌, ◌≤◌, inl, inr, refl, [], Some, None, Global, map, sym, subst, arith}
 use Rattle.std.specs.Rc.{rc_str_bytes}
 use Rattle.dev_model.specs.FrameLaws.{only_read_here}
 use Rattle.run_safety.specs.Runs.{RunSurvives}
@@ -34,7 +34,7 @@ returns-in-Err g c =
     let left = S.left c.args.source.now in
     let all : Run g.row.D.Denot g.row.K.Denot = record {
       arguments = words;
-      streams = record { left = left; held = K.held c.args.sink.now; held_after = K.held c.end_early.new.sink };
+      streams = record { left = left; left_after = left; held = K.held c.args.sink.now; held_after = K.held c.end_early.new.sink };
       faults = record { source = S.faults c.args.source.now; source_after = S.faults c.args.source.now; sink = K.faults c.args.sink.now; sink_after = K.faults c.end_early.new.sink };
       sink = c.args.sink.now;
       sink_after = c.end_early.new.sink;
@@ -54,6 +54,7 @@ returns-in-Err g c =
       untouched = early.devices;
     }))
     (subst (λ end. SourceFailed end (S.faults c.args.source.now) (S.faults c.args.source.now)) (sym c.from.ensures) (arguments_source c.in-Err.fault (S.faults c.args.source.now)))
+    (inr refl)
     (subst (λ d. OnlyReadUnmounted D.tells old (D.state d)) (sym early.devices) (λ told unfailed error. only_read_here D.tells old))
     (λ told f may. subst (λ d. RunSurvives f old (D.state d) [] []) (sym early.devices) (untouched_survives c.runs_are_safe.ensures.opening f old may))
     (subst (λ d. old.moment ≤ (D.state d).moment) (sym early.devices) (omega arith))

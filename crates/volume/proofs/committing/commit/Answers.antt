@@ -1,4 +1,7 @@
-use Rattle.volume.proofs.Served.{not_made, served_later}
+use Rattle.std.proofs.Common.{ap, subst}
+use Rattle.core_memory.specs.States.{IsState}
+use Rattle.vol_session.specs.Sessions.{SessionState}
+use Rattle.volume.proofs.Served.{made_served, not_made, served_later}
 use Rattle.volume.proofs.committing.commit.Goals as goal
 
 pub settle-requires-clause-intended : goal.settle-requires-clause-intended
@@ -20,3 +23,9 @@ returns-in-Err-clause-served g c =
     let not = not_made state c.args.op c.in-Err.not.op c.args.session.now c.commit.new.self c.in-Err.not.answer c.memory.result.now c.memory.ensures.memory c.see_kept.ensures.kept why.0 why.1 why.3 c.commit.ensures.devices
     c.requires.intended in
     served_later state c.settle.result c.args.op c.in-Err.not.op c.args.session.now c.commit.new.self c.settle.new.session not.moved why.1 c.settle.ensures.served
+
+pub returns-in-Ok-clause-served : goal.returns-in-Ok-clause-served
+returns-in-Ok-clause-served g c =
+    let entered = c.in-Ok.ensures.entry in
+    made_served g.D.Devices.state c.args.op c.args.session.now c.commit.new.self (subst IsState c.memory.ensures.memory c.see_kept.ensures.kept) c.requires.intended c.in-Ok.ensures.made
+    (ap (λ (s : SessionState g.row.D.Denot). s.trace) entered) (ap (λ (s : SessionState g.row.D.Denot). s.acks) entered) c.commit.ensures.devices

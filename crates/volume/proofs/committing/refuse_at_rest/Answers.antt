@@ -1,11 +1,12 @@
-use Rattle.std.proofs.Common.{inl, inr, subst, true}
+use Rattle.std.proofs.Common.{inl, inr, refl, subst, true}
 use Rattle.core_memory.specs.Events.{intended_by}
 use Rattle.core_memory.specs.Rulings.{IsRefused}
 use Rattle.core_memory.specs.declared.answer.Refusal.{Refusal}
 use Rattle.core_memory.specs.declared.answer.Refusal.TheVariants as refusals
 use Rattle.volume.specs.Answers.{IsFullAtRest}
+use Rattle.volume.proofs.Lacking.{commit_is_spent, leaf_is_full}
 use Rattle.volume.proofs.Replying.{intended_is_done}
-use Rattle.volume.proofs.Served.{lack_result}
+use Rattle.volume.proofs.Served.{lack_result, spent_served}
 use Rattle.volume.proofs.committing.refuse_at_rest.Goals as goal
 
 pub fail_halted-requires-clause-done : goal.fail_halted-requires-clause-done
@@ -26,23 +27,38 @@ lack-requires-in-NoSpace-clause-done g c = intended_is_done c.args.session.now.c
 pub returns-in-RingFull-clause-served : goal.returns-in-RingFull-clause-served
 returns-in-RingFull-clause-served g c =
     let memory = c.args.session.now.core.memory in
-    let full : IsFullAtRest memory.volume = record {
+    let full : IsFullAtRest c.args.op c.nothing_short-in-RingFull.result memory.volume = record {
       updates = intended_by memory 0;
+      of_op = c.requires.intended.now;
       refusal = refusals.RingFull c.in-RingFull.field-0;
       rested = c.requires.rested;
       refused = subst (λ (refusal : Refusal). IsRefused memory.volume (intended_by memory 0) true refusal) c.in-RingFull.is c.requires.refused;
-      space = tt;
+      told = c.nothing_short-in-RingFull.ensures;
     } in
     lack_result g.D.Devices.state c.lack-in-RingFull.result c.args.op c.nothing_short-in-RingFull.result c.args.session.now c.lack-in-RingFull.new.session (inr (inr (inr (inl full)))) c.lack-in-RingFull.ensures.entered c.lack-in-RingFull.ensures.reply
 
 pub returns-in-NoSpace-clause-served : goal.returns-in-NoSpace-clause-served
 returns-in-NoSpace-clause-served g c =
     let memory = c.args.session.now.core.memory in
-    let full : IsFullAtRest memory.volume = record {
+    let full : IsFullAtRest c.args.op c.in-NoSpace.none.short memory.volume = record {
       updates = intended_by memory 0;
+      of_op = c.requires.intended.now;
       refusal = refusals.NoSpace c.in-NoSpace.none;
       rested = c.requires.rested;
       refused = subst (λ (refusal : Refusal). IsRefused memory.volume (intended_by memory 0) true refusal) c.in-NoSpace.is c.requires.refused;
-      space = tt;
+      told = refl;
     } in
     lack_result g.D.Devices.state c.lack-in-NoSpace.result c.args.op c.in-NoSpace.none.short c.args.session.now c.lack-in-NoSpace.new.session (inr (inr (inr (inl full)))) c.lack-in-NoSpace.ensures.entered c.lack-in-NoSpace.ensures.reply
+
+pub returns-in-NeedSplit-clause-served : goal.returns-in-NeedSplit-clause-served
+returns-in-NeedSplit-clause-served g c =
+    let memory = c.args.session.now.core.memory in
+    let refused = subst (λ (refusal : Refusal). IsRefused memory.volume (intended_by memory 0) true refusal) c.in-NeedSplit.is c.requires.refused in
+    lack_result g.D.Devices.state c.lack.result c.args.op c.nothing_short.result c.args.session.now c.lack.new.session
+    (leaf_is_full memory c.args.op c.requires.intended c.in-NeedSplit.field-0 c.nothing_short.result c.nothing_short.ensures refused) c.lack.ensures.entered c.lack.ensures.reply
+
+pub returns-in-Spent-clause-served : goal.returns-in-Spent-clause-served
+returns-in-Spent-clause-served g c =
+    let memory = c.args.session.now.core.memory in
+    let refused = subst (λ (refusal : Refusal). IsRefused memory.volume (intended_by memory 0) true refusal) c.in-Spent.is c.requires.refused in
+    spent_served g.D.Devices.state c.args.op c.fail_spent.result c.args.session.now c.fail_spent.new.session c.fail_spent.ensures.reply (commit_is_spent memory c.args.op c.requires.intended refused) c.fail_spent.ensures.entered

@@ -10,8 +10,9 @@ use Rattle.vol_types.specs.declared.keys.Update.{Update}
 use Rattle.std.specs.Prelude.{All}
 use Rattle.vol_types.specs.declared.values.Value.{Value}
 use Rattle.btree_map.specs.Applied.{values_before}
-use Rattle.core_memory.specs.Volumes.{Volume, changes_in}
-use Rattle.core_memory.proofs.Committed.{made-kept}
+use Rattle.core_memory.specs.Commits.{IsCommitted}
+use Rattle.core_memory.specs.Volumes.{IsVolume, Volume, changes_in}
+use Rattle.core_memory.proofs.Committed.{made-kept, made-told}
 use Rattle.core_memory.proofs.volume.Volume.make.Goals as goal
 
 pub invariant_of-self-in-Ok : goal.invariant_of-self-in-Ok
@@ -61,3 +62,57 @@ invariant_of-self-in-Ok c =
 
 pub returns-in-Ok-clause-sound : goal.returns-in-Ok-clause-sound
 returns-in-Ok-clause-sound c = invariant_of-self-in-Ok c
+
+-- Room was taken alone.
+pub invariant_of-self : goal.invariant_of-self
+invariant_of-self c =
+    let inside = c.self.inside in
+    let old : Volume = record { layout = inside.layout; session = inside.session; trees = inside.keys; queue = inside.queue.queue; pins = inside.dirty.pins.numbers; marks = inside.dirty.marks.numbers; later = inside.dirty.later.numbers; space = inside.pool; writer = inside.writer; work = inside.nodes; emptied = inside.emptied; halted = inside.halted; changes = inside.changes } in
+    subst IsVolume (sym (λ i. record old { queue = c.reserve.ensures.queue i; pins = c.reserve.ensures.pins i; marks = c.reserve.ensures.marks i; later = c.reserve.ensures.later i })) c.self.invariant
+
+pub invariant_of-self-in-Err : goal.invariant_of-self-in-Err
+invariant_of-self-in-Err c =
+    let inside = c.self.inside in
+    let old : Volume = record { layout = inside.layout; session = inside.session; trees = inside.keys; queue = inside.queue.queue; pins = inside.dirty.pins.numbers; marks = inside.dirty.marks.numbers; later = inside.dirty.later.numbers; space = inside.pool; writer = inside.writer; work = inside.nodes; emptied = inside.emptied; halted = inside.halted; changes = inside.changes } in
+    subst IsVolume (sym (λ i. record old { trees = c.in-Err.ensures.err i; queue = c.reserve.ensures.queue i; pins = c.reserve.ensures.pins i; marks = c.reserve.ensures.marks i; later = c.reserve.ensures.later i })) c.self.invariant
+
+pub returns-then-is_err-clause-err : goal.returns-then-is_err-clause-err
+returns-then-is_err-clause-err c =
+    let inside = c.self.inside in
+    let same : record { layout = inside.layout; session = inside.session; trees = inside.keys; queue = c.reserve.new.queue.queue; pins = c.reserve.new.dirty.pins.numbers; marks = c.reserve.new.dirty.marks.numbers; later = c.reserve.new.dirty.later.numbers; space = inside.pool; writer = inside.writer; work = inside.nodes; emptied = inside.emptied; halted = inside.halted; changes = inside.changes }
+    ≡ record { layout = inside.layout; session = inside.session; trees = inside.keys; queue = inside.queue.queue; pins = inside.dirty.pins.numbers; marks = inside.dirty.marks.numbers; later = inside.dirty.later.numbers; space = inside.pool; writer = inside.writer; work = inside.nodes; emptied = inside.emptied; halted = inside.halted; changes = inside.changes } =
+    λ i. record { layout = inside.layout; session = inside.session; trees = inside.keys; queue = c.reserve.ensures.queue i; pins = c.reserve.ensures.pins i; marks = c.reserve.ensures.marks i; later = c.reserve.ensures.later i; space = inside.pool; writer = inside.writer; work = inside.nodes; emptied = inside.emptied; halted = inside.halted; changes = inside.changes } in
+    same ∙ c.self.view_is
+
+pub returns-in-Err-clause-err : goal.returns-in-Err-clause-err
+returns-in-Err-clause-err c =
+    let inside = c.self.inside in
+    let same : record { layout = inside.layout; session = inside.session; trees = c.apply.new.self; queue = c.reserve.new.queue.queue; pins = c.reserve.new.dirty.pins.numbers; marks = c.reserve.new.dirty.marks.numbers; later = c.reserve.new.dirty.later.numbers; space = inside.pool; writer = inside.writer; work = inside.nodes; emptied = inside.emptied; halted = inside.halted; changes = inside.changes }
+    ≡ record { layout = inside.layout; session = inside.session; trees = inside.keys; queue = inside.queue.queue; pins = inside.dirty.pins.numbers; marks = inside.dirty.marks.numbers; later = inside.dirty.later.numbers; space = inside.pool; writer = inside.writer; work = inside.nodes; emptied = inside.emptied; halted = inside.halted; changes = inside.changes } =
+    λ i. record { layout = inside.layout; session = inside.session; trees = c.in-Err.ensures.err i; queue = c.reserve.ensures.queue i; pins = c.reserve.ensures.pins i; marks = c.reserve.ensures.marks i; later = c.reserve.ensures.later i; space = inside.pool; writer = inside.writer; work = inside.nodes; emptied = inside.emptied; halted = inside.halted; changes = inside.changes } in
+    same ∙ c.self.view_is
+
+pub returns-in-Ok-clause-made : goal.returns-in-Ok-clause-made
+returns-in-Ok-clause-made c =
+    let inside = c.self.inside in
+    let updates = c.args.updates in
+    let old : Volume = record { layout = inside.layout; session = inside.session; trees = inside.keys; queue = inside.queue.queue; pins = inside.dirty.pins.numbers; marks = inside.dirty.marks.numbers; later = inside.dirty.later.numbers; space = inside.pool; writer = inside.writer; work = inside.nodes; emptied = inside.emptied; halted = inside.halted; changes = inside.changes } in
+    let now : Volume = record old { trees = c.apply.new.self; queue = c.join.new.self.queue; pins = c.dirty.new.self.pins.numbers; marks = c.dirty.new.self.marks.numbers; later = c.dirty.new.self.later.numbers; changes = inside.changes + 1 } in
+    let changed : c.args.paths.now.changed.items ≡ changed_nodes inside.keys.nodes updates = subst (λ (v : Volume). c.args.paths.now.changed.items ≡ changed_nodes v.trees.nodes updates) (sym c.self.view_is) c.requires.changed in
+    let over : c.args.paths.now.over.items ≡ paths_of inside.keys.nodes updates = subst (λ (v : Volume). c.args.paths.now.over.items ≡ paths_of v.trees.nodes updates) (sym c.self.view_is) c.requires.over in
+    let seq : c.entry_of-seq.result ≡ (readied updates inside.queue.queue).open_entry.after + 1 = c.entry_of-seq.ensures ∙ ap (λ (us : List Update). (readied us inside.queue.queue).open_entry.after + 1) c.as_slice-2.ensures in
+    subst (λ (v : Volume). IsCommitted updates c.args.counted v now) c.self.view_is
+    (made-told old updates c.args.counted c.apply.new.self c.join.new.self.queue c.dirty.new.self.pins.numbers c.dirty.new.self.marks.numbers c.dirty.new.self.later.numbers
+    c.in-Ok.ensures.keys c.in-Ok.ensures.nodes
+    (c.join.ensures.joined
+    ∙ ap (λ (q : Queue). joined (record { updates = updates; before = c.in-Ok.before }) c.args.counted q) c.reserve.ensures.queue
+    ∙ ap (λ (before : List (Option Value)). joined (record { updates = updates; before = before }) c.args.counted inside.queue.queue) c.in-Ok.ensures.before)
+    (c.dirty.ensures.pins ∙ ap (with_pins c.entry_of-seq.result c.args.paths.now.changed.items) c.reserve.ensures.pins
+    ∙ ap (λ (births : List ℕ). with_pins c.entry_of-seq.result births inside.dirty.pins.numbers) changed
+    ∙ ap (λ (seq : ℕ). with_pins seq (changed_nodes inside.keys.nodes updates) inside.dirty.pins.numbers) seq)
+    (c.dirty.ensures.marks ∙ ap (with_pins c.entry_of-seq.result c.args.paths.now.over.items) c.reserve.ensures.marks
+    ∙ ap (λ (births : List ℕ). with_pins c.entry_of-seq.result births inside.dirty.marks.numbers) over
+    ∙ ap (λ (seq : ℕ). with_pins seq (paths_of inside.keys.nodes updates) inside.dirty.marks.numbers) seq)
+    (c.dirty.ensures.later ∙ ap (with_pins c.entry_of-seq.result c.args.paths.now.changed.items) c.reserve.ensures.later
+    ∙ ap (λ (births : List ℕ). with_pins c.entry_of-seq.result births inside.dirty.later.numbers) changed
+    ∙ ap (λ (seq : ℕ). with_pins seq (changed_nodes inside.keys.nodes updates) inside.dirty.later.numbers) seq))

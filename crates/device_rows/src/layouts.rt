@@ -1,0 +1,273 @@
+//! Layouts on two devices, their sizes, and sessions: which of them count.
+
+ghost use Rattle.std.specs.Prelude.{◌≡◌, ◌≤◌, length, IfOk, OnOk};
+ghost use Rattle.dev_model.specs.Devices.{now};
+ghost use Rattle.dev_model.specs.Disk.{NothingPending};
+
+use dev_model::{Devices, MemDevices};
+use geometry::{
+    DiskFault, have_room, is_layout_of, read_session, session_bytes, session_named, session_place,
+    write_session,
+};
+use std::alloc::{AllocError, Global};
+use std::test::Fail;
+use vol_digest::digest;
+use vol_types::{Blocks, Bytes, Layout, Place};
+
+/// The id of the volume.
+pub const ID: [u8; 16] = [
+    0x10, 0x11, 0x12, 0x13, 0x14, 0x15, 0x16, 0x17, 0x18, 0x19, 0x1a, 0x1b, 0x1c, 0x1d, 0x1e, 0x1f,
+];
+
+/// A layout on two devices of these sizes: a journal area of 256 blocks, metadata on both, and one copy of data.
+pub fn layout_on(alloc: Global, id: [u8; 16], blocks: &[u32; 2]) -> Result<Layout, AllocError> {
+    Ok(Layout {
+        id,
+        blocks: Blocks::from_slice(alloc, blocks)?,
+        journal: 256,
+        metadata_replicas: 2,
+        data_replicas: 1,
+    })
+}
+
+/// Sets a block between two sessions.
+pub fn put(devices: &mut MemDevices, dev: u8, block: u32, bytes: &[u8]) -> Result<(), Fail>
+    requires { NothingPending (now (⟦<MemDevices as Devices>⟧.state devices.old)) }
+    ensures quiet { NothingPending (now (⟦<MemDevices as Devices>⟧.state devices.new)) }
+    ensures sizes { (⟦<MemDevices as Devices>⟧.state devices.new).sizes
+        ≡ (⟦<MemDevices as Devices>⟧.state devices.old).sizes }
+{
+    if dev >= devices.count() || block >= devices.blocks(dev) || bytes.len() != 4096 {
+        return Err(Fail::from("there is no such block"));
+    }
+    devices.patch(&Place { dev, block }, bytes)?;
+    Ok(())
+}
+
+// As above, with kind 4, owner 7, number 5, sequence 7, and the payload "<Q" of 7.
+#[test]
+fn known_session(rt: HostRuntime) -> Result<(), Fail> {
+    let alloc = rt.alloc();
+    let mut bytes = vec![in alloc; 0xff; 4096]?;
+    session_bytes(&ID, 7, &mut bytes);
+    assert_eq!(rt; session_place(7), 5);
+    assert_eq!(rt; session_named(&ID, 5, &bytes), Some(7));
+    assert_eq!(rt; session_named(&ID, 4, &bytes), None);
+    assert_eq!(rt;
+        digest(&bytes),
+        [
+            0x7b, 0x0c, 0x8a, 0x59, 0x07, 0xcd, 0x93, 0x0d, 0xda, 0xad, 0xdb, 0xbc, 0x2e, 0x28,
+            0x74, 0x12, 0x08, 0x29, 0x9b, 0x7d, 0xfe, 0x7f, 0x7e, 0x4e, 0x99, 0x84, 0x59, 0x0e,
+            0x16, 0xba, 0x1b, 0xe2,
+        ]
+    );
+    Ok(())
+}
+
+// The sizes of two devices, and whether a layout on them stands.
+const SIZES: [([u32; 2], bool); 4] = [
+    ([1024, 1_048_576], true),
+    ([1008, 2048], false),
+    ([1024, 1_048_592], false),
+    ([1024, 2056], false),
+];
+
+// The journal area and the replicas of metadata and data, and whether they stand.
+const REPLICAS: [(u32, u8, u8, bool); 7] = [
+    (256, 2, 2, true),
+    (240, 2, 1, false),
+    (264, 2, 1, false),
+    (496, 1, 1, true),
+    (512, 1, 1, false),
+    (256, 3, 1, false),
+    (256, 1, 0, false),
+];
+
+fn stand_on(alloc: Global, sizes: [u32; 2]) -> Result<bool, AllocError> {
+    let layout = layout_on(alloc, ID, &sizes)?;
+    Ok(layout.is_valid())
+}
+
+fn stands_with(alloc: Global, journal: u32, meta: u8, replicas: u8) -> Result<bool, AllocError> {
+    let mut layout = layout_on(alloc, ID, &[1024, 2048])?;
+    layout.journal = journal;
+    layout.metadata_replicas = meta;
+    layout.data_replicas = replicas;
+    Ok(layout.is_valid())
+}
+
+fn is_layout_on(alloc: Global, sizes: [u32; 2]) -> Result<bool, AllocError> {
+    let layout = layout_on(alloc, ID, &[1024, 2048])?;
+    Ok(is_layout_of(&sizes, &layout))
+}
+
+#[test]
+fn layouts_and_sizes(rt: HostRuntime) -> Result<(), Fail> {
+    let alloc = rt.alloc();
+    for (sizes, stands) in SIZES {
+        assert!(rt; stand_on(alloc, sizes)? == stands, "{sizes:?}");
+    }
+    for (journal, meta, replicas, stands) in REPLICAS {
+        assert!(rt;
+            stands_with(alloc, journal, meta, replicas)? == stands,
+            "{journal}, {meta}, {replicas}"
+        );
+    }
+    assert!(rt; is_layout_on(alloc, [1030, 2048])?);
+    assert!(rt; !is_layout_on(alloc, [1024, 2047])?);
+    assert!(rt; !have_room(&[1024, 2048], &[1024]));
+    Ok(())
+}
+
+// The number of blocks of each device.
+fn sizes_of<D: Devices>(alloc: Global, devices: &D) -> Result<Vec<u32>, AllocError>
+    ensures { IfOk result (λ sizes. sizes.items ≡ (D.state devices.now).sizes) }
+{
+    let mut sizes = Vec::new(alloc);
+    for dev in 0..devices.count() {
+        sizes.push(devices.blocks(dev))?;
+    }
+    Ok(sizes)
+}
+
+// The greatest session on devices on which the layout has room.
+fn session_on(
+    alloc: Global,
+    devices: &mut MemDevices,
+    layout: &Layout,
+) -> Result<Option<u64>, DiskFault> {
+    let sizes = sizes_of(alloc, devices)?;
+    if !is_layout_of(&sizes, layout) {
+        return Err(DiskFault::NoMemory);
+    }
+    read_session(alloc, devices, layout)
+}
+
+// Seals a session on devices on which the layout has room.
+fn begin_session(
+    alloc: Global,
+    devices: &mut MemDevices,
+    layout: &Layout,
+    session: u64,
+) -> Result<(), DiskFault> {
+    let sizes = sizes_of(alloc, devices)?;
+    if !is_layout_of(&sizes, layout) {
+        return Err(DiskFault::NoMemory);
+    }
+    write_session(alloc, devices, layout, session)
+}
+
+fn sealed(alloc: Global, id: &[u8; 16], session: u64) -> Result<Bytes, AllocError> {
+    let mut bytes = vec![in alloc; 0; 4096]?;
+    session_bytes(id, session, &mut bytes);
+    Ok(Bytes::from(bytes))
+}
+
+// Two blank devices on which a session of the volume with this id stands in a block.
+fn with_session(
+    alloc: Global,
+    id: &[u8; 16],
+    session: u64,
+    dev: u8,
+    block: u32,
+) -> Result<MemDevices, Fail> {
+    let bytes = sealed(alloc, id, session)?;
+    let mut devices = MemDevices::blank(alloc, &[1024, 1024])?;
+    let put = put(&mut devices, dev, block, bytes.as_slice());
+    match put {
+        Ok(()) => Ok(devices),
+        Err(fail) => Err(fail),
+    }
+}
+
+// The session that is read from them.
+fn session_with(
+    alloc: Global,
+    id: &[u8; 16],
+    session: u64,
+    dev: u8,
+    block: u32,
+) -> Result<Option<u64>, Fail> {
+    let layout = layout_on(alloc, ID, &[1024, 1024])?;
+    let mut devices = with_session(alloc, id, session, dev, block)?;
+    Ok(session_on(alloc, &mut devices, &layout)?)
+}
+
+// A session, the device and the block where it stands, and what is read.
+const PLACES: [(u64, u8, u32, Option<u64>); 5] = [
+    (6, 0, 4, Some(6)),
+    (6, 0, 5, None),
+    (7, 1, 5, Some(7)),
+    (7, 1, 4, None),
+    (u64::MAX, 1, 5, Some(u64::MAX)),
+];
+
+#[test]
+fn sessions_that_count(rt: HostRuntime) -> Result<(), Fail> {
+    let alloc = rt.alloc();
+    for (session, dev, block, expected) in PLACES {
+        assert!(rt;
+            session_with(alloc, &ID, session, dev, block)? == expected,
+            "{session} in {dev}:{block}"
+        );
+    }
+    assert!(rt; session_with(alloc, &[7; 16], 6, 0, 4)?.is_none());
+    Ok(())
+}
+
+// The greatest session once this one was begun.
+fn greatest_after(
+    alloc: Global,
+    devices: &mut MemDevices,
+    layout: &Layout,
+    session: u64,
+) -> Result<Option<u64>, DiskFault> {
+    begin_session(alloc, devices, layout, session)?;
+    session_on(alloc, devices, layout)
+}
+
+// The sessions that are begun, one after the other, and the greatest after each.
+const BEGUN: [(u64, u64); 4] = [(10, 11), (12, 12), (13, 13), (2, 13)];
+
+fn reads_greatest(
+    alloc: Global,
+    devices: &mut MemDevices,
+    layout: &Layout,
+) -> Result<bool, DiskFault> {
+    for (session, greatest) in BEGUN {
+        if greatest_after(alloc, devices, layout, session)? != Some(greatest) {
+            return Ok(false);
+        }
+    }
+    Ok(true)
+}
+
+// The greatest of both devices and both blocks is read, whatever was sealed last.
+#[test]
+fn the_greatest_session_is_read(rt: HostRuntime) -> Result<(), Fail> {
+    let alloc = rt.alloc();
+    let layout = layout_on(alloc, ID, &[1024, 1024])?;
+    let mut devices = with_session(alloc, &ID, 11, 1, 5)?;
+    assert!(rt; reads_greatest(alloc, &mut devices, &layout) == Ok(true));
+    Ok(())
+}
+
+// Why no session is read where this call fails.
+fn failed_session(alloc: Global, call: u64) -> Result<Option<DiskFault>, Fail> {
+    let layout = layout_on(alloc, ID, &[1024, 1024])?;
+    let mut devices = MemDevices::blank(alloc, &[1024, 1024])?;
+    if devices.fail_at(&[call]).is_err() {
+        return Ok(None);
+    }
+    Ok(session_on(alloc, &mut devices, &layout).err())
+}
+
+#[test]
+fn a_failed_read_of_sessions_names_its_device(rt: HostRuntime) -> Result<(), Fail> {
+    let alloc = rt.alloc();
+    for (call, dev) in [(0, 0), (1, 0), (2, 1), (3, 1)] {
+        let fault = failed_session(alloc, call)?;
+        assert!(rt; fault == Some(DiskFault::DeviceFault(dev)), "call {call}");
+    }
+    Ok(())
+}

@@ -1,0 +1,14 @@
+//! What lies on devices in memory: superblocks and sessions, nodes of btrees with their sets, and the buckets of two devices beside
+//! a plain list of states. The crate holds tests alone.
+#![tactic(auto)]
+
+#[cfg(test)]
+mod bad_nodes;
+#[cfg(test)]
+mod buckets;
+#[cfg(test)]
+mod layouts;
+#[cfg(test)]
+mod nodes;
+#[cfg(test)]
+mod superblocks;

@@ -1,0 +1,2 @@
+mod Pinned
+mod Unused

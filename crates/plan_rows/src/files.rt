@@ -1,0 +1,409 @@
+//! A file that is written, cut and grown in a snapshot and beside it, with what each id shows worked by hand.
+
+ghost use Rattle.std.specs.Prelude.{◌≡◌, ◌≤◌, ◌<◌, ◌^◌, All, length};
+
+use crate::ids::snap_keys;
+use file_plan::{
+    Change, Contents, PlainContents, block_after, content, cut_size, end_block, shown_block,
+    write_end, write_run,
+};
+use key_view::{Hold, PlainKeys, View};
+use snap_tree::SnapTree;
+use std::alloc::{AllocError, Global};
+use std::collections::BTreeMap;
+use std::sync::Arc;
+use std::test::Fail;
+use vol_types::{Bytes, Duplicate, Keys, Pos, Update, Updates, Value};
+
+/// The id of the first writes, and those of a snapshot of it: the one of the source, and the one of the copy.
+const OLD: u32 = 90;
+
+const SOURCE: u32 = 80;
+
+const COPY: u32 = 70;
+
+const IDS: [(u32, u32); 3] = [(OLD, 0), (SOURCE, OLD), (COPY, OLD)];
+
+/// The number of the file.
+const NUMBER: u64 = 2;
+
+/// The extents and holes of the file, and the blocks in memory.
+#[derive(Drop)]
+struct Disk {
+    keys: BTreeMap<Pos, Value>,
+    blocks: BTreeMap<u32, Bytes>,
+    next: u32,
+}
+
+fn copied(alloc: Global, map: &BTreeMap<Pos, Value>) -> Result<BTreeMap<Pos, Value>, AllocError> {
+    let mut copy = BTreeMap::new(alloc);
+    for (pos, value) in map {
+        copy.insert(*pos, value.copy(alloc)?)?;
+    }
+    Ok(copy)
+}
+
+// A view of the disk, which has the blocks from then on.
+fn view_of(alloc: Global, disk: &mut Disk) -> Result<PlainContents, Fail> {
+    let mut keys = PlainKeys::new(alloc);
+    keys.extents = copied(alloc, &disk.keys)?;
+    let tree = Arc::new(alloc, SnapTree::of(alloc, &snap_keys(alloc, &IDS)?)?)?;
+    let blocks = std::mem::replace(&mut disk.blocks, BTreeMap::new(alloc));
+    Ok(PlainContents::new(alloc, keys, tree, blocks, disk.next))
+}
+
+fn apply(disk: &mut Disk, view: PlainContents, updates: Updates) -> Result<(), AllocError> {
+    let (blocks, next) = view.into_blocks();
+    disk.blocks = blocks;
+    disk.next = next;
+    for update in Vec::from(updates) {
+        let Update { pos, value, .. } = update;
+        match value {
+            None => {
+                disk.keys.remove(&pos);
+            }
+            Some(value) => {
+                disk.keys.insert(pos, value)?;
+            }
+        }
+    }
+    Ok(())
+}
+
+// Puts blocks of the file in an id, from a first one on, and the block of its end before them where it is to be written anew.
+fn put(
+    alloc: Global,
+    view: &mut PlainContents,
+    tree: &SnapTree,
+    id: u32,
+    size: u64,
+    first: u64,
+    blocks: &[Bytes],
+) -> Result<Updates, Hold>
+    requires sizes { All (λ bytes. length bytes ≡ 4096) blocks.now }
+    requires few { length blocks.now ≤ 2 }
+    requires near { first < 2 ^ 60 }
+{
+    let mut run = write_run(alloc, view, id, NUMBER, first, blocks)?;
+    if first <= size / 4096 {
+        return put_extents(alloc, view, tree, id, size, first, run);
+    }
+    let mut extents = write_end(alloc, view, tree, id, NUMBER, size)?;
+    extents.append(&mut run)?;
+    put_extents(alloc, view, tree, id, size, size / 4096, extents)
+}
+
+fn put_extents(
+    alloc: Global,
+    view: &mut PlainContents,
+    tree: &SnapTree,
+    id: u32,
+    size: u64,
+    first: u64,
+    extents: Keys,
+) -> Result<Updates, Hold> {
+    let change = Change::Put { first, extents };
+    content(alloc, view, tree, id, NUMBER, size, &change)
+}
+
+// A truncation of the file in an id, after which its old end is put where it grows.
+fn cut(
+    alloc: Global,
+    view: &mut PlainContents,
+    tree: &SnapTree,
+    id: u32,
+    size: u64,
+    new: u64,
+) -> Result<Updates, Hold> {
+    if new <= size {
+        return content(alloc, view, tree, id, NUMBER, size, &Change::Cut { new });
+    }
+    let end = write_end(alloc, view, tree, id, NUMBER, size)?;
+    put_extents(alloc, view, tree, id, size, size / 4096, end)
+}
+
+// Writes two bytes at an offset of the file in an id, in one run with the block of its end where that is the one before them and
+// is to be written anew.
+fn write(
+    alloc: Global,
+    view: &mut PlainContents,
+    tree: &SnapTree,
+    id: u32,
+    size: u64,
+    offset: u64,
+    bytes: [u8; 2],
+) -> Result<Updates, Hold>
+    requires { offset ≤ 16777216 }
+{
+    let first = offset / 4096;
+    let block = block_after(alloc, view, tree, id, NUMBER, size, first, offset, &bytes)?;
+    if size / 4096 + 1 != first {
+        return put(alloc, view, tree, id, size, first, &[block]);
+    }
+    let Some(end) = end_block(alloc, view, tree, id, NUMBER, size)? else {
+        return put(alloc, view, tree, id, size, first, &[block]);
+    };
+    put(alloc, view, tree, id, size, size / 4096, &[end, block])
+}
+
+/// A change of the file in an id, where it has this size: two bytes at an offset, in one block, or a truncation.
+#[derive(Clone, Copy, Debug, PartialEq, Eq)]
+enum Step {
+    Write {
+        id: u32,
+        size: u64,
+        offset: u64,
+        bytes: [u8; 2],
+    },
+    Cut {
+        id: u32,
+        size: u64,
+        new: u64,
+    },
+}
+
+// The updates of a change.
+fn updates_of(
+    alloc: Global,
+    view: &mut PlainContents,
+    tree: &SnapTree,
+    step: Step,
+) -> Result<Updates, Fail> {
+    match step {
+        Step::Write {
+            id,
+            size,
+            offset,
+            bytes,
+        } => {
+            if offset > 16_777_216 {
+                return Err(Fail::from("the file is too long"));
+            }
+            Ok(write(alloc, view, tree, id, size, offset, bytes)?)
+        }
+        Step::Cut { id, size, new } => Ok(cut(alloc, view, tree, id, size, new)?),
+    }
+}
+
+fn planned(alloc: Global, view: &mut PlainContents, step: Step) -> Result<Updates, Fail> {
+    let tree = view.tree()?;
+    updates_of(alloc, view, &tree, step)
+}
+
+fn take(alloc: Global, disk: &mut Disk, step: Step) -> Result<(), Fail> {
+    let mut view = view_of(alloc, disk)?;
+    let updates = planned(alloc, &mut view, step)?;
+    apply(disk, view, updates)?;
+    Ok(())
+}
+
+/// The first two bytes of a block, if it shows.
+fn head_of(block: Option<Bytes>) -> Option<(u8, u8)> {
+    let block = block?;
+    Some((*block.get(0)?, *block.get(1)?))
+}
+
+/// What an id shows of a block.
+fn head_at(
+    alloc: Global,
+    view: &mut PlainContents,
+    id: u32,
+    block: u64,
+) -> Result<Option<(u8, u8)>, Hold> {
+    let tree = view.tree()?;
+    Ok(head_of(shown_block(alloc, view, &tree, id, NUMBER, block)?))
+}
+
+/// What an id shows of three blocks.
+type Heads = [Option<(u8, u8)>; 3];
+
+fn heads_of(alloc: Global, view: &mut PlainContents, id: u32) -> Result<Heads, Hold> {
+    let first = head_at(alloc, view, id, 0)?;
+    let second = head_at(alloc, view, id, 1)?;
+    let third = head_at(alloc, view, id, 2)?;
+    Ok([first, second, third])
+}
+
+/// What an id shows of the first three blocks.
+fn heads(alloc: Global, disk: &mut Disk, id: u32) -> Result<Heads, Fail> {
+    let mut view = view_of(alloc, disk)?;
+    let found = heads_of(alloc, &mut view, id)?;
+    let (blocks, _) = view.into_blocks();
+    disk.blocks = blocks;
+    Ok(found)
+}
+
+// How many of the keys are extents, and how many are holes.
+fn counts(disk: &Disk) -> (u32, u32) {
+    let mut extents = 0u32;
+    let mut holes = 0u32;
+    for value in disk.keys.values() {
+        match value {
+            Value::Extent(_) => extents = extents.saturating_add(1),
+            _ => holes = holes.saturating_add(1),
+        }
+    }
+    (extents, holes)
+}
+
+fn no_disk(alloc: Global) -> Disk {
+    Disk {
+        keys: BTreeMap::new(alloc),
+        blocks: BTreeMap::new(alloc),
+        next: 16,
+    }
+}
+
+// What the source and the copy show after some steps, and how many extents and holes there are.
+fn seen_after(
+    alloc: Global,
+    disk: &mut Disk,
+    steps: &[Step],
+) -> Result<(Heads, Heads, (u32, u32)), Fail> {
+    for step in steps {
+        take(alloc, disk, *step)?;
+    }
+    let source = heads(alloc, disk, SOURCE)?;
+    let copy = heads(alloc, disk, COPY)?;
+    Ok((source, copy, counts(disk)))
+}
+
+const STEPS: [Step; 4] = [
+    Step::Write {
+        id: OLD,
+        size: 0,
+        offset: 0,
+        bytes: [0x68, 0x69],
+    },
+    Step::Write {
+        id: OLD,
+        size: 2,
+        offset: 4096,
+        bytes: [0x6a, 0],
+    },
+    Step::Cut {
+        id: COPY,
+        size: 4097,
+        new: 1,
+    },
+    Step::Cut {
+        id: COPY,
+        size: 1,
+        new: 8192,
+    },
+];
+
+// Two blocks further on the end is an extent of its own.
+const FURTHER_ON: [Step; 1] = [Step::Write {
+    id: SOURCE,
+    size: 4097,
+    offset: 12_288,
+    bytes: [1, 2],
+}];
+
+// A byte is kept before two that are written over zeros.
+const OVER_ZEROS: [Step; 1] = [Step::Write {
+    id: COPY,
+    size: 8192,
+    offset: 1,
+    bytes: [3, 4],
+}];
+
+/// A file of `hi`, to whose second block `j` is written: its first block is written anew, in one extent with the second. Below a
+/// snapshot the copy is cut to one byte, and grows to two blocks: the source keeps what it shows.
+#[test]
+fn cut_and_grown_below_a_snapshot(rt: HostRuntime) -> Result<(), Fail> {
+    let alloc = rt.alloc();
+    let mut disk = no_disk(alloc);
+    let (source, copy, found) = seen_after(alloc, &mut disk, &STEPS)?;
+    assert_eq!(rt; source, [Some((0x68, 0x69)), Some((0x6a, 0)), None]);
+    assert_eq!(rt; copy, [Some((0x68, 0)), None, None]);
+    assert_eq!(rt; found, (2, 1));
+    let (_, _, found) = seen_after(alloc, &mut disk, &FURTHER_ON)?;
+    assert_eq!(rt; found, (4, 1));
+    let (_, copy, _) = seen_after(alloc, &mut disk, &OVER_ZEROS)?;
+    assert_eq!(rt; copy, [Some((0x68, 3)), None, None]);
+    Ok(())
+}
+
+/// Sizes after one truncation. 256 blocks are cut at most.
+const SIZES: [(u64, u64, u64); 8] = [
+    (16_777_216, 0, 15_728_640),
+    (16_777_216, 15_728_640, 15_728_640),
+    (1_048_576, 0, 0),
+    (1_048_577, 0, 4096),
+    (1_048_577, 1, 1),
+    (5, 5, 5),
+    (0, 16_777_216, 16_777_216),
+    (u64::MAX, 1, 18_446_744_073_708_503_040),
+];
+
+#[test]
+fn truncations_in_steps(rt: HostRuntime) -> Result<(), Fail> {
+    for (size, new, cut) in SIZES {
+        assert_eq!(rt; cut_size(size, new), cut);
+    }
+    Ok(())
+}
+
+/// Holes in the copy, each by the block at which it ends and how many it has, and what the copy shows of block 200 then. Its
+/// ancestor has an extent of that block alone.
+const HOLES: [(u64, u32, Option<(u8, u8)>); 4] = [
+    // One that is longer than a truncation makes them, and ends far behind the block.
+    (500, 300, None),
+    (500, 299, Some((1, 2))),
+    (216, 16, None),
+    (217, 16, Some((1, 2))),
+];
+
+// How many blocks the longest extent or hole has, and what the copy shows of block 200.
+fn shown_there(alloc: Global, disk: &mut Disk) -> Result<(u64, Option<(u8, u8)>), Fail> {
+    let mut view = view_of(alloc, disk)?;
+    let longest = view.longest();
+    let shown = head_at(alloc, &mut view, COPY, 200)?;
+    let (blocks, _) = view.into_blocks();
+    disk.blocks = blocks;
+    Ok((longest, shown))
+}
+
+// The same where the copy has a hole.
+fn hidden_by(
+    alloc: Global,
+    disk: &mut Disk,
+    end: u64,
+    blocks: u32,
+) -> Result<(u64, Option<(u8, u8)>), Fail> {
+    let pos = Pos {
+        inode: NUMBER,
+        offset: end,
+        snapshot: COPY,
+    };
+    disk.keys.insert(pos, Value::Hole { blocks })?;
+    let shown = shown_there(alloc, disk)?;
+    disk.keys.remove(&pos);
+    Ok(shown)
+}
+
+// The same where there is one extent.
+fn shown_at_first(alloc: Global, disk: &mut Disk) -> Result<(u64, Option<(u8, u8)>), Fail> {
+    let written = Step::Write {
+        id: OLD,
+        size: 0,
+        offset: 819_200,
+        bytes: [1, 2],
+    };
+    take(alloc, disk, written)?;
+    shown_there(alloc, disk)
+}
+
+#[test]
+fn hidden_by_holes(rt: HostRuntime) -> Result<(), Fail> {
+    let alloc = rt.alloc();
+    let mut disk = no_disk(alloc);
+    assert_eq!(rt; shown_at_first(alloc, &mut disk)?, (1, Some((1, 2))));
+    for (end, blocks, shown) in HOLES {
+        let found = hidden_by(alloc, &mut disk, end, blocks)?;
+        assert_eq!(rt; found, (u64::from(blocks), shown));
+    }
+    Ok(())
+}

@@ -1,0 +1,37 @@
+//! Records of ids, for the tests beside it.
+
+ghost use Rattle.std.specs.Prelude.{IfOk, All};
+ghost use Rattle.snap_tree.specs.Snaps.{IsSnapKey};
+
+use std::alloc::{AllocError, Global};
+use vol_types::{Key, Keys, Pos, Snap, SnapState, Value};
+
+/// The record of an id under this parent; 0 stands for none.
+pub(crate) fn snap_key(id: u32, parent: u32) -> Key
+    ensures { IsSnapKey result }
+{
+    Key {
+        pos: Pos {
+            inode: 0,
+            offset: u64::from(id),
+            snapshot: 0,
+        },
+        value: Some(Value::Snap(Snap {
+            parent,
+            first_child: 0,
+            second_child: 0,
+            state: SnapState::Interior,
+        })),
+    }
+}
+
+/// The keys of some ids, each given with its parent.
+pub(crate) fn snap_keys(alloc: Global, ids: &[(u32, u32)]) -> Result<Keys, AllocError>
+    ensures { IfOk result (All IsSnapKey) }
+{
+    let mut keys = Keys::new(alloc);
+    for (id, parent) in ids {
+        keys.push(snap_key(*id, *parent))?;
+    }
+    Ok(keys)
+}

@@ -1,0 +1,24 @@
+//! Plans of changes over key maps in memory: files that are cut and written in snapshots, names, inodes and what an id sees, the keys
+//! that follow extents, and whole plans of operations, by tables and beside plain models. The crate holds tests alone.
+#![tactic(auto)]
+
+#[cfg(test)]
+mod cuts;
+#[cfg(test)]
+mod drawn_files;
+#[cfg(test)]
+mod files;
+#[cfg(test)]
+mod ids;
+#[cfg(test)]
+mod inodes;
+#[cfg(test)]
+mod looks;
+#[cfg(test)]
+mod names;
+#[cfg(test)]
+mod plans;
+#[cfg(test)]
+mod triggers;
+#[cfg(test)]
+mod views;

@@ -1,0 +1,362 @@
+//! Plans over a volume of three ids: 20 is the id of the subvolume `main`, and 10 that of `copy`, which may only be read; both
+//! are under 30.
+
+ghost use Rattle.std.specs.Prelude.{◌≡◌, ◌<◌, true};
+ghost use Rattle.fs_plan.specs.Plans.{is_planned};
+
+use crate::ids::snap_keys;
+use forest_ops::{Cause, Op, Reply};
+use fs_plan::{Plan, plan};
+use key_view::{PlainKeys, PlainView, View};
+use plain_forest::Path;
+use snap_tree::SnapTree;
+use std::alloc::{AllocError, Global};
+use std::sync::Arc;
+use std::test::Fail;
+use vol_digest::slot;
+use vol_types::{
+    Btree, Bytes, FileKind, FlagList, FlaggedName, Inode, Link, LinkList, NameList, Pos, Sub,
+    SubList, Update, Updates, Value,
+};
+
+/// Ids, each with its parent.
+const IDS: [(u32, u32); 3] = [(10, 30), (20, 30), (30, 0)];
+
+/// The next number of client 0, and that of client 1, which has used all of its own.
+const NEXT: u64 = 4;
+
+const SPENT: u64 = 1 << 48;
+
+/// The number of the root of both subvolumes.
+const ROOT: u64 = 1;
+
+/// A directory of the root in all ids, and a file in it in `main` alone.
+const DIRECTORY: u64 = 2;
+
+const FILE: u64 = 3;
+
+fn sub_of(alloc: Global, name: &[u8], id: u32) -> Result<Value, AllocError> {
+    let mut subs = SubList::new(alloc);
+    let name = Bytes::from_slice(alloc, name)?;
+    subs.push(Sub {
+        id,
+        root: ROOT,
+        read_only: id == 10,
+        name,
+    })?;
+    Ok(Value::Subs(subs))
+}
+
+fn put_sub(alloc: Global, keys: &mut PlainKeys, name: &[u8], id: u32) -> Result<(), AllocError> {
+    let value = sub_of(alloc, name, id)?;
+    let pos = Pos {
+        inode: 0,
+        offset: slot(name),
+        snapshot: 0,
+    };
+    keys.subvols.insert(pos, value)?;
+    Ok(())
+}
+
+fn counter_pos(client: u64) -> Pos {
+    Pos {
+        inode: 0,
+        offset: client,
+        snapshot: 0,
+    }
+}
+
+fn inode_pos(id: u32, number: u64) -> Pos {
+    Pos {
+        inode: 0,
+        offset: number,
+        snapshot: id,
+    }
+}
+
+fn name_pos(id: u32, directory: u64, name: &[u8]) -> Pos {
+    Pos {
+        inode: directory,
+        offset: slot(name),
+        snapshot: id,
+    }
+}
+
+fn inode_of(kind: FileKind) -> Value {
+    Value::Inode(Inode {
+        kind,
+        links: 1,
+        size: 0,
+    })
+}
+
+fn name_of(alloc: Global, name: &[u8], number: u64, kind: FileKind) -> Result<Value, AllocError> {
+    let mut links = LinkList::new(alloc);
+    let name = Bytes::from_slice(alloc, name)?;
+    links.push(Link { number, kind, name })?;
+    Ok(Value::Names(links))
+}
+
+/// Ids with inodes.
+const INODES: [(u32, u64, FileKind); 3] = [
+    (30, ROOT, FileKind::Directory),
+    (30, DIRECTORY, FileKind::Directory),
+    (20, FILE, FileKind::File),
+];
+
+fn put_inodes(keys: &mut PlainKeys) -> Result<(), AllocError> {
+    for (id, number, kind) in INODES {
+        keys.inodes.insert(inode_pos(id, number), inode_of(kind))?;
+    }
+    Ok(())
+}
+
+/// Ids with directories, each with a name in it and the number that it leads to.
+type Name = (u32, u64, &'static [u8], u64, FileKind);
+
+const NAMES: [Name; 3] = [
+    (30, ROOT, b"d", DIRECTORY, FileKind::Directory),
+    (20, ROOT, b"a", FILE, FileKind::File),
+    (20, DIRECTORY, b"b", FILE, FileKind::File),
+];
+
+fn put_name(alloc: Global, keys: &mut PlainKeys, row: Name) -> Result<(), AllocError> {
+    let (id, directory, name, number, kind) = row;
+    let value = name_of(alloc, name, number, kind)?;
+    keys.dirents.insert(name_pos(id, directory, name), value)?;
+    Ok(())
+}
+
+fn put_names(alloc: Global, keys: &mut PlainKeys) -> Result<(), AllocError> {
+    for row in NAMES {
+        put_name(alloc, keys, row)?;
+    }
+    Ok(())
+}
+
+fn put_counters(keys: &mut PlainKeys) -> Result<(), AllocError> {
+    for (client, next) in [(0, NEXT), (1, SPENT)] {
+        keys.counters
+            .insert(counter_pos(client), Value::Counter { next })?;
+    }
+    Ok(())
+}
+
+fn put_all(alloc: Global, keys: &mut PlainKeys) -> Result<(), AllocError> {
+    put_sub(alloc, keys, b"main", 20)?;
+    put_sub(alloc, keys, b"copy", 10)?;
+    put_inodes(keys)?;
+    put_names(alloc, keys)?;
+    put_counters(keys)
+}
+
+fn keys_of(alloc: Global) -> Result<PlainKeys, AllocError> {
+    let mut keys = PlainKeys::new(alloc);
+    put_all(alloc, &mut keys)?;
+    Ok(keys)
+}
+
+fn tree_of(alloc: Global) -> Result<Arc<SnapTree>, Fail> {
+    let keys = snap_keys(alloc, &IDS)?;
+    let tree = SnapTree::of(alloc, &keys)?;
+    Ok(Arc::new(alloc, tree)?)
+}
+
+fn view_of(alloc: Global) -> Result<PlainView, Fail> {
+    let tree = tree_of(alloc)?;
+    let keys = keys_of(alloc)?;
+    Ok(PlainView::new(alloc, keys, tree))
+}
+
+// The plan of an operation of a client, if there is one.
+fn planned(alloc: Global, client: u8, op: Op) -> Result<Option<Plan>, Fail>
+    requires client { client < 16 }
+    requires planned { is_planned op ≡ true }
+{
+    let mut view = view_of(alloc)?;
+    Ok(plan(alloc, &mut view, client, op).ok())
+}
+
+fn path_of(alloc: Global, sub: &[u8], names: &[&'static [u8]]) -> Result<Path, AllocError> {
+    let mut list = NameList::new(alloc);
+    for name in names {
+        list.push(Bytes::from_slice(alloc, name)?)?;
+    }
+    let sub = Bytes::from_slice(alloc, sub)?;
+    Ok(Path { sub, names: list })
+}
+
+/// A name with its flag.
+type Flagged = (&'static [u8], u8);
+
+fn flags_of(alloc: Global, rows: &[Flagged]) -> Result<Reply, AllocError> {
+    let mut list = FlagList::new(alloc);
+    for (name, flag) in rows {
+        list.push(FlaggedName {
+            name: Bytes::from_slice(alloc, name)?,
+            flag: *flag,
+        })?;
+    }
+    Ok(Reply::List(list))
+}
+
+fn has_reply(plan: &Option<Plan>, reply: &Reply) -> bool {
+    match plan {
+        Some(plan) => plan.reply == *reply,
+        None => false,
+    }
+}
+
+// Whether a listing answers this.
+fn is_listed(
+    alloc: Global,
+    sub: &[u8],
+    names: &[&'static [u8]],
+    reply: &Reply,
+) -> Result<bool, Fail> {
+    let path = path_of(alloc, sub, names)?;
+    let plan = planned(alloc, 0, Op::Ls { path })?;
+    Ok(has_reply(&plan, reply))
+}
+
+/// A subvolume, names in it, and what is listed there.
+type Listed = (&'static [u8], &'static [&'static [u8]], &'static [Flagged]);
+
+const LISTED: [Listed; 4] = [
+    (b"main", &[], &[(b"a", 1), (b"d", 2)]),
+    (b"copy", &[], &[(b"d", 2)]),
+    (b"main", &[b"d"], &[(b"b", 1)]),
+    (b"copy", &[b"d"], &[]),
+];
+
+fn lists(alloc: Global, row: Listed) -> Result<bool, Fail> {
+    let (sub, names, flags) = row;
+    let reply = flags_of(alloc, flags)?;
+    is_listed(alloc, sub, names, &reply)
+}
+
+#[test]
+fn directories_are_listed(rt: HostRuntime) -> Result<(), Fail> {
+    for (at, row) in LISTED.iter().enumerate() {
+        assert!(rt; lists(rt.alloc(), *row)?, "at {at}");
+    }
+    Ok(())
+}
+
+/// A client, a subvolume, names in it, and why a listing or a new file is refused there.
+type Refused = (u8, &'static [u8], &'static [&'static [u8]], Cause);
+
+const NOT_LISTED: [Refused; 6] = [
+    (0, b"ma:in", &[], Cause::BadPath),
+    (0, b"other", &[], Cause::NoSubvolume),
+    (0, b"main", &[b"c"], Cause::NotFound),
+    (0, b"copy", &[b"a"], Cause::NotFound),
+    (0, b"main", &[b"a"], Cause::NotDir),
+    (0, b"main", &[b"a", b"c"], Cause::NotDir),
+];
+
+fn is_not_listed(alloc: Global, row: Refused) -> Result<bool, Fail> {
+    let (_, sub, names, cause) = row;
+    is_listed(alloc, sub, names, &Reply::Refused(cause))
+}
+
+#[test]
+fn listings_are_refused(rt: HostRuntime) -> Result<(), Fail> {
+    for (at, row) in NOT_LISTED.iter().enumerate() {
+        assert!(rt; is_not_listed(rt.alloc(), *row)?, "at {at}");
+    }
+    Ok(())
+}
+
+// Whether there is a plan of these updates and this reply.
+fn is_plan(plan: &Option<Plan>, updates: &Updates, reply: &Reply) -> bool {
+    match plan {
+        Some(plan) => plan.updates == *updates && plan.reply == *reply,
+        None => false,
+    }
+}
+
+// Whether making a file comes to this.
+fn comes_to(
+    alloc: Global,
+    client: u8,
+    sub: &[u8],
+    names: &[&'static [u8]],
+    updates: &Updates,
+    reply: &Reply,
+) -> Result<bool, Fail> {
+    let path = path_of(alloc, sub, names)?;
+    let plan = planned(alloc, client % 16, Op::Mkfile { path })?;
+    Ok(is_plan(&plan, updates, reply))
+}
+
+fn push(updates: &mut Updates, btree: Btree, pos: Pos, value: Value) -> Result<(), AllocError> {
+    updates.push(Update {
+        btree,
+        level: 0,
+        pos,
+        value: Some(value),
+    })?;
+    Ok(())
+}
+
+// Adds the updates that make the file `c` in the directory.
+fn push_file(alloc: Global, updates: &mut Updates) -> Result<(), AllocError> {
+    let next = Value::Counter { next: NEXT + 1 };
+    push(updates, Btree::Counters, counter_pos(0), next)?;
+    let inode = inode_of(FileKind::File);
+    push(updates, Btree::Inodes, inode_pos(20, NEXT), inode)?;
+    let name = name_of(alloc, b"c", NEXT, FileKind::File)?;
+    push(updates, Btree::Dirents, name_pos(20, DIRECTORY, b"c"), name)
+}
+
+fn is_file_made(alloc: Global) -> Result<bool, Fail> {
+    let mut updates = Updates::new(alloc);
+    push_file(alloc, &mut updates)?;
+    comes_to(alloc, 0, b"main", &[b"d", b"c"], &updates, &Reply::Okay)
+}
+
+#[test]
+fn files_are_made(rt: HostRuntime) -> Result<(), Fail> {
+    assert!(rt; is_file_made(rt.alloc())?);
+    Ok(())
+}
+
+const NOT_MADE: [Refused; 7] = [
+    (0, b"other", &[b"c"], Cause::NoSubvolume),
+    (0, b"main", &[b"a", b"c"], Cause::NotDir),
+    (0, b"main", &[b"e", b"c"], Cause::NotFound),
+    (0, b"copy", &[b"c"], Cause::ReadOnly),
+    (0, b"main", &[], Cause::Exists),
+    (1, b"main", &[b"d"], Cause::Exists),
+    (1, b"main", &[b"c"], Cause::IdsSpent),
+];
+
+// Whether making a file is refused so, without updates.
+fn is_refused(alloc: Global, row: Refused) -> Result<bool, Fail> {
+    let (client, sub, names, cause) = row;
+    let none = Updates::new(alloc);
+    comes_to(alloc, client, sub, names, &none, &Reply::Refused(cause))
+}
+
+#[test]
+fn files_are_refused(rt: HostRuntime) -> Result<(), Fail> {
+    for (at, row) in NOT_MADE.iter().enumerate() {
+        assert!(rt; is_refused(rt.alloc(), *row)?, "at {at}");
+    }
+    Ok(())
+}
+
+// Whether a sync answers 0, and changes and looks at nothing.
+fn syncs(alloc: Global, view: &mut PlainView) -> bool {
+    let plan = plan(alloc, view, 3, Op::Sync).ok();
+    is_plan(&plan, &Updates::new(alloc), &Reply::Synced(0)) && view.looks().is_empty()
+}
+
+#[test]
+fn syncs_look_at_nothing(rt: HostRuntime) -> Result<(), Fail> {
+    let alloc = rt.alloc();
+    let mut view = view_of(alloc)?;
+    assert!(rt; syncs(alloc, &mut view));
+    Ok(())
+}

@@ -1,0 +1,2 @@
+pub mod FoundBtrees
+pub mod UsedBuckets

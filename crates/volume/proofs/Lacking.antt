@@ -1,0 +1,41 @@
+-- Why a change lacks space or a number, said of the updates that client 0 intends for it, or that its plan has.
+use Rattle.std.proofs.Common.{◌≡◌, true, inl, inr, refl, subst, sym}
+use Rattle.core_memory.specs.Commits.{AreIntended}
+use Rattle.core_memory.specs.Events.{intended_by}
+use Rattle.core_memory.specs.Rulings.{IsRefused}
+use Rattle.core_memory.specs.States.{State}
+use Rattle.core_memory.specs.Volumes.{Volume}
+use Rattle.core_memory.specs.declared.answer.NoSpace.{NoSpace}
+use Rattle.core_memory.specs.declared.answer.Refusal.TheVariants as refusals
+use Rattle.commit_plan.specs.declared.splits.NeedSplit.{NeedSplit}
+use Rattle.forest_ops.specs.declared.operation.Op.{Op}
+use Rattle.forest_ops.specs.declared.operation.Reply.{Reply}
+use Rattle.forest_ops.specs.declared.operation.Reply.TheVariants.{Okay}
+use Rattle.fs_plan.specs.declared.planned.Plan.{Plan}
+use Rattle.vol_session.specs.Sessions.{IsPlanNow}
+use Rattle.vol_types.specs.declared.space.Short.{Short}
+use Rattle.volume.specs.Answers.{AreUpdatesOf, IsNumberSpent, LacksSpace, nothing_short}
+use Rattle.volume.specs.Serving.{IsIntended}
+
+module _ (memory : State) (op : Op) (intended : IsIntended memory op) where
+  -- A leaf would be too large.
+  pub leaf_is_full : (need : NeedSplit) (short : Short) → short ≡ nothing_short → IsRefused memory.volume (intended_by memory 0) true (refusals.NeedSplit need) → LacksSpace op short memory.volume
+  leaf_is_full need short told refused = inl (record { updates = intended_by memory 0; of_op = intended.now; need = need; splits = refused.1; told = told })
+
+  -- There are too few free buckets, and a checkpoint would free none.
+  pub buckets_are_full : (none : NoSpace) → none.idle ≡ true → IsRefused memory.volume (intended_by memory 0) true (refusals.NoSpace none) → LacksSpace op none.short memory.volume
+  buckets_are_full none idle refused = inr (inr (inl (record { updates = intended_by memory 0; of_op = intended.now; none = none; refused = refused; idle = idle; told = refl })))
+
+  -- No number is left.
+  pub commit_is_spent : IsRefused memory.volume (intended_by memory 0) true refusals.Spent → IsNumberSpent op memory.volume
+  commit_is_spent refused = inl (record { updates = intended_by memory 0; of_op = intended.now; fit = intended.fit; spent = refused.1 })
+
+-- The updates of a plan may not be intended.
+pub entry_is_full : (plan : Plan) (old new : State) (short : Short) → new.volume ≡ old.volume → plan.reply ≡ Okay → IsPlanNow old 0 plan → short ≡ nothing_short → ¬ AreIntended new.volume.layout.metadata_replicas plan.updates → LacksSpace plan.op short new.volume
+entry_is_full plan old new short same okay now told unfit =
+    inr (inl (record {
+      updates = plan.updates;
+      of_op = subst (λ (volume : Volume). AreUpdatesOf plan.op volume plan.updates) (sym same) (subst (λ (reply : Reply). IsPlanNow old 0 (record { op = plan.op; updates = plan.updates; reply = reply })) okay now);
+      unfit = unfit;
+      told = told;
+    }))

@@ -1,0 +1,46 @@
+-- What is kept between operations is so at the opening, before any of them.
+use Rattle.std.proofs.Common.{◌≡◌, true, false, List, [], Option, None, refl, sym, ap, subst, arith}
+use Rattle.std.specs.Prelude.{replicate, slice_index_or}
+use Rattle.std.proofs.lemmas.List.Elements.{All-nil}
+use Rattle.core_memory.specs.Actors.{holds, idle_actor}
+use Rattle.core_memory.specs.States.{State, actor_count}
+use Rattle.core_memory.specs.declared.actor.Actor.{Actor}
+use Rattle.core_memory.specs.declared.answer.Halt.{Halt}
+use Rattle.dev_model.specs.Devices.{DevicesState}
+use Rattle.forest_ops.specs.History.{History, after_all, is_commit}
+use Rattle.forest_ops.specs.HistoryLaws.{EachEntry-none}
+use Rattle.forest_ops.specs.declared.operation.Entry.{Entry}
+use Rattle.forest_ops.specs.declared.operation.Op.TheVariants.{Sync}
+use Rattle.forest_ops.specs.declared.operation.Reply.TheVariants.{Spent}
+use Rattle.image_view.specs.Found.{Found}
+use Rattle.run_history.specs.Failures.{has_halted}
+use Rattle.vol_session.specs.Marks.{forest_found}
+use Rattle.volume.specs.States.{BeganWithRoom, IsAtRest, IsBetween, KeepsFailures}
+
+-- No entry tells a failure.
+none_failed : (begun : Found) (start : DevicesState) → KeepsFailures begun start start None []
+none_failed begun start = record {
+  failed = refl;
+  only = refl;
+  halts = refl;
+  no_commit = EachEntry-none (λ before entry. has_halted before ≡ true → is_commit (after_all (forest_found begun start) before) entry ≡ false);
+  causes = record { calls = λ dev. omega arith; writes = λ dev. omega arith };
+}
+
+module _ (memory : State) (writes : memory.volume.halted ≡ None) (idle : memory.actors ≡ replicate actor_count idle_actor) (free : memory.turn ≡ None) where
+  -- Client 0 has nothing under way.
+  rests : IsAtRest memory
+  rests = record {
+    operation = ap (λ (actors : List Actor). (slice_index_or actors 0 idle_actor).operation) idle;
+    holds_nothing = ap (λ (actors : List Actor). holds (slice_index_or actors 0 idle_actor)) idle;
+    turn = free;
+  }
+
+  pub between_opened : (tells : Type 0) (begun : Found) (start state : DevicesState) (trace : History) → state ≡ start → trace ≡ [] → IsBetween tells begun start state memory trace
+  between_opened tells begun start state trace begins nothing =
+      subst (λ (s : DevicesState). IsBetween tells begun start s memory trace) (sym begins)
+      (subst (λ (t : History). IsBetween tells begun start start memory t) (sym nothing) (record {
+        rest = rests;
+        failures = subst (λ (halted : Option Halt). KeepsFailures begun start start halted []) (sym writes) (none_failed begun start);
+        unspent = λ far few. All-nil (λ (entry : Entry). entry.reply ≡ Spent → (entry.op ≡ Sync) × ¬ BeganWithRoom tells begun start);
+      }))
