@@ -95,8 +95,8 @@ impl<D: Devices, O: Opening> Core<D, O> {
     /// one leaf, whatever a crash has left of them since then means what some entry led to, and none before the last that was durable
     /// by that moment, as far as no torn block opens by chance. What a crash leaves now is what the last durable entry led to, by whose keys and the
     /// changes that aren't durable the keys in memory come, or what the entry in flight leads to; each btree of it is one leaf, and each entry that the
-    /// last durable one needs stands whole on every metadata device. Where what was found is sound, no node lies among the blocks of its files, and these
-    /// are as they were.
+    /// last durable one needs stands whole on every metadata device. Where what was found left room in the ring, so does what a crash leaves. Where what was
+    /// found is sound, no node lies among the blocks of its files, and these are as they were.
     pub fn devices(&self) -> &D
         ensures devices { result.now ≡ self.now.devices }
         ensures safe { KeepsSafe D.tells O.found O.start (D.state result.now) self.now.memory.volume }
@@ -126,7 +126,8 @@ impl<D: Devices, O: Opening> Core<D, O> {
     /// Makes an event of an actor, and answers it. What other actors have under way stays. Where the session may begin with what
     /// was found, and no torn block of the journal areas opens by chance, whatever a crash leaves at a moment of the event means
     /// what an entry led to that is no earlier than the last one that was durable when the event began, and has no fewer commits; it is
-    /// told by what was in memory then, and can be opened again (`left`), as `devices` says it of the present moment.
+    /// told by what was in memory then, and can be opened again, with room in the ring if there was room (`left`), as `devices` says it of the
+    /// present moment.
     /// Devices are only written and flushed, and a failure that is answered names the device whose count rose; no other count did.
     /// It costs what `Memory::step` does. `Begin`, `Intend`, `Finish`, `Drop` and `Next` take no memory.
     pub fn step(&mut self, actor: u8, event: Event) -> Answer
