@@ -120,7 +120,7 @@ fn sealed_part(
 
 /// The sealed blocks of an entry with this payload, whose part 0 has this number. It takes memory for the blocks, and the
 /// time of two digests of the payload.
-pub(crate) fn sealed_parts(
+pub fn sealed_parts(
     alloc: Global,
     id: &[u8; 16],
     number: u64,

@@ -123,7 +123,7 @@ fn needed_entries(
 
 /// What the journal is read as that these areas hold: one map step for each whole entry, whose time rises with the logarithm of
 /// their number. It takes memory for all whole entries.
-pub(crate) fn journal_of(
+pub fn journal_of(
     alloc: Global,
     layout: &Layout,
     areas: &[AreaBlocks],

@@ -16,10 +16,9 @@ mod mending;
 mod parts;
 mod reading;
 mod ring;
-#[cfg(test)]
-mod tests;
 
-pub use blocks::{entry_parts, part_count};
+pub use blocks::{entry_parts, part_count, sealed_parts};
+pub use counting::journal_of;
 pub use found::FoundEntry;
 pub use journal::Journal;
 pub use laws::{
@@ -28,5 +27,6 @@ pub use laws::{
     whole_entries_stay, written_entries_are_whole,
 };
 pub use mending::mend_entry;
+pub use parts::AreaBlocks;
 pub use reading::read_journal;
 pub use ring::{Ring, RingFull};

@@ -8,7 +8,7 @@ use std::alloc::{AllocError, Global};
 use vol_types::{Bytes, Layout, Listing};
 
 /// The blocks of a device's journal area, in the order of their places.
-pub(crate) type AreaBlocks = Listing<Bytes>;
+pub type AreaBlocks = Listing<Bytes>;
 
 /// What a device holds at a place of its journal area.
 pub(crate) fn block_of(areas: &[AreaBlocks], dev: u8, place: u64) -> Option<&Bytes>

@@ -18,7 +18,7 @@ use vol_types::{Births, Ends, Listing, NodePtr, Pos, Value};
 
 /// Why lists of what was found make no btrees.
 #[derive(Clone, Copy, Debug, PartialEq, Eq)]
-pub(crate) enum Unmade {
+pub enum Unmade {
     /// They aren't those of a key map.
     NotBtrees,
     /// Out of memory.
@@ -49,7 +49,7 @@ impl<T: Drop> From<AllocFailed<T>> for Unmade {
 
 /// The key map of btrees that were found.
 #[derive(Drop)]
-pub(crate) struct MadeMap {
+pub struct MadeMap {
     pub map: KeyMap,
     /// Where the sets of their nodes end.
     pub ends: Ends,
@@ -108,7 +108,7 @@ impl Parts {
 
 /// The key map of btrees that were found, which stand in the order of their numbers. It goes over all nodes and values, and
 /// takes memory for each.
-pub(crate) fn key_map(alloc: Global, btrees: Listing<FoundBtree>) -> Result<MadeMap, Unmade>
+pub fn key_map(alloc: Global, btrees: Listing<FoundBtree>) -> Result<MadeMap, Unmade>
     ensures map { IfOk result (λ made. made.map ≡ trees_found btrees) }
     ensures ends { IfOk result (λ made. made.ends ≡ flat_map (λ btree. btree.ends) btrees) }
     ensures ragged { IfOk result (λ made. made.ragged ≡ flat_map (λ btree. btree.ragged) btrees) }

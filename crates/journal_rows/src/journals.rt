@@ -2,12 +2,11 @@ ghost use Rattle.std.specs.Prelude.{◌≡◌, ◌∷◌, [], length, IfOk};
 ghost use Rattle.dev_model.specs.Devices.{now};
 ghost use Rattle.dev_model.specs.Disk.{NothingPending};
 
-use crate::blocks::sealed_parts;
-use crate::counting::journal_of;
-use crate::parts::AreaBlocks;
-use crate::{FoundEntry, Journal, part_count, read_journal};
 use dev_model::{Devices, MemDevices};
 use geometry::{DiskFault, is_layout_of};
+use journal_ring::{
+    AreaBlocks, FoundEntry, Journal, journal_of, part_count, read_journal, sealed_parts,
+};
 use record_codec::{EntryRecord, get_entry};
 use std::alloc::{AllocError, Global};
 use std::test::Fail;

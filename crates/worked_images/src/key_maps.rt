@@ -1,11 +1,10 @@
 //! Lists as they are found, as a key map, also where they aren't those of one; and devices without a volume.
 
-use super::*;
-use crate::btrees::{MadeMap, Unmade, key_map};
 use btree_map::KeyMap;
 use dev_model::MemDevices;
 use image_view::MountFault;
 use plain_reader::FoundBtree;
+use replay::{MadeMap, Unmade, key_map, load};
 use std::alloc::{AllocError, Global};
 use std::test::Fail;
 use vol_types::{Births, Btree, Ends, Listing, NodeEnd, NodePtr, Place, Places, Pos, Value};
