@@ -149,6 +149,25 @@ pub fn wipe(
     Ok(true)
 }
 
+/// Tears a block that was zeros before it was written: its first half stays. Whether it did.
+pub fn tear(
+    alloc: Global,
+    devices: &mut MemDevices,
+    dev: u8,
+    block: u32,
+) -> Result<bool, AllocError> {
+    let Some(whole) = block_of(alloc, devices, dev, block)? else {
+        return Ok(false);
+    };
+    let mut torn = vec![in alloc; 0; 4096]?;
+    for at in 0..2048 {
+        if let (Some(to), Some(from)) = (torn.get_mut(at), whole.get(at)) {
+            *to = *from;
+        }
+    }
+    Ok(put_block(devices, dev, block, &torn))
+}
+
 /// Seals a block anew with this version. Whether it opened, and was written.
 pub fn put_version(
     alloc: Global,

@@ -1,15 +1,16 @@
 //! An entry of the journal that takes two blocks, torn on one of two devices and on both.
 
-use dev_model::{MemDevices, Pick};
 use std::alloc::{AllocError, Global};
 use std::test::Fail;
-use volume_runs::{block_of, put_block, run, two_devices};
+use volume_runs::{ALL_WRITTEN, EMPTY_RUN, Start, Step, Trial, other_step};
 
 // A script that makes the files n00 to n59 and syncs.
 fn script(alloc: Global) -> Result<String, AllocError> {
     let mut script = String::new(alloc);
-    for number in 0..60u32 {
-        write!(script, "mkfile main:/n{}{}\n", number / 10, number % 10)?;
+    for tens in 0..6u32 {
+        for ones in 0..10u32 {
+            write!(script, "mkfile main:/n{tens}{ones}\n")?;
+        }
     }
     script.push_str("sync\n")?;
     Ok(script)
@@ -28,8 +29,10 @@ fn made(alloc: Global) -> Result<String, AllocError> {
 // What a run prints that lists all these files.
 fn listed(alloc: Global) -> Result<String, AllocError> {
     let mut lines = String::from_str(alloc, "@0 1 list")?;
-    for number in 0..60u32 {
-        write!(lines, " n{}{}", number / 10, number % 10)?;
+    for tens in 0..6u32 {
+        for ones in 0..10u32 {
+            write!(lines, " n{tens}{ones}")?;
+        }
     }
     lines.push_str("\nend commits 0 synced 0\n")?;
     Ok(lines)
@@ -38,56 +41,71 @@ fn listed(alloc: Global) -> Result<String, AllocError> {
 // What a run prints that lists none.
 const NONE: &[u8] = b"@0 1 list\nend commits 0 synced 0\n";
 
-// Two devices with these files, which one entry has made, in the blocks 17 and 18 of each. Blank devices where they can't be made.
-fn with_files(alloc: Global) -> Result<MemDevices, AllocError> {
-    let ran = run(alloc, script(alloc)?.as_bytes(), two_devices(alloc)?)?;
-    if ran.status != 0 || ran.sink.held() != made(alloc)?.as_bytes() {
-        return MemDevices::blank(alloc, &[1024, 1024]);
-    }
-    Ok(ran.devices)
+// Runs this script, which succeeds and prints this.
+fn run_of<'a>(script: &'a [u8], lines: &'a [u8]) -> Step<'a> {
+    Step::Run(Trial {
+        script,
+        status: Some(0),
+        printed: Some(lines),
+        ..EMPTY_RUN
+    })
 }
 
-// Tears a block that was zeros before it was written: its first half stays. Whether it did.
-fn tear(alloc: Global, devices: &mut MemDevices, dev: u8, block: u32) -> Result<bool, AllocError> {
-    let Some(whole) = block_of(alloc, devices, dev, block)? else {
-        return Ok(false);
-    };
-    let mut torn = vec![in alloc; 0; 4096]?;
-    for at in 0..2048 {
-        if let (Some(to), Some(from)) = (torn.get_mut(at), whole.get(at)) {
-            *to = *from;
-        }
-    }
-    Ok(put_block(devices, dev, block, &torn))
+// Makes the files on two devices, by one entry in the blocks 17 and 18 of each, tears some of these blocks, and lists the files.
+fn steps_of<'a>(
+    alloc: Global,
+    make: Step<'a>,
+    torn: &[Step<'a>],
+    list: Step<'a>,
+) -> Result<Vec<Step<'a>>, AllocError> {
+    let mut steps = Vec::new(alloc);
+    steps.push(make)?;
+    steps.extend_from_slice(torn)?;
+    steps.push(ALL_WRITTEN)?;
+    steps.push(list)?;
+    Ok(steps)
 }
 
-// Whether a run prints this where these blocks of these devices are torn.
-fn prints(alloc: Global, torn: &[(u8, u32)], lines: &[u8]) -> Result<bool, AllocError> {
-    let mut devices = with_files(alloc)?;
-    for (dev, block) in torn {
-        if !tear(alloc, &mut devices, *dev, *block)? {
-            return Ok(false);
+// The number of the first of these rows of torn blocks with which a run prints something else.
+fn other_torn(
+    alloc: Global,
+    rows: &'static [&'static [Step<'static>]],
+    lines: &[u8],
+) -> Result<Option<usize>, AllocError> {
+    let script = script(alloc)?;
+    let made = made(alloc)?;
+    let make = run_of(script.as_bytes(), made.as_bytes());
+    let mut number = 0usize;
+    for torn in rows {
+        let steps = steps_of(alloc, make, torn, run_of(b"ls main:/\n", lines))?;
+        if other_step(alloc, Start::Two, &steps)?.is_some() {
+            return Ok(Some(number));
         }
+        number = number.saturating_add(1);
     }
-    let ran = run(alloc, b"ls main:/\n", devices.restart(Pick::AllWritten)?)?;
-    Ok(ran.status == 0 && ran.sink.held() == lines)
+    Ok(None)
 }
+
+// One part or none is torn on each device, and where both are torn on one, the other has both.
+static WHOLE: [&[Step]; 4] = [
+    &[Step::Tear(0, 17), Step::Tear(0, 18)],
+    &[Step::Tear(1, 17), Step::Tear(1, 18)],
+    &[Step::Tear(0, 18)],
+    &[Step::Tear(0, 17), Step::Tear(1, 18)],
+];
+
+// The same part is torn on both devices.
+static BROKEN: [&[Step]; 2] = [
+    &[Step::Tear(0, 18), Step::Tear(1, 18)],
+    &[Step::Tear(0, 17), Step::Tear(1, 17)],
+];
 
 // It counts where both parts stand on one device; and each part may be taken from another one.
 #[test]
 fn an_entry_counts_where_each_part_is_whole(rt: HostRuntime) -> Result<(), Fail> {
     let alloc = rt.alloc();
     let all = listed(alloc)?;
-    for torn in [
-        [(0, 17), (0, 18)].as_slice(),
-        [(1, 17), (1, 18)].as_slice(),
-        [(0, 18)].as_slice(),
-        [(0, 17), (1, 18)].as_slice(),
-    ] {
-        assert!(rt; prints(alloc, torn, all.as_bytes())?, "at {torn:?}");
-    }
-    for torn in [[(0, 18), (1, 18)].as_slice(), [(0, 17), (1, 17)].as_slice()] {
-        assert!(rt; prints(alloc, torn, NONE)?, "at {torn:?}");
-    }
+    assert_eq!(rt; other_torn(alloc, &WHOLE, all.as_bytes())?, None);
+    assert_eq!(rt; other_torn(alloc, &BROKEN, NONE)?, None);
     Ok(())
 }

@@ -1,102 +1,172 @@
-use std::alloc::{AllocError, Global};
 use std::test::Fail;
-use text_io::{MemSink, MemSource};
-use volume_runs::{MOUNTING, fail, has_acks, one_device, run_over};
+use volume_runs::{EMPTY_RUN, MOUNTING, Start, Step, Trial, fails_so, other_row};
 
 // How many calls there are where none fails: before the entry the device is flushed, it is written, and flushed.
 const ALL: u64 = MOUNTING + 3;
 
-// Whether a run that makes a file ends so, over a volume without files: its status, how many entries its history has, how
-// many calls of the device there were, and what the sink holds. No commit is acknowledged but where all calls succeed.
-fn ends_so(
-    alloc: Global,
-    failing_takes: &[u64],
-    failing_gives: &[u64],
-    failing_call: Option<u64>,
-    expected: (u8, usize, u64),
-    held: &[u8],
-) -> Result<bool, AllocError> {
-    let mut devices = one_device(alloc)?;
-    if let Some(call) = failing_call {
-        fail(&mut devices, call, false)?;
-    }
-    let mut source = MemSource::new(alloc, b"mkfile main:/a\n", failing_takes)?;
-    let sink = MemSink::new(alloc, failing_gives)?;
-    let ran = run_over(alloc, &["run"], &mut source, sink, devices)?;
-    let (status, entries, calls) = expected;
-    let is_acknowledged = calls == ALL && failing_call.is_none();
-    Ok(
-        ran.status == status
-            && ran.trace.len() == entries
-            && ran.calls == calls
-            && has_acks(&ran, if is_acknowledged { &[1] } else { &[] })
-            && ran.sink.held() == held,
-    )
-}
+// A run that makes a file, over a volume without files. No commit is acknowledged but where all calls succeed.
+const MAKE: Trial = Trial {
+    script: b"mkfile main:/a\n",
+    acks: Some(&[]),
+    ..EMPTY_RUN
+};
 
-// The run goes on: the volume is mounted, and the entry is written and flushed.
+// It goes on where the sink fails: the volume is mounted, and the entry is written and flushed.
+const UNHEARD: Trial = Trial {
+    status: Some(5),
+    entries: Some(2),
+    acks: Some(&[1]),
+    calls: Some(ALL),
+    ..MAKE
+};
+
+static FAILING_SINKS: [&[Step]; 2] = [
+    &[Step::Run(Trial {
+        failing_gives: &[0],
+        printed: Some(b""),
+        ..UNHEARD
+    })],
+    &[Step::Run(Trial {
+        failing_gives: &[1],
+        printed: Some(b"@0 1 ok\n"),
+        ..UNHEARD
+    })],
+];
+
 #[test]
 fn a_sink_that_fails_stops_no_run(rt: HostRuntime) -> Result<(), Fail> {
-    let alloc = rt.alloc();
-    assert!(rt; ends_so(alloc, &[], &[0], None, (5, 2, ALL), b"")?);
-    assert!(rt; ends_so(alloc, &[], &[1], None, (5, 2, ALL), b"@0 1 ok\n")?);
+    assert_eq!(rt; other_row(rt.alloc(), Start::One, &FAILING_SINKS)?, None);
     Ok(())
 }
 
 // The calls before the first line: superblocks, sessions, the journal from call 4 on, nine roots from call 260 on, the next session, and
-// the entry. All 16 blocks of a root are read before it is judged. Then come the three of the entry.
+// the entry. All 16 blocks of a root are read before it is judged.
+static EARLY: [(u64, u64); 14] = [
+    (0, 1),
+    (1, 2),
+    (2, 3),
+    (3, 4),
+    (4, 5),
+    (100, 101),
+    (259, 260),
+    (260, 276),
+    (275, 276),
+    (276, 292),
+    (403, 404),
+    (404, 405),
+    (405, 406),
+    (406, 407),
+];
+
+const UNMOUNTED: Trial = Trial {
+    status: Some(6),
+    entries: Some(0),
+    printed: Some(b"error 6 device 0\n"),
+    ..MAKE
+};
+
+const UNSYNCED: Trial = Trial {
+    status: Some(6),
+    entries: Some(2),
+    printed: Some(b"@0 1 ok\nend commits 1 synced 0\n"),
+    ..MAKE
+};
+
+// The same after so many calls.
+fn after(calls: u64, trial: Trial<'static>) -> Trial<'static> {
+    Trial {
+        calls: Some(calls),
+        ..trial
+    }
+}
+
+// Behind the early calls come the three of the entry.
 #[test]
 fn a_device_that_fails_is_told(rt: HostRuntime) -> Result<(), Fail> {
     let alloc = rt.alloc();
-    let early = [
-        (0, 1),
-        (1, 2),
-        (2, 3),
-        (3, 4),
-        (4, 5),
-        (100, 101),
-        (259, 260),
-        (260, 276),
-        (275, 276),
-        (276, 292),
-        (403, 404),
-        (404, 405),
-        (405, 406),
-        (406, 407),
-    ];
-    for (call, calls) in early {
-        assert!(rt;
-            ends_so(
-                alloc,
-                &[],
-                &[],
-                Some(call),
-                (6, 0, calls),
-                b"error 6 device 0\n"
-            )?,
-            "at {call}"
-        );
+    for (call, calls) in EARLY.iter() {
+        let trial = after(*calls, UNMOUNTED);
+        assert!(rt; fails_so(alloc, Start::One, *call, &trial)?, "at {call}");
     }
-    let lines = b"@0 1 ok\nend commits 1 synced 0\n".as_slice();
     for call in MOUNTING..ALL {
-        let expected = (6, 2, call.saturating_add(1));
-        assert!(rt;
-            ends_so(alloc, &[], &[], Some(call), expected, lines)?,
-            "at {call}"
-        );
+        let trial = after(call.saturating_add(1), UNSYNCED);
+        assert!(rt; fails_so(alloc, Start::One, call, &trial)?, "at {call}");
     }
     Ok(())
 }
 
 // A sink that fails gives the status 5, whatever failed before it. Of a source and a device that are to fail, the source
 // comes first, and no device is called.
+static SEVERAL: [&[Step]; 5] = [
+    &[
+        Step::Fail {
+            call: 0,
+            stays: false,
+        },
+        Step::Run(Trial {
+            failing_takes: &[1],
+            status: Some(4),
+            entries: Some(0),
+            calls: Some(0),
+            printed: Some(b"error 4 source\n"),
+            ..MAKE
+        }),
+    ],
+    &[Step::Run(Trial {
+        failing_takes: &[0],
+        failing_gives: &[0],
+        status: Some(5),
+        entries: Some(0),
+        calls: Some(0),
+        printed: Some(b""),
+        ..MAKE
+    })],
+    &[
+        Step::Fail {
+            call: 0,
+            stays: false,
+        },
+        Step::Run(Trial {
+            failing_gives: &[0],
+            status: Some(5),
+            entries: Some(0),
+            calls: Some(1),
+            printed: Some(b""),
+            ..MAKE
+        }),
+    ],
+    &[
+        Step::Fail {
+            call: 408,
+            stays: false,
+        },
+        Step::Run(Trial {
+            failing_gives: &[0],
+            status: Some(5),
+            entries: Some(2),
+            calls: Some(409),
+            printed: Some(b""),
+            ..MAKE
+        }),
+    ],
+    &[
+        Step::Fail {
+            call: 409,
+            stays: false,
+        },
+        Step::Run(Trial {
+            failing_gives: &[1],
+            status: Some(5),
+            entries: Some(2),
+            calls: Some(410),
+            printed: Some(b"@0 1 ok\n"),
+            ..MAKE
+        }),
+    ],
+];
+
 #[test]
 fn of_several_failures_the_sink_gives_the_status(rt: HostRuntime) -> Result<(), Fail> {
-    let alloc = rt.alloc();
-    assert!(rt; ends_so(alloc, &[1], &[], Some(0), (4, 0, 0), b"error 4 source\n")?);
-    assert!(rt; ends_so(alloc, &[0], &[0], None, (5, 0, 0), b"")?);
-    assert!(rt; ends_so(alloc, &[], &[0], Some(0), (5, 0, 1), b"")?);
-    assert!(rt; ends_so(alloc, &[], &[0], Some(408), (5, 2, 409), b"")?);
-    assert!(rt; ends_so(alloc, &[], &[1], Some(409), (5, 2, 410), b"@0 1 ok\n")?);
+    assert_eq!(rt; other_row(rt.alloc(), Start::One, &SEVERAL)?, None);
     Ok(())
 }

@@ -1,40 +1,27 @@
-ghost use Rattle.std.specs.Prelude.{◌<◌};
-
 use std::alloc::{AllocError, Global};
 use std::test::Fail;
-use text_io::{MemSink, MemSource};
-use volume_runs::{Ran, has_acks, one_device, run_over};
+use volume_runs::{EMPTY_RUN, Start, Trial, ends_so};
 
-// A script of 30 bytes.
-const SCRIPT: &[u8] = b"mkfile main:/a\nsync\nls main:/\n";
+// A run of a script of 30 bytes whose source fails: no line of the script runs, those that were read neither.
+const STOPPED: Trial = Trial {
+    script: b"mkfile main:/a\nsync\nls main:/\n",
+    status: Some(4),
+    printed: Some(b"error 4 source\n"),
+    entries: Some(0),
+    acks: Some(&[]),
+    calls: Some(0),
+    ..EMPTY_RUN
+};
 
-// What a run of it over a volume without files prints.
-const LINES: &[u8] = b"@0 1 ok\n@0 2 ok 1\n@0 3 list a\nend commits 1 synced 1\n";
-
-// A run over a source that gives no more than so many bytes a call, and whose calls with these numbers fail; with the
-// number of those calls.
-fn run_in_pieces(alloc: Global, most: usize, failing: &[u64]) -> Result<(Ran, u64), AllocError>
-    requires { 0 < most }
-{
-    let mut source = MemSource::new(alloc, SCRIPT, failing)?.in_pieces(most);
-    let sink = MemSink::new(alloc, &[])?;
-    let ran = run_over(alloc, &["run"], &mut source, sink, one_device(alloc)?)?;
-    Ok((ran, source.calls()))
-}
-
-// Whether the run stops at this call of the source, which fails: no line of the script runs, those that were read neither.
-fn stops_at(alloc: Global, most: usize, call: u64) -> Result<bool, AllocError>
-    requires { 0 < most }
-{
-    let (ran, made) = run_in_pieces(alloc, most, &[call])?;
-    Ok(
-        made == call.saturating_add(1)
-            && ran.status == 4
-            && ran.sink.held() == b"error 4 source\n".as_slice()
-            && ran.trace.len() == 0
-            && has_acks(&ran, &[])
-            && ran.calls == 0,
-    )
+// Whether the run stops at this call of the source, which fails, where none gives more than so many bytes.
+fn stops_at(alloc: Global, most: usize, call: u64) -> Result<bool, AllocError> {
+    let trial = Trial {
+        failing_takes: &[call],
+        most_taken: most,
+        takes: Some(call.saturating_add(1)),
+        ..STOPPED
+    };
+    ends_so(alloc, Start::One, &trial)
 }
 
 // The first piece, one within a line, one that ends with a line, the last piece, and the call that would say that the
