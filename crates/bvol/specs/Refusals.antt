@@ -1,7 +1,7 @@
 -- Why no command was begun, and with which status the program then ends.
 use Rattle.std.specs.Prelude.{ℕ}
-use Rattle.bvol.specs.declared.devices.OpenFault.{OpenFault}
-use Rattle.bvol.specs.declared.devices.OpenFault.TheVariants.{Device, NoMemory}
+use Rattle.file_devices.specs.declared.devices.OpenFault.{OpenFault}
+use Rattle.file_devices.specs.declared.devices.OpenFault.TheVariants.{Device, NoMemory}
 use Rattle.bvol.specs.declared.refusal.Refusal.{Refusal}
 use Rattle.bvol.specs.declared.refusal.Refusal.TheVariants.{Usage, NotText, Device as NoDevice, Memory}
 

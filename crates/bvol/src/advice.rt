@@ -1,5 +1,5 @@
-use crate::devices::Trouble;
 use crate::refusal::Refusal;
+use file_devices::Trouble;
 use script_lines::LineFault;
 use shell::{EarlyEnd, Refusal as MountRefusal};
 use std::fmt;

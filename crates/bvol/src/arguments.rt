@@ -2,8 +2,8 @@ ghost use Rattle.std.specs.Prelude.{◌≡◌, ◌<◌, ◌≤◌, length, map, 
 ghost use Rattle.std.specs.Rc.{rc_str_bytes};
 ghost use Rattle.bvol.specs.Arguments.{is_dashes, first_dashes, words_and_files};
 
-use crate::devices::MOST_DEVICES;
 use crate::help::{FORMAT_HELP, HELP, INFO_HELP, RUN_HELP, VERSION};
+use file_devices::MOST_DEVICES;
 use std::rc::RcStr;
 
 /// The text that the arguments ask for, where they ask for help or for the version.

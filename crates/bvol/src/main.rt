@@ -6,20 +6,15 @@ ghost use Rattle.std.specs.Prelude.{◌≡◌, ◌≤◌, length};
 
 mod advice;
 mod arguments;
-mod counts;
-mod devices;
 mod help;
-mod image;
 mod judging;
 mod overwriting;
 mod refusal;
-#[cfg(test)]
-mod tests;
 
 use advice::{Advice, RefusalAdvice};
 use arguments::{help_for, words_and_paths};
 use dev_model::NoGate;
-use devices::{FileDevices, MOST_DEVICES, open_devices};
+use file_devices::{MOST_DEVICES, open_devices};
 use judging::judge_arguments;
 use overwriting::say_what_is_lost;
 use refusal::Refusal;

@@ -1,7 +1,7 @@
 ghost use Rattle.std.specs.Prelude.{◌≡◌};
 ghost use Rattle.bvol.specs.Refusals.{refusal_status};
 
-use crate::devices::{OpenFault, Trouble};
+use file_devices::{OpenFault, Trouble};
 use std::alloc::{AllocError, AllocFailed};
 use std::{fmt, io};
 

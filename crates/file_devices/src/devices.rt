@@ -1,7 +1,7 @@
 ghost use Rattle.std.specs.Prelude.{◌≡◌, ◌<◌, ◌≤◌, ℕ, [], Err, length, map, IfOk};
-ghost use Rattle.bvol.specs.declared.devices.OpenFault.{OpenFault};
-ghost use Rattle.bvol.specs.declared.devices.OpenFault.TheVariants.{Device};
-ghost use Rattle.bvol.specs.declared.devices.Trouble.TheVariants.{InUse};
+ghost use Rattle.file_devices.specs.declared.devices.OpenFault.{OpenFault};
+ghost use Rattle.file_devices.specs.declared.devices.OpenFault.TheVariants.{Device};
+ghost use Rattle.file_devices.specs.declared.devices.Trouble.TheVariants.{InUse};
 
 use crate::counts::CallCounts;
 use crate::image::{Image, open_image};
@@ -62,7 +62,7 @@ fn trouble_of(error: io::Error) -> Trouble {
 
 impl<T: Drop> From<AllocFailed<T>> for OpenFault {
     ghost use Rattle.std.specs.Prelude.{◌≡◌};
-    ghost use Rattle.bvol.specs.declared.devices.OpenFault.TheVariants.{NoMemory};
+    ghost use Rattle.file_devices.specs.declared.devices.OpenFault.TheVariants.{NoMemory};
 
     ghost from_gives = { λ _ fault. fault ≡ NoMemory };
 

@@ -1,4 +1,4 @@
-use crate::devices::{FileDevices, OpenFault, Trouble, open_devices};
+use crate::{FileDevices, OpenFault, Trouble, open_devices};
 use dev_model::Devices;
 use std::alloc::Global;
 use std::fs::{self, File};

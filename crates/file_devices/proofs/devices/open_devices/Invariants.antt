@@ -1,5 +1,5 @@
 use Rattle.std.proofs.Common.{◌≡◌, length}
-use Rattle.bvol.proofs.devices.open_devices.Given as goal
+use Rattle.file_devices.proofs.devices.open_devices.Given as goal
 
 -- one file was opened for each path so far
 abbrev pub invariant-loop-path : goal.invariant-loop-path
