@@ -281,6 +281,7 @@ static FAILURES: [((u64, u64), Option<u8>); 12] = [
     ((1, 17), Some(1)),
 ];
 
+// Whether reading blames this device where these calls fail, or gives all that was written where none is to blame.
 fn fails_as(alloc: Global, calls: (u64, u64), fault: Option<u8>) -> Result<bool, Fail> {
     let wanted = match fault {
         Some(dev) => Err(NodeFault::DeviceFault(dev)),
@@ -289,7 +290,7 @@ fn fails_as(alloc: Global, calls: (u64, u64), fault: Option<u8>) -> Result<bool,
     Ok(with_failing(alloc, calls)? == wanted)
 }
 
-// The number of the first calls of which it isn't so.
+// The number of the first calls that fail otherwise.
 fn first_other_failure(alloc: Global) -> Result<Option<u32>, Fail> {
     let mut number: u32 = 0;
     for (calls, fault) in FAILURES.iter() {

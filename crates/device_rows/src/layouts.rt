@@ -22,9 +22,10 @@ pub static ID: [u8; 16] = [
 /// The id of another volume.
 pub static FOREIGN_ID: [u8; 16] = [7; 16];
 
-/// The sizes of two devices.
+/// The sizes of two devices of the same size.
 pub static EQUAL: [u32; 2] = [1024, 1024];
 
+/// The sizes of two devices of which the second is twice as large.
 pub static UNEQUAL: [u32; 2] = [1024, 2048];
 
 /// A layout on two devices of these sizes: a journal area of 256 blocks, metadata on both, and one copy of data.
@@ -129,7 +130,7 @@ fn first_other_sizes(alloc: Global) -> Result<Option<u32>, AllocError> {
     Ok(None)
 }
 
-// The number of the first journal area and replicas of which that is so.
+// The number of the first journal area and replicas with which one stands where it shouldn't, or doesn't where it should.
 fn first_other_replicas(alloc: Global) -> Result<Option<u32>, AllocError> {
     let mut number: u32 = 0;
     for (journal, meta, replicas, stands) in REPLICAS.iter() {

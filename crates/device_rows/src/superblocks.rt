@@ -402,7 +402,7 @@ fn names_failed(alloc: Global, call: u64, dev: u8) -> Result<bool, Fail> {
     names_once(alloc, &mut devices, call, dev, layout)
 }
 
-// The first call whose failure isn't named so.
+// The first call whose failure names another device.
 fn first_other_call(alloc: Global) -> Result<Option<u64>, Fail> {
     for (call, dev) in CALLS.iter() {
         if !names_failed(alloc, *call, *dev)? {
