@@ -12,7 +12,7 @@ use sealed_block::{Head, NODE_SET, seal};
 use std::alloc::Global;
 use std::test::Fail;
 use vol_digest::digest;
-use vol_types::Place;
+use vol_types::{NodePtr, Place};
 
 // The sealed block of a set with this payload, whatever that is.
 fn sealed(alloc: Global, block: u8, payload: &[u8]) -> Result<Vec<u8>, Fail> {
@@ -334,15 +334,30 @@ fn is_root(parts: &[u8]) -> bool {
     digest(block) == ROOT_DIGEST && zeros.iter().all(|byte| *byte == 0)
 }
 
+fn is_root_planned(alloc: Global, ptr: &NodePtr) -> Result<bool, Fail> {
+    let first = planned(alloc, ptr, 0, &ROOT_SET)?;
+    Ok(is_root(first.parts.as_slice()))
+}
+
+fn length_further(alloc: Global, ptr: &NodePtr) -> Result<usize, Fail> {
+    let further = planned(alloc, ptr, 3, &ROOT_SET)?;
+    Ok(further.parts.len())
+}
+
+// Whether the blocks of the set are those of the root from the first block of the bucket on, and how long they are further behind.
+fn root_and_length(alloc: Global) -> Result<(bool, usize), Fail> {
+    let ptr = pointer_of(alloc, 0x1_0000_0001)?;
+    let is_root = is_root_planned(alloc, &ptr)?;
+    let length = length_further(alloc, &ptr)?;
+    Ok((is_root, length))
+}
+
 // The digest was computed by Python's hashlib over the block that its struct module packed. Behind it are zeros, up to the end of
 // the bucket.
 #[test]
 fn known_root(rt: HostRuntime) -> Result<(), Fail> {
-    let alloc = rt.alloc();
-    let ptr = pointer_of(alloc, 0x1_0000_0001)?;
-    let first = planned(alloc, &ptr, 0, &ROOT_SET)?;
-    assert!(rt; is_root(first.parts.as_slice()));
-    let further = planned(alloc, &ptr, 3, &ROOT_SET)?;
-    assert_eq!(rt; further.parts.len(), 4096);
+    let (is_root, length) = root_and_length(rt.alloc())?;
+    assert!(rt; is_root);
+    assert_eq!(rt; length, 4096);
     Ok(())
 }

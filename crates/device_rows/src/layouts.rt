@@ -75,14 +75,21 @@ static SESSION_DIGEST: [u8; 32] = [
     0x08, 0x29, 0x9b, 0x7d, 0xfe, 0x7f, 0x7e, 0x4e, 0x99, 0x84, 0x59, 0x0e, 0x16, 0xba, 0x1b, 0xe2,
 ];
 
+// Whether a block names session 7, in the place of its own alone, and has the known digest.
+fn is_known_session(bytes: &[u8]) -> bool
+    requires { length bytes.now ≡ 4096 }
+{
+    session_named(&ID, 5, bytes) == Some(7)
+        && session_named(&ID, 4, bytes).is_none()
+        && digest(bytes) == SESSION_DIGEST
+}
+
 // The digest was computed as that of `known_superblock`, with kind 4, owner 7, number 5, sequence 7, and the payload "<Q" of 7.
 #[test]
 fn known_session(rt: HostRuntime) -> Result<(), Fail> {
-    let bytes = sealed_over(rt.alloc(), 0xff, &ID, 7)?;
     assert_eq!(rt; session_place(7), 5);
-    assert_eq!(rt; session_named(&ID, 5, &bytes), Some(7));
-    assert_eq!(rt; session_named(&ID, 4, &bytes), None);
-    assert!(rt; digest(&bytes) == SESSION_DIGEST);
+    let bytes = sealed_over(rt.alloc(), 0xff, &ID, 7)?;
+    assert!(rt; is_known_session(&bytes));
     Ok(())
 }
 
@@ -154,14 +161,19 @@ static SMALLER: [u32; 2] = [1024, 2047];
 /// The size of one device.
 pub static ONE: [u32; 1] = [1024];
 
+// Whether a layout is one of larger sizes and none of smaller ones, and one device has no room for two.
+fn sizes_are_judged_so(alloc: Global) -> Result<bool, AllocError> {
+    let larger = is_layout_on(alloc, &LARGER)?;
+    let smaller = is_layout_on(alloc, &SMALLER)?;
+    Ok(larger && !smaller && !have_room(&UNEQUAL, &ONE))
+}
+
 #[test]
 fn layouts_and_sizes(rt: HostRuntime) -> Result<(), Fail> {
     let alloc = rt.alloc();
     assert_eq!(rt; first_other_sizes(alloc)?, None);
     assert_eq!(rt; first_other_replicas(alloc)?, None);
-    assert!(rt; is_layout_on(alloc, &LARGER)?);
-    assert!(rt; !is_layout_on(alloc, &SMALLER)?);
-    assert!(rt; !have_room(&UNEQUAL, &ONE));
+    assert!(rt; sizes_are_judged_so(alloc)?);
     Ok(())
 }
 
@@ -303,11 +315,17 @@ fn reads_greatest(
 }
 
 // Whether it is where the first session is 11.
-fn reads_greatest_from_11(alloc: Global) -> Result<bool, Fail> {
+fn reads_greatest_behind_11(alloc: Global, devices: &mut MemDevices) -> Result<bool, Fail>
+    requires { NothingPending (now (⟦<MemDevices as Devices>⟧.state devices.old)) }
+{
+    put_session(alloc, devices, &ID, 11, 1, 5)?;
     let layout = layout_on(alloc, &ID, &EQUAL)?;
+    Ok(reads_greatest(alloc, devices, &layout)?)
+}
+
+fn reads_greatest_from_11(alloc: Global) -> Result<bool, Fail> {
     let mut devices = MemDevices::blank(alloc, &EQUAL)?;
-    put_session(alloc, &mut devices, &ID, 11, 1, 5)?;
-    Ok(reads_greatest(alloc, &mut devices, &layout)?)
+    reads_greatest_behind_11(alloc, &mut devices)
 }
 
 // The greatest of both devices and both blocks is read, whatever was sealed last.
@@ -318,13 +336,19 @@ fn the_greatest_session_is_read(rt: HostRuntime) -> Result<(), Fail> {
 }
 
 // Why no session is read where this call fails.
-fn failed_session(alloc: Global, call: u64) -> Result<Option<DiskFault>, Fail> {
+fn failed_session_on(
+    alloc: Global,
+    devices: &mut MemDevices,
+    call: u64,
+) -> Result<Option<DiskFault>, Fail> {
     let layout = layout_on(alloc, &ID, &EQUAL)?;
+    devices.fail_at(&[call])?;
+    Ok(session_on(alloc, devices, &layout).err())
+}
+
+fn failed_session(alloc: Global, call: u64) -> Result<Option<DiskFault>, Fail> {
     let mut devices = MemDevices::blank(alloc, &EQUAL)?;
-    if devices.fail_at(&[call]).is_err() {
-        return Ok(None);
-    }
-    Ok(session_on(alloc, &mut devices, &layout).err())
+    failed_session_on(alloc, &mut devices, call)
 }
 
 /// The calls of a read, each with its device.
