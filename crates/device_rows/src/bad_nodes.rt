@@ -1,6 +1,7 @@
 //! Nodes over two devices whose blocks were changed or lost, and reads that fail. What is expected was worked out by hand from the
 //! tables of the format.
 
+use crate::layouts::filled;
 use crate::nodes::{
     BIRTH, FIRST, ID, OTHER_KEYS, SECOND, Seen, bad_at, blank, counters, outcome, payload_of,
     planned, pointer_of, put, read_as, read_of, write_set,
@@ -11,7 +12,7 @@ use sealed_block::{Head, NODE_SET, seal};
 use std::alloc::Global;
 use std::test::Fail;
 use vol_digest::digest;
-use vol_types::Place;
+use vol_types::{NodePtr, Place};
 
 // The sealed block of a set with this payload, whatever that is.
 fn sealed(alloc: Global, block: u8, payload: &[u8]) -> Result<Vec<u8>, Fail> {
@@ -30,7 +31,7 @@ fn sealed(alloc: Global, block: u8, payload: &[u8]) -> Result<Vec<u8>, Fail> {
         length: payload.len() as u32,
         whole: digest(payload),
     };
-    let mut bytes = vec![in alloc; 0; 4096]?;
+    let mut bytes = filled(alloc, 0)?;
     seal(&head, payload, &mut bytes);
     Ok(bytes)
 }
@@ -97,7 +98,7 @@ fn with_byte(
 }
 
 // A place in the payload, another byte there, and the counters that are read, if the set is one of the node.
-const CHANGES: [(usize, u8, Option<[u64; 4]>); 13] = [
+static CHANGES: [(usize, u8, Option<[u64; 4]>); 13] = [
     (64, 1, Some([11, 20, 0, 40])),
     (93, 3, Some([11, 0, 20, 40])),
     (64, 2, None),
@@ -127,21 +128,25 @@ fn is_judged_so(
     Ok(with_byte(alloc, block, at, byte)? == wanted)
 }
 
+// The number of the first change of a set from a block of the bucket on that is judged otherwise.
+fn first_other_change(alloc: Global, block: u8) -> Result<Option<u32>, Fail> {
+    let mut number: u32 = 0;
+    for (at, byte, expected) in CHANGES.iter() {
+        if !is_judged_so(alloc, block, *at, *byte, *expected)? {
+            return Ok(Some(number));
+        }
+        number = number.saturating_add(1);
+    }
+    Ok(None)
+}
+
 // The birth stands at byte 0 of the set, the btree at 8, the level at 9, the ends of the range at 12 and 32, the number of keys
 // at 52, and the offsets of the three keys at 64, 93 and 122.
 #[test]
 fn sets_that_are_none_of_the_node(rt: HostRuntime) -> Result<(), Fail> {
     let alloc = rt.alloc();
-    for (at, byte, expected) in CHANGES {
-        assert!(rt;
-            is_judged_so(alloc, 0, at, byte, expected)?,
-            "byte {at}, block 0"
-        );
-        assert!(rt;
-            is_judged_so(alloc, 1, at, byte, expected)?,
-            "byte {at}, block 1"
-        );
-    }
+    assert_eq!(rt; first_other_change(alloc, 0)?, None);
+    assert_eq!(rt; first_other_change(alloc, 1)?, None);
     Ok(())
 }
 
@@ -171,7 +176,7 @@ fn outcome_without(
     second: u8,
 ) -> Result<Result<Seen, NodeFault>, Fail> {
     put_two_sets(alloc, devices)?;
-    let zeros = vec![in alloc; 0; 4096]?;
+    let zeros = filled(alloc, 0)?;
     lose(devices, FIRST, first, &zeros)?;
     lose(devices, SECOND, second, &zeros)?;
     outcome(alloc, devices)
@@ -183,9 +188,9 @@ fn with_lost(alloc: Global, first: u8, second: u8) -> Result<Result<Seen, NodeFa
     outcome_without(alloc, &mut devices, first, second)
 }
 
-const EARLIER: [u64; 4] = [4, 7, 10, 13];
+static EARLIER: [u64; 4] = [4, 7, 10, 13];
 
-const LATER: [u64; 4] = [6, 11, 16, 21];
+static LATER: [u64; 4] = [6, 11, 16, 21];
 
 // What is read where each part of both sets, or of the first alone, is on some place; and where the first isn't.
 #[derive(Clone, Copy)]
@@ -203,7 +208,7 @@ fn read_where(kept: Kept) -> Result<Seen, NodeFault> {
     }
 }
 
-const LOSSES: [(u8, u8, Kept); 11] = [
+static LOSSES: [(u8, u8, Kept); 11] = [
     (0b00000, 0b00000, Kept::Both { ragged: false }),
     (0b00001, 0b00010, Kept::Both { ragged: true }),
     (0b01010, 0b10101, Kept::Both { ragged: true }),
@@ -217,15 +222,23 @@ const LOSSES: [(u8, u8, Kept); 11] = [
     (0b00001, 0b11111, Kept::Neither),
 ];
 
+// The number of the first losses after which something else is read.
+fn first_other_losses(alloc: Global) -> Result<Option<u32>, Fail> {
+    let mut number: u32 = 0;
+    for (first, second, kept) in LOSSES.iter() {
+        if with_lost(alloc, *first, *second)? != read_where(*kept) {
+            return Ok(Some(number));
+        }
+        number = number.saturating_add(1);
+    }
+    Ok(None)
+}
+
 // Each part may come from another place. Where no place has a part, the last set is none, and without the first one the node is
 // bad.
 #[test]
 fn blocks_that_were_lost(rt: HostRuntime) -> Result<(), Fail> {
-    let alloc = rt.alloc();
-    for (first, second, kept) in LOSSES {
-        let given = with_lost(alloc, first, second)?;
-        assert!(rt; given == read_where(kept), "{first} and {second}");
-    }
+    assert_eq!(rt; first_other_losses(rt.alloc())?, None);
     Ok(())
 }
 
@@ -233,12 +246,13 @@ fn blocks_that_were_lost(rt: HostRuntime) -> Result<(), Fail> {
 fn outcome_failing(
     alloc: Global,
     devices: &mut MemDevices,
-    calls: [u64; 2],
+    calls: (u64, u64),
 ) -> Result<Result<Seen, NodeFault>, Fail> {
     put_two_sets(alloc, devices)?;
     let before = devices.calls();
-    let [first, second] = calls;
-    devices.fail_at(&[before.saturating_add(first), before.saturating_add(second)])?;
+    let first = before.saturating_add(calls.0);
+    let second = before.saturating_add(calls.1);
+    devices.fail_at(&[first, second])?;
     let outcome = outcome(alloc, devices)?;
     if devices.calls() != before.saturating_add(32) {
         return Ok(Err(NodeFault::NoMemory));
@@ -246,52 +260,67 @@ fn outcome_failing(
     Ok(outcome)
 }
 
-fn with_failing(alloc: Global, calls: [u64; 2]) -> Result<Result<Seen, NodeFault>, Fail> {
+fn with_failing(alloc: Global, calls: (u64, u64)) -> Result<Result<Seen, NodeFault>, Fail> {
     let mut devices = blank(alloc)?;
     outcome_failing(alloc, &mut devices, calls)
 }
 
 // The two calls that fail, and the device that is at fault, if the node isn't read.
-const FAILURES: [([u64; 2], Option<u8>); 12] = [
-    ([0, 0], None),
-    ([4, 4], None),
-    ([5, 5], Some(0)),
-    ([15, 15], Some(0)),
-    ([16, 16], None),
-    ([20, 20], None),
-    ([21, 21], Some(1)),
-    ([31, 31], Some(1)),
-    ([0, 17], None),
-    ([2, 19], None),
-    ([3, 19], Some(1)),
-    ([1, 17], Some(1)),
+static FAILURES: [((u64, u64), Option<u8>); 12] = [
+    ((0, 0), None),
+    ((4, 4), None),
+    ((5, 5), Some(0)),
+    ((15, 15), Some(0)),
+    ((16, 16), None),
+    ((20, 20), None),
+    ((21, 21), Some(1)),
+    ((31, 31), Some(1)),
+    ((0, 17), None),
+    ((2, 19), None),
+    ((3, 19), Some(1)),
+    ((1, 17), Some(1)),
 ];
+
+// Whether reading blames this device where these calls fail, or gives all that was written where none is to blame.
+fn fails_as(alloc: Global, calls: (u64, u64), fault: Option<u8>) -> Result<bool, Fail> {
+    let wanted = match fault {
+        Some(dev) => Err(NodeFault::DeviceFault(dev)),
+        None => read_of(LATER, 5, true),
+    };
+    Ok(with_failing(alloc, calls)? == wanted)
+}
+
+// The number of the first calls that fail otherwise.
+fn first_other_failure(alloc: Global) -> Result<Option<u32>, Fail> {
+    let mut number: u32 = 0;
+    for (calls, fault) in FAILURES.iter() {
+        if !fails_as(alloc, *calls, *fault)? {
+            return Ok(Some(number));
+        }
+        number = number.saturating_add(1);
+    }
+    Ok(None)
+}
 
 // Reads 0 to 15 are those of the bucket on the first place, and 16 to 31 those on the second one.
 #[test]
 fn reads_that_fail(rt: HostRuntime) -> Result<(), Fail> {
     let alloc = rt.alloc();
-    for (calls, fault) in FAILURES {
-        let wanted = match fault {
-            Some(dev) => Err(NodeFault::DeviceFault(dev)),
-            None => read_of(LATER, 5, true),
-        };
-        assert!(rt; with_failing(alloc, calls)? == wanted, "calls {calls:?}");
-    }
-    let behind = with_failing(alloc, [32, 33])?;
+    assert_eq!(rt; first_other_failure(alloc)?, None);
+    let behind = with_failing(alloc, (32, 33))?;
     assert!(rt; behind == read_of(LATER, 5, false));
     Ok(())
 }
 
 // The root of the btree Inodes of a format's volume: the head of its only set, and the root directory of `main`.
-const ROOT_SET: [u8; 90] = [
+static ROOT_SET: [u8; 90] = [
     1, 0, 0, 0, 1, 0, 0, 0, 1, 0, 0, 0, 0, 0, 0, 0, 0, 0, 0, 0, 0, 0, 0, 0, 0, 0, 0, 0, 0, 0, 0, 0,
     255, 255, 255, 255, 255, 255, 255, 255, 255, 255, 255, 255, 255, 255, 255, 255, 255, 255, 255,
     255, 1, 0, 0, 0, 0, 0, 0, 0, 0, 0, 0, 0, 1, 0, 0, 0, 0, 0, 0, 0, 255, 255, 255, 255, 1, 2, 1,
     0, 0, 0, 0, 0, 0, 0, 0, 0, 0, 0,
 ];
 
-const ROOT_DIGEST: [u8; 32] = [
+static ROOT_DIGEST: [u8; 32] = [
     0x94, 0xc4, 0xa0, 0xff, 0x98, 0xcc, 0x21, 0xe9, 0xeb, 0xd8, 0x55, 0x92, 0x31, 0x75, 0xb4, 0x69,
     0xe9, 0xe5, 0xd4, 0xc7, 0x6c, 0x69, 0x5a, 0x7d, 0x59, 0x94, 0x8e, 0xdc, 0x85, 0xe1, 0xdf, 0x48,
 ];
@@ -305,15 +334,30 @@ fn is_root(parts: &[u8]) -> bool {
     digest(block) == ROOT_DIGEST && zeros.iter().all(|byte| *byte == 0)
 }
 
+fn is_root_planned(alloc: Global, ptr: &NodePtr) -> Result<bool, Fail> {
+    let first = planned(alloc, ptr, 0, &ROOT_SET)?;
+    Ok(is_root(first.parts.as_slice()))
+}
+
+fn length_further(alloc: Global, ptr: &NodePtr) -> Result<usize, Fail> {
+    let further = planned(alloc, ptr, 3, &ROOT_SET)?;
+    Ok(further.parts.len())
+}
+
+// Whether the blocks of the set are those of the root from the first block of the bucket on, and how long they are further behind.
+fn root_and_length(alloc: Global) -> Result<(bool, usize), Fail> {
+    let ptr = pointer_of(alloc, 0x1_0000_0001)?;
+    let is_root = is_root_planned(alloc, &ptr)?;
+    let length = length_further(alloc, &ptr)?;
+    Ok((is_root, length))
+}
+
 // The digest was computed by Python's hashlib over the block that its struct module packed. Behind it are zeros, up to the end of
 // the bucket.
 #[test]
 fn known_root(rt: HostRuntime) -> Result<(), Fail> {
-    let alloc = rt.alloc();
-    let ptr = pointer_of(alloc, 0x1_0000_0001)?;
-    let first = planned(alloc, &ptr, 0, &ROOT_SET)?;
-    assert!(rt; is_root(first.parts.as_slice()));
-    let further = planned(alloc, &ptr, 3, &ROOT_SET)?;
-    assert_eq!(rt; further.parts.len(), 4096);
+    let (is_root, length) = root_and_length(rt.alloc())?;
+    assert!(rt; is_root);
+    assert_eq!(rt; length, 4096);
     Ok(())
 }

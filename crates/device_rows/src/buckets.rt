@@ -92,14 +92,16 @@ fn sum_of(pool: &Pool) -> u64 {
     device_sum(device_sum(0, pool, 0), pool, 1)
 }
 
+fn place_sum(start: u64, place: &Place, generation: u32) -> u64 {
+    let mut sum = mixed(start, u64::from(place.dev));
+    sum = mixed(sum, u64::from(place.block));
+    mixed(sum, u64::from(generation))
+}
+
 fn pointers_sum(pointers: &Pointers) -> u64 {
     let mut sum = 1;
     for pointer in pointers.as_slice() {
-        let place = mixed(
-            mixed(sum, u64::from(pointer.place.dev)),
-            u64::from(pointer.place.block),
-        );
-        sum = mixed(place, u64::from(pointer.generation));
+        sum = place_sum(sum, &pointer.place, pointer.generation);
     }
     sum
 }
@@ -107,10 +109,7 @@ fn pointers_sum(pointers: &Pointers) -> u64 {
 fn places_sum(places: &Places) -> u64 {
     let mut sum = 1;
     for place in places.as_slice() {
-        sum = mixed(
-            mixed(mixed(sum, u64::from(place.dev)), u64::from(place.block)),
-            0,
-        );
+        sum = place_sum(sum, place, 0);
     }
     sum
 }
@@ -213,10 +212,15 @@ fn take(alloc: Global, pool: &mut Pool, step: Step) -> u64 {
     }
 }
 
+static ID: [u8; 16] = [7; 16];
+
+static SIZES: [u32; 2] = [1024, 1024];
+
 fn layout(alloc: Global) -> Result<Layout, AllocError> {
+    let blocks = Blocks::from_slice(alloc, &SIZES)?;
     Ok(Layout {
-        id: [7; 16],
-        blocks: Blocks::from_slice(alloc, &[1024, 1024])?,
+        id: ID,
+        blocks,
         journal: 256,
         metadata_replicas: 2,
         data_replicas: 1,
@@ -224,7 +228,7 @@ fn layout(alloc: Global) -> Result<Layout, AllocError> {
 }
 
 // The device, the number and the generation of a bucket, and how many of its blocks are in use.
-const LIVE: [(u64, u64, u32, u8); 7] = [
+static LIVE: [(u64, u64, u32, u8); 7] = [
     (0, 20, u32::MAX - 1, 3),
     (0, 21, u32::MAX, 0),
     (0, 22, 5, 0),
@@ -248,32 +252,36 @@ fn live_key(inode: u64, offset: u64, generation: u32, blocks: u8) -> Key {
 // Keys of buckets that are in use, free again, and retired, and one of a bucket of the journal area.
 fn live(alloc: Global) -> Result<Keys, AllocError> {
     let mut keys = Keys::new(alloc);
-    for (dev, number, generation, blocks) in LIVE {
-        keys.push(live_key(dev, number, generation, blocks))?;
+    for (dev, number, generation, blocks) in LIVE.iter() {
+        keys.push(live_key(*dev, *number, *generation, *blocks))?;
     }
     Ok(keys)
 }
 
 // Two nodes in free buckets, one in the journal area, and a place that begins no bucket.
-const NODES: [Place; 4] = [
+static NODES: [Place; 4] = [
     Place { dev: 0, block: 288 },
     Place { dev: 1, block: 288 },
     Place { dev: 1, block: 48 },
     Place { dev: 1, block: 600 },
 ];
 
-fn opened(alloc: Global) -> Result<Pool, Fail> {
-    let layout = layout(alloc)?;
+fn opened_on(alloc: Global, layout: &Layout, live: &Keys) -> Result<Pool, Fail> {
     if !layout.is_valid() {
         return Err(Fail::from("the layout is none"));
     }
-    let live = live(alloc)?;
     let nodes = Places::from_slice(alloc, &NODES)?;
-    Ok(Pool::of(alloc, &layout, &live, &nodes)?)
+    Ok(Pool::of(alloc, layout, live, &nodes)?)
+}
+
+fn opened(alloc: Global) -> Result<Pool, Fail> {
+    let layout = layout(alloc)?;
+    let live = live(alloc)?;
+    opened_on(alloc, &layout, &live)
 }
 
 // A step, what it answers, and the states of all buckets after it.
-const STEPS: [(Step, u64, u64); 72] = [
+static STEPS: [(Step, u64, u64); 72] = [
     (Step::Reserve(1, 3, 1, 0, 0), 283717, 287696),
     (Step::Reserve(7, 5, 1, 0, 43), 287909, 296101),
     (Step::Keep(1, (0, 272, 3), (0, 0, 0)), 1, 363058),
@@ -351,8 +359,8 @@ const STEPS: [(Step, u64, u64); 72] = [
 // The number of the first step that answers otherwise, or after which the buckets have other states.
 fn first_other(alloc: Global, pool: &mut Pool) -> Option<u32> {
     let mut number: u32 = 0;
-    for (step, answer, sum) in STEPS {
-        if take(alloc, pool, step) != answer || sum_of(pool) != sum {
+    for (step, answer, sum) in STEPS.iter() {
+        if take(alloc, pool, *step) != *answer || sum_of(pool) != *sum {
             return Some(number);
         }
         number = number.saturating_add(1);

@@ -15,7 +15,7 @@ use std::alloc::{AllocError, Global};
 use std::test::Fail;
 use vol_types::{Blocks, Btree, Bytes, Key, Layout, NodePtr, Place, Places, Pos, Value};
 
-pub const ID: [u8; 16] = [0, 0, 0, 0, 0, 0, 0x40, 0, 0x80, 0, 0, 0, 0, 0, 0, 1];
+pub static ID: [u8; 16] = [0, 0, 0, 0, 0, 0, 0x40, 0, 0x80, 0, 0, 0, 0, 0, 0, 1];
 
 // The root of the btree Counters, as a format makes it.
 pub const BIRTH: u64 = 0x1_0000_0008;
@@ -25,10 +25,19 @@ pub const FIRST: Place = Place { dev: 0, block: 16 };
 
 pub const SECOND: Place = Place { dev: 1, block: 48 };
 
+static BOTH: [Place; 2] = [FIRST, SECOND];
+
+// The sizes of the devices that the layout speaks of.
+static SIZES: [u32; 2] = [1024, 1024];
+
+// The sizes of the devices in memory, which have that bucket and little more.
+static BLANK_SIZES: [u32; 2] = [32, 64];
+
 pub fn layout_of(alloc: Global) -> Result<Layout, AllocError> {
+    let blocks = Blocks::from_slice(alloc, &SIZES)?;
     Ok(Layout {
         id: ID,
-        blocks: Blocks::from_slice(alloc, &[1024, 1024])?,
+        blocks,
         journal: 256,
         metadata_replicas: 2,
         data_replicas: 1,
@@ -36,31 +45,47 @@ pub fn layout_of(alloc: Global) -> Result<Layout, AllocError> {
 }
 
 pub fn pointer_of(alloc: Global, birth: u64) -> Result<NodePtr, AllocError> {
+    let places = Places::from_slice(alloc, &BOTH)?;
     Ok(NodePtr {
         birth,
         level: 0,
-        places: Places::from_slice(alloc, &[FIRST, SECOND])?,
+        places,
     })
 }
+
+// A leaf of Counters, and the least and the greatest position, as the head of a set has them.
+static LEAF_AND_RANGE: [u8; 44] = [
+    8, 0, 0, 0, // the btree, the level, and two zeros
+    0, 0, 0, 0, 0, 0, 0, 0, 0, 0, 0, 0, 0, 0, 0, 0, 0, 0, 0, 0, // the least position
+    0xff, 0xff, 0xff, 0xff, 0xff, 0xff, 0xff, 0xff, 0xff, 0xff, // the greatest one
+    0xff, 0xff, 0xff, 0xff, 0xff, 0xff, 0xff, 0xff, 0xff, 0xff,
+];
+
+// The inode of a counter's position, its snapshot, and the kinds of value.
+static INODE: [u8; 8] = [0; 8];
+
+static SNAPSHOT: [u8; 4] = [0; 4];
+
+static REMOVED: [u8; 1] = [0];
+
+static COUNTER: [u8; 1] = [11];
 
 // The head of a set of so many keys, of a leaf of Counters that covers all positions.
 fn put_head(payload: &mut Bytes, birth: u64, count: u32) -> Result<(), AllocError> {
     payload.extend_from_slice(&birth.to_le_bytes())?;
-    payload.extend_from_slice(&[8, 0, 0, 0])?;
-    payload.extend_from_slice(&[0; 20])?;
-    payload.extend_from_slice(&[0xff; 20])?;
+    payload.extend_from_slice(&LEAF_AND_RANGE)?;
     payload.extend_from_slice(&count.to_le_bytes())
 }
 
 // A counter, or for 0 a key that is removed.
 fn put_counter(payload: &mut Bytes, offset: u64, value: u64) -> Result<(), AllocError> {
-    payload.extend_from_slice(&[0; 8])?;
+    payload.extend_from_slice(&INODE)?;
     payload.extend_from_slice(&offset.to_le_bytes())?;
-    payload.extend_from_slice(&[0; 4])?;
+    payload.extend_from_slice(&SNAPSHOT)?;
     if value == 0 {
-        return payload.extend_from_slice(&[0]);
+        return payload.extend_from_slice(&REMOVED);
     }
-    payload.extend_from_slice(&[11])?;
+    payload.extend_from_slice(&COUNTER)?;
     payload.extend_from_slice(&value.to_le_bytes())
 }
 
@@ -205,7 +230,7 @@ fn read(alloc: Global, devices: &mut MemDevices) -> Result<Result<ReadNode, Node
 }
 
 pub fn blank(alloc: Global) -> Result<MemDevices, AllocError> {
-    MemDevices::blank(alloc, &[32, 64])
+    MemDevices::blank(alloc, &BLANK_SIZES)
 }
 
 // What reading the node gives: the counters at offsets 1 to 4, the block behind the last set, and whether the copies differ.
@@ -244,11 +269,15 @@ pub fn outcome(alloc: Global, devices: &mut MemDevices) -> Result<Result<Seen, N
     }
 }
 
+fn counter(n: u64, factor: u64) -> (u64, u64) {
+    (n, n.wrapping_mul(factor).wrapping_add(1))
+}
+
 // So many counters, of which the one at offset n has n times the factor and 1 more.
 pub fn counters(alloc: Global, count: u64, factor: u64) -> Result<Vec<(u64, u64)>, AllocError> {
     let mut keys = Vec::new(alloc);
     for n in 0..count {
-        keys.push((n, n.wrapping_mul(factor).wrapping_add(1)))?;
+        keys.push(counter(n, factor))?;
     }
     Ok(keys)
 }
@@ -298,7 +327,7 @@ fn takes(alloc: Global, count: u64, blocks: u8) -> Result<bool, Fail> {
 }
 
 // So many counters take so many blocks.
-const LENGTHS: [(u64, u8); 17] = [
+static LENGTHS: [(u64, u8); 17] = [
     (0, 1),
     (134, 1),
     (135, 2),
@@ -318,182 +347,169 @@ const LENGTHS: [(u64, u8); 17] = [
     (1641, 13),
 ];
 
+// The first number of counters that takes another number of blocks.
+fn first_other_length(alloc: Global) -> Result<Option<u64>, Fail> {
+    for (count, blocks) in LENGTHS.iter() {
+        if !takes(alloc, *count, *blocks)? {
+            return Ok(Some(*count));
+        }
+    }
+    Ok(None)
+}
+
 // A counter takes 29 bytes, and a set 56 more: so many counters take so many blocks of 3,968 bytes, 1,640 of them twelve full
 // ones.
 #[test]
 fn sets_of_one_to_thirteen_blocks(rt: HostRuntime) -> Result<(), Fail> {
-    let alloc = rt.alloc();
-    for (count, blocks) in LENGTHS {
-        assert!(rt; takes(alloc, count, blocks)?, "{count} counters");
-    }
+    assert_eq!(rt; first_other_length(rt.alloc())?, None);
     Ok(())
 }
 
-// Three counters that are written from a block of the bucket on, as those of a node with this birth. 0 stands for one that is
-// removed.
+// Three counters that are written from a block of the bucket on, as those of a node with this birth: the first ones or the others.
 #[derive(Clone, Copy)]
 struct Piece {
     block: u8,
     birth: u64,
-    keys: [(u64, u64); 3],
+    is_other: bool,
 }
 
 const OLDER: u64 = 0x1_0000_0007;
 
-const FIRST_KEYS: [(u64, u64); 3] = [(1, 10), (2, 20), (3, 30)];
+static FIRST_KEYS: [(u64, u64); 3] = [(1, 10), (2, 20), (3, 30)];
 
-pub const OTHER_KEYS: [(u64, u64); 3] = [(2, 0), (3, 31), (4, 40)];
+// 0 stands for a counter that is removed.
+pub static OTHER_KEYS: [(u64, u64); 3] = [(2, 0), (3, 31), (4, 40)];
 
 const FIRST_SET: Piece = Piece {
     block: 0,
     birth: BIRTH,
-    keys: FIRST_KEYS,
+    is_other: false,
 };
 
 const SECOND_SET: Piece = Piece {
     block: 1,
     birth: BIRTH,
-    keys: OTHER_KEYS,
+    is_other: true,
 };
 
 const STALE_SET: Piece = Piece {
     block: 1,
     birth: OLDER,
-    keys: OTHER_KEYS,
+    is_other: true,
 };
 
 // One behind the bucket isn't written.
 const NONE: Piece = Piece {
     block: 16,
     birth: BIRTH,
-    keys: FIRST_KEYS,
+    is_other: false,
 };
 
 // Three pieces that are written one after the other, and what reading gives: the counters and the block behind the last set, or
 // the block of the first device that is bad.
 #[derive(Clone, Copy)]
 struct Case {
-    pieces: [Piece; 3],
+    first: Piece,
+    second: Piece,
+    third: Piece,
     counters: [u64; 4],
     end: u8,
     bad: u32,
 }
 
 const CASE: Case = Case {
-    pieces: [FIRST_SET, NONE, NONE],
+    first: FIRST_SET,
+    second: NONE,
+    third: NONE,
     counters: [10, 20, 30, 0],
     end: 1,
     bad: 0,
 };
 
-const CASES: [Case; 12] = [
+static CASES: [Case; 12] = [
     CASE,
     Case {
-        pieces: [FIRST_SET, SECOND_SET, NONE],
+        second: SECOND_SET,
         counters: [10, 0, 31, 40],
         end: 2,
-        bad: 0,
+        ..CASE
     },
     Case {
-        pieces: [
-            FIRST_SET,
-            SECOND_SET,
-            Piece {
-                block: 2,
-                ..FIRST_SET
-            },
-        ],
+        second: SECOND_SET,
+        third: Piece {
+            block: 2,
+            ..FIRST_SET
+        },
         counters: [10, 20, 30, 40],
         end: 3,
-        bad: 0,
+        ..CASE
     },
     Case {
-        pieces: [
-            FIRST_SET,
-            Piece {
-                block: 2,
-                ..SECOND_SET
-            },
-            NONE,
-        ],
+        second: Piece {
+            block: 2,
+            ..SECOND_SET
+        },
         bad: 18,
         ..CASE
     },
     Case {
-        pieces: [
-            FIRST_SET,
-            Piece {
-                block: 15,
-                ..SECOND_SET
-            },
-            Piece {
-                block: 14,
-                ..FIRST_SET
-            },
-        ],
+        second: Piece {
+            block: 15,
+            ..SECOND_SET
+        },
+        third: Piece {
+            block: 14,
+            ..FIRST_SET
+        },
         bad: 30,
         ..CASE
     },
     Case {
-        pieces: [FIRST_SET, STALE_SET, NONE],
+        second: STALE_SET,
         ..CASE
     },
     Case {
-        pieces: [
-            FIRST_SET,
-            SECOND_SET,
-            Piece {
-                block: 2,
-                birth: OLDER,
-                ..FIRST_SET
-            },
-        ],
+        second: SECOND_SET,
+        third: Piece {
+            block: 2,
+            birth: OLDER,
+            ..FIRST_SET
+        },
         counters: [10, 0, 31, 40],
         end: 2,
-        bad: 0,
+        ..CASE
     },
     Case {
-        pieces: [
-            FIRST_SET,
-            STALE_SET,
-            Piece {
-                block: 2,
-                ..SECOND_SET
-            },
-        ],
+        second: STALE_SET,
+        third: Piece {
+            block: 2,
+            ..SECOND_SET
+        },
         bad: 18,
         ..CASE
     },
     Case {
-        pieces: [
-            FIRST_SET,
-            Piece {
-                block: 3,
-                ..STALE_SET
-            },
-            NONE,
-        ],
+        second: Piece {
+            block: 3,
+            ..STALE_SET
+        },
         ..CASE
     },
     Case {
-        pieces: [
-            Piece {
-                birth: OLDER,
-                ..FIRST_SET
-            },
-            NONE,
-            NONE,
-        ],
+        first: Piece {
+            birth: OLDER,
+            ..FIRST_SET
+        },
         bad: 16,
         ..CASE
     },
     Case {
-        pieces: [SECOND_SET, NONE, NONE],
+        first: SECOND_SET,
         bad: 16,
         ..CASE
     },
     Case {
-        pieces: [NONE, NONE, NONE],
+        first: NONE,
         bad: 16,
         ..CASE
     },
@@ -516,21 +532,26 @@ pub fn bad_at(block: u32) -> Result<Seen, NodeFault> {
 }
 
 fn put_piece(alloc: Global, devices: &mut MemDevices, piece: &Piece) -> Result<(), Fail> {
+    let keys = if piece.is_other {
+        &OTHER_KEYS
+    } else {
+        &FIRST_KEYS
+    };
     if piece.block < 16 {
-        write_set(alloc, devices, piece.birth, piece.block, &piece.keys)?;
+        write_set(alloc, devices, piece.birth, piece.block, keys)?;
     }
     Ok(())
 }
 
-// What reading gives once these pieces are written.
+// What reading gives once the pieces of a case are written.
 fn outcome_behind(
     alloc: Global,
     devices: &mut MemDevices,
-    pieces: &[Piece; 3],
+    case: &Case,
 ) -> Result<Result<Seen, NodeFault>, Fail> {
-    for piece in pieces.iter() {
-        put_piece(alloc, devices, piece)?;
-    }
+    put_piece(alloc, devices, &case.first)?;
+    put_piece(alloc, devices, &case.second)?;
+    put_piece(alloc, devices, &case.third)?;
     outcome(alloc, devices)
 }
 
@@ -540,18 +561,25 @@ fn is_read_so(alloc: Global, case: &Case) -> Result<bool, Fail> {
         block => bad_at(block),
     };
     let mut devices = blank(alloc)?;
-    Ok(outcome_behind(alloc, &mut devices, &case.pieces)? == wanted)
+    Ok(outcome_behind(alloc, &mut devices, case)? == wanted)
+}
+
+// The number of the first case that is read otherwise.
+fn first_other(alloc: Global) -> Result<Option<u32>, Fail> {
+    let mut number: u32 = 0;
+    for case in CASES.iter() {
+        if !is_read_so(alloc, case)? {
+            return Ok(Some(number));
+        }
+        number = number.saturating_add(1);
+    }
+    Ok(None)
 }
 
 // A later set counts over an earlier one, and a key that is removed takes away. One behind a gap is bad, and that of a node with
 // another birth is none.
 #[test]
 fn sets_behind_sets(rt: HostRuntime) -> Result<(), Fail> {
-    let alloc = rt.alloc();
-    let mut number: u32 = 0;
-    for case in CASES {
-        assert!(rt; is_read_so(alloc, &case)?, "case {number}");
-        number = number.saturating_add(1);
-    }
+    assert_eq!(rt; first_other(rt.alloc())?, None);
     Ok(())
 }

@@ -5,7 +5,7 @@ ghost use Rattle.std.specs.Prelude.{◌≡◌};
 ghost use Rattle.dev_model.specs.Devices.{now};
 ghost use Rattle.dev_model.specs.Disk.{NothingPending};
 
-use crate::layouts::{ID, layout_on, put};
+use crate::layouts::{CALLS, EQUAL, FOREIGN_ID, ID, ONE, UNEQUAL, filled, layout_on, put};
 use dev_model::{Devices, MemDevices};
 use geometry::{SuperFault, read_super, write_super};
 use sealed_block::{Head, SUPERBLOCK, seal};
@@ -14,10 +14,11 @@ use std::test::Fail;
 use vol_digest::digest;
 use vol_types::{Bytes, Layout};
 
-// A copy of the superblock of a device, in the block that it names, of a volume whose devices have so many blocks.
+// A copy of the superblock of a device, in the block that it names, of the volume or of a foreign one, whose devices have so many
+// blocks.
 #[derive(Clone, Copy)]
 struct Super {
-    id: [u8; 16],
+    is_foreign: bool,
     blocks: [u32; 2],
     metadata_replicas: u8,
     data_replicas: u8,
@@ -27,13 +28,39 @@ struct Super {
 }
 
 const BASE: Super = Super {
-    id: ID,
+    is_foreign: false,
     blocks: [1024, 1024],
     metadata_replicas: 2,
     data_replicas: 1,
     dev: 0,
     block: 0,
     sequence: 1,
+};
+
+static FIRST: Super = BASE;
+
+static SECOND: Super = Super { dev: 1, ..BASE };
+
+static BEHIND_FIRST: Super = Super { block: 8, ..BASE };
+
+static LARGE: Super = Super {
+    blocks: [1024, 2048],
+    ..BASE
+};
+
+static FOREIGN: Super = Super {
+    is_foreign: true,
+    ..BASE
+};
+
+static ONE_REPLICA: Super = Super {
+    metadata_replicas: 1,
+    ..BASE
+};
+
+static TWO_DATA_REPLICAS: Super = Super {
+    data_replicas: 2,
+    ..BASE
 };
 
 // What stands in a block. One that is odd has the head of a copy of the first device's superblock, but with another version, or another
@@ -46,10 +73,11 @@ enum Block {
 }
 
 // The payload of such a copy, and one byte more.
-const ODD: [u8; 17] = [2, 0, 2, 1, 0, 1, 0, 0, 0, 4, 0, 0, 0, 4, 0, 0, 0];
+static ODD: [u8; 17] = [2, 0, 2, 1, 0, 1, 0, 0, 0, 4, 0, 0, 0, 4, 0, 0, 0];
 
 fn layout_of(alloc: Global, copy: &Super) -> Result<Layout, AllocError> {
-    let mut layout = layout_on(alloc, copy.id, &copy.blocks)?;
+    let id = if copy.is_foreign { &FOREIGN_ID } else { &ID };
+    let mut layout = layout_on(alloc, id, &copy.blocks)?;
     layout.metadata_replicas = copy.metadata_replicas;
     layout.data_replicas = copy.data_replicas;
     Ok(layout)
@@ -59,7 +87,7 @@ fn copy_in(alloc: Global, layout: &Layout, copy: &Super) -> Result<Bytes, Fail> 
     if !layout.is_valid() || copy.dev as usize >= layout.blocks.len() {
         return Err(Fail::from("the layout has no such device"));
     }
-    let mut bytes = vec![in alloc; 0xff; 4096]?;
+    let mut bytes = filled(alloc, 0xff)?;
     write_super(layout, copy.dev, copy.block, copy.sequence, &mut bytes);
     Ok(Bytes::from(bytes))
 }
@@ -85,14 +113,14 @@ fn odd_copy(alloc: Global, version: u8, payload: &[u8]) -> Result<Bytes, Fail> {
         length: payload.len() as u32,
         whole: digest(payload),
     };
-    let mut bytes = vec![in alloc; 0; 4096]?;
+    let mut bytes = filled(alloc, 0)?;
     seal(&head, payload, &mut bytes);
     Ok(Bytes::from(bytes))
 }
 
 fn bytes_of(alloc: Global, block: &Block) -> Result<Bytes, Fail> {
     match block {
-        Block::Blank => Ok(Bytes::from(vec![in alloc; 0; 4096]?)),
+        Block::Blank => Ok(Bytes::from(filled(alloc, 0)?)),
         Block::Copy(copy) => copy_of(alloc, copy),
         Block::Odd { version, length } => {
             let (payload, _) = ODD.split_at((*length).min(17));
@@ -156,8 +184,8 @@ fn say(alloc: Global, sizes: &[u32], blocks: &[Block; 4], copy: &Super) -> Resul
 }
 
 // Both copies of the superblock of a device.
-fn pair(copy: Super, dev: u8) -> [Block; 2] {
-    let first = Super { dev, ..copy };
+fn pair(copy: &Super, dev: u8) -> [Block; 2] {
+    let first = Super { dev, ..*copy };
     let second = Super { block: 8, ..first };
     [Block::Copy(first), Block::Copy(second)]
 }
@@ -168,86 +196,88 @@ fn both(first: [Block; 2], second: [Block; 2]) -> [Block; 4] {
 
 const NOTHING: [Block; 2] = [Block::Blank, Block::Blank];
 
+static KNOWN: Super = Super {
+    blocks: [1024, 2048],
+    dev: 1,
+    block: 8,
+    sequence: 5,
+    ..BASE
+};
+
+static KNOWN_DIGEST: [u8; 32] = [
+    0x19, 0x54, 0xf3, 0x09, 0xc0, 0x71, 0xfa, 0x73, 0xed, 0xfe, 0xd1, 0x40, 0x7b, 0xe3, 0xbd, 0xb2,
+    0x7e, 0xee, 0x3a, 0xb3, 0xdd, 0x2e, 0xdb, 0x88, 0x09, 0xde, 0xe3, 0x84, 0x8f, 0x46, 0xcc, 0xc9,
+];
+
 // The digest was computed by Python's hashlib over the block that its struct module packed: the head of 96 bytes with
 // kind 1, version 1, part 0 of 1, owner 1, number 8 and sequence 5, the payload "<BBBBIII" of 2, 1, 2, 1, 256, 1024 and
 // 2048, zeros up to byte 4,064, and the SHA-256 digest of all that.
 #[test]
 fn known_superblock(rt: HostRuntime) -> Result<(), Fail> {
-    let alloc = rt.alloc();
-    let copy = Super {
-        blocks: [1024, 2048],
-        dev: 1,
-        block: 8,
-        sequence: 5,
-        ..BASE
-    };
-    assert_eq!(rt;
-        digest(copy_of(alloc, &copy)?.as_slice()),
-        [
-            0x19, 0x54, 0xf3, 0x09, 0xc0, 0x71, 0xfa, 0x73, 0xed, 0xfe, 0xd1, 0x40, 0x7b, 0xe3,
-            0xbd, 0xb2, 0x7e, 0xee, 0x3a, 0xb3, 0xdd, 0x2e, 0xdb, 0x88, 0x09, 0xde, 0xe3, 0x84,
-            0x8f, 0x46, 0xcc, 0xc9,
-        ]
-    );
+    let copy = copy_of(rt.alloc(), &KNOWN)?;
+    assert!(rt; digest(copy.as_slice()) == KNOWN_DIGEST);
     Ok(())
 }
 
 #[test]
 fn what_is_written_is_read(rt: HostRuntime) -> Result<(), Fail> {
-    let sizes = [1024, 2048];
-    let copy = Super {
-        blocks: sizes,
-        ..BASE
-    };
-    let blocks = both(pair(copy, 0), pair(copy, 1));
-    assert!(rt; say(rt.alloc(), &sizes, &blocks, &copy)?);
+    let blocks = both(pair(&LARGE, 0), pair(&LARGE, 1));
+    assert!(rt; say(rt.alloc(), &UNEQUAL, &blocks, &LARGE)?);
     Ok(())
 }
 
 // Both copies of a device's superblock, with these sequences, of which the second says that data have two replicas.
-fn differing(dev: u8, sequences: [u64; 2]) -> [Block; 2] {
+fn differing(dev: u8, sequences: &(u64, u64)) -> [Block; 2] {
     let first = Super {
         dev,
-        sequence: sequences[0],
-        ..BASE
+        sequence: sequences.0,
+        ..FIRST
     };
     let second = Super {
         dev,
         block: 8,
-        sequence: sequences[1],
-        data_replicas: 2,
-        ..BASE
+        sequence: sequences.1,
+        ..TWO_DATA_REPLICAS
     };
     [Block::Copy(first), Block::Copy(second)]
 }
 
 // Whether the first copies, or the second ones, count of those with these sequences.
-fn counts(alloc: Global, sequences: [u64; 2], is_second: bool) -> Result<bool, Fail> {
+fn counts(alloc: Global, sequences: &(u64, u64), is_second: bool) -> Result<bool, Fail> {
     let blocks = both(differing(0, sequences), differing(1, sequences));
-    let data_replicas = if is_second { 2 } else { 1 };
-    let expected = Super {
-        data_replicas,
-        ..BASE
+    let expected = if is_second {
+        &TWO_DATA_REPLICAS
+    } else {
+        &FIRST
     };
-    say(alloc, &[1024, 1024], &blocks, &expected)
+    say(alloc, &EQUAL, &blocks, expected)
 }
 
-const SEQUENCES: [([u64; 2], bool); 6] = [
-    ([1, 2], true),
-    ([2, 1], false),
-    ([2, 2], false),
-    ([1, 1 << 63], false),
-    ([1, (1 << 63) - 1], true),
-    ([1 << 63, 1], true),
+static SEQUENCES: [((u64, u64), bool); 6] = [
+    ((1, 2), true),
+    ((2, 1), false),
+    ((2, 2), false),
+    ((1, 1 << 63), false),
+    ((1, (1 << 63) - 1), true),
+    ((1 << 63, 1), true),
 ];
+
+// The number of the first sequences with which the other copies count.
+fn first_other_sequences(alloc: Global) -> Result<Option<u32>, Fail> {
+    let mut number: u32 = 0;
+    for (sequences, is_second) in SEQUENCES.iter() {
+        if !counts(alloc, sequences, *is_second)? {
+            return Ok(Some(number));
+        }
+        number = number.saturating_add(1);
+    }
+    Ok(None)
+}
 
 // The greater sequence counts, copy 0 of two with the same, and none of 2^63 or more.
 #[test]
 fn which_copy_counts(rt: HostRuntime) -> Result<(), Fail> {
-    let alloc = rt.alloc();
-    for (sequences, is_second) in SEQUENCES {
-        assert!(rt; counts(alloc, sequences, is_second)?, "{sequences:?}");
-    }
+    assert_eq!(rt; first_other_sequences(rt.alloc())?, None);
     Ok(())
 }
 
@@ -258,20 +288,32 @@ fn has_fault(
     second: [Block; 2],
     fault: SuperFault,
 ) -> Result<bool, Fail> {
-    Ok(fault_of(alloc, &[1024, 1024], &both(first, second))? == Some(fault))
+    Ok(fault_of(alloc, &EQUAL, &both(first, second))? == Some(fault))
 }
+
+// Whether one device of this size has it, whose first block is this.
+fn one_has_fault(
+    alloc: Global,
+    sizes: &[u32; 1],
+    first: Block,
+    fault: SuperFault,
+) -> Result<bool, Fail> {
+    let blocks = both([first, Block::Blank], NOTHING);
+    Ok(fault_of(alloc, sizes, &blocks)? == Some(fault))
+}
+
+static ONE_BLOCK: [u32; 1] = [1];
 
 #[test]
 fn devices_without_superblocks(rt: HostRuntime) -> Result<(), Fail> {
     let alloc = rt.alloc();
     let none = SuperFault::NoSuper;
-    assert!(rt; has_fault(alloc, pair(BASE, 0), NOTHING, none)?);
-    assert!(rt; has_fault(alloc, NOTHING, pair(BASE, 1), none)?);
+    assert!(rt; has_fault(alloc, pair(&FIRST, 0), NOTHING, none)?);
+    assert!(rt; has_fault(alloc, NOTHING, pair(&FIRST, 1), none)?);
     // A copy in another block than its own is none.
-    let [first, second] = pair(BASE, 0);
-    assert!(rt; has_fault(alloc, [second, first], pair(BASE, 1), none)?);
-    let blank = both(NOTHING, NOTHING);
-    assert!(rt; fault_of(alloc, &[1], &blank)? == Some(none));
+    let [first, second] = pair(&FIRST, 0);
+    assert!(rt; has_fault(alloc, [second, first], pair(&FIRST, 1), none)?);
+    assert!(rt; one_has_fault(alloc, &ONE_BLOCK, Block::Blank, none)?);
     Ok(())
 }
 
@@ -280,25 +322,16 @@ fn devices_without_superblocks(rt: HostRuntime) -> Result<(), Fail> {
 fn devices_of_several_volumes(rt: HostRuntime) -> Result<(), Fail> {
     let alloc = rt.alloc();
     let mixed = SuperFault::Mixed;
-    let foreign = Super {
-        id: [7; 16],
-        ..BASE
-    };
-    let other = Super {
-        metadata_replicas: 1,
-        ..BASE
-    };
-    assert!(rt; has_fault(alloc, pair(BASE, 1), pair(BASE, 0), mixed)?);
-    assert!(rt; has_fault(alloc, pair(BASE, 0), pair(foreign, 1), mixed)?);
-    assert!(rt; has_fault(alloc, pair(BASE, 0), pair(other, 1), mixed)?);
+    assert!(rt; has_fault(alloc, pair(&FIRST, 1), pair(&FIRST, 0), mixed)?);
+    assert!(rt; has_fault(alloc, pair(&FIRST, 0), pair(&FOREIGN, 1), mixed)?);
+    assert!(rt; has_fault(alloc, pair(&FIRST, 0), pair(&ONE_REPLICA, 1), mixed)?);
     // one device of two
-    let one = [Block::Copy(BASE), Block::Blank];
-    assert!(rt; fault_of(alloc, &[1024], &both(one, NOTHING))? == Some(mixed));
+    assert!(rt; one_has_fault(alloc, &ONE, Block::Copy(FIRST), mixed)?);
     Ok(())
 }
 
 // The version and the length of the payload of the first copy on the first device, and the fault.
-const ODD_COPIES: [(u8, usize, Option<SuperFault>); 5] = [
+static ODD_COPIES: [(u8, usize, Option<SuperFault>); 5] = [
     (1, 16, None),
     (9, 16, Some(SuperFault::Version)),
     (9, 17, Some(SuperFault::Version)),
@@ -307,36 +340,44 @@ const ODD_COPIES: [(u8, usize, Option<SuperFault>); 5] = [
 ];
 
 fn odd_fault(alloc: Global, version: u8, length: usize) -> Result<Option<SuperFault>, Fail> {
-    let second = Super { block: 8, ..BASE };
-    let first = [Block::Odd { version, length }, Block::Copy(second)];
-    fault_of(alloc, &[1024, 1024], &both(first, pair(BASE, 1)))
+    let first = [Block::Odd { version, length }, Block::Copy(BEHIND_FIRST)];
+    fault_of(alloc, &EQUAL, &both(first, pair(&FIRST, 1)))
+}
+
+// The number of the first odd copy that has another fault.
+fn first_other_odd(alloc: Global) -> Result<Option<u32>, Fail> {
+    let mut number: u32 = 0;
+    for (version, length, fault) in ODD_COPIES.iter() {
+        if odd_fault(alloc, *version, *length)? != *fault {
+            return Ok(Some(number));
+        }
+        number = number.saturating_add(1);
+    }
+    Ok(None)
 }
 
 #[test]
 fn bad_versions_and_payloads(rt: HostRuntime) -> Result<(), Fail> {
     let alloc = rt.alloc();
-    for (version, length, fault) in ODD_COPIES {
-        assert!(rt;
-            odd_fault(alloc, version, length)? == fault,
-            "version {version}, {length} bytes"
-        );
-    }
+    assert_eq!(rt; first_other_odd(alloc)?, None);
     // a device that is shorter than its superblock says
-    let large = Super {
-        blocks: [1024, 2048],
-        ..BASE
-    };
-    assert!(rt; has_fault(alloc, pair(large, 0), pair(large, 1), SuperFault::BadLayout)?);
+    assert!(rt;
+        has_fault(
+            alloc,
+            pair(&LARGE, 0),
+            pair(&LARGE, 1),
+            SuperFault::BadLayout
+        )?
+    );
     Ok(())
 }
 
 // The first copy of each device alone.
 fn first_copies() -> [Block; 4] {
-    let second = Super { dev: 1, ..BASE };
     [
-        Block::Copy(BASE),
+        Block::Copy(FIRST),
         Block::Blank,
-        Block::Copy(second),
+        Block::Copy(SECOND),
         Block::Blank,
     ]
 }
@@ -356,16 +397,23 @@ fn names_once(
 }
 
 fn names_failed(alloc: Global, call: u64, dev: u8) -> Result<bool, Fail> {
-    let layout = layout_of(alloc, &BASE)?;
-    let mut devices = devices_with(alloc, &[1024, 1024], &first_copies())?;
+    let layout = layout_of(alloc, &FIRST)?;
+    let mut devices = devices_with(alloc, &EQUAL, &first_copies())?;
     names_once(alloc, &mut devices, call, dev, layout)
+}
+
+// The first call whose failure names another device.
+fn first_other_call(alloc: Global) -> Result<Option<u64>, Fail> {
+    for (call, dev) in CALLS.iter() {
+        if !names_failed(alloc, *call, *dev)? {
+            return Ok(Some(*call));
+        }
+    }
+    Ok(None)
 }
 
 #[test]
 fn a_read_that_fails_ends_it(rt: HostRuntime) -> Result<(), Fail> {
-    let alloc = rt.alloc();
-    for (call, dev) in [(0, 0), (1, 0), (2, 1), (3, 1)] {
-        assert!(rt; names_failed(alloc, call, dev)?, "call {call}");
-    }
+    assert_eq!(rt; first_other_call(rt.alloc())?, None);
     Ok(())
 }

@@ -5,8 +5,8 @@ ghost use Rattle.std.specs.Prelude.{All, IfOk};
 ghost use Rattle.vol_types.specs.Ranges.{IsKeyValue};
 
 use crate::plain::{
-    Plain, at, is_value_of, offset_of, plain_at, plain_from, plain_put, plain_up_to, random,
-    value_of, was,
+    Plain, at, is_found, offset_of, plain_at, plain_from, plain_put, plain_up_to, random, value_of,
+    was,
 };
 use node_mem::NodeMem;
 use std::alloc::{AllocError, Global};
@@ -64,43 +64,37 @@ fn plain_size(plain: &[(u64, u64)], ends: &[u64], end: Option<u64>) -> Option<u3
     Some(size)
 }
 
+// Whether a leaf is found with this end, and the size that the lists give it.
+fn is_end_of_size(
+    keys: &TreeKeys,
+    found: Option<&Pos>,
+    plain: &[(u64, u64)],
+    ends: &[u64],
+    end: Option<u64>,
+) -> bool {
+    match found {
+        None => false,
+        Some(pos) => *pos == end_pos(end) && keys.size(pos) == plain_size(plain, ends, end),
+    }
+}
+
 // Whether the leaves and their sizes are those of the lists.
 fn has_sizes(keys: &TreeKeys, plain: &[(u64, u64)], ends: &[u64]) -> bool {
     let mut found = keys.ends();
     for end in ends {
-        match found.next() {
-            None => return false,
-            Some(pos) => {
-                if *pos != at(*end) || keys.size(pos) != plain_size(plain, ends, Some(*end)) {
-                    return false;
-                }
-            }
+        if !is_end_of_size(keys, found.next(), plain, ends, Some(*end)) {
+            return false;
         }
     }
-    match found.next() {
-        None => false,
-        Some(pos) => {
-            *pos == Pos::GREATEST
-                && keys.size(pos) == plain_size(plain, ends, None)
-                && found.next().is_none()
-        }
-    }
+    is_end_of_size(keys, found.next(), plain, ends, None) && found.next().is_none()
 }
 
 // Whether the values of a range are those of the list, and all that the list has there.
 fn has_range(keys: &TreeKeys, plain: &[(u64, u64)], first: u64, last: u64) -> bool {
     let mut found = keys.range(&at(first), &at(last));
     for (place, number) in plain {
-        if *place < first || last < *place {
-            continue;
-        }
-        match found.next() {
-            None => return false,
-            Some((pos, value)) => {
-                if pos.offset != *place || !is_value_of(value, *number) {
-                    return false;
-                }
-            }
+        if first <= *place && *place <= last && !is_found(found.next(), *place, *number) {
+            return false;
         }
     }
     found.next().is_none()
@@ -142,16 +136,8 @@ fn has_leaf(
 fn is_node_of(node: &NodeMem, plain: &[(u64, u64)], ends: &[u64], end: Option<u64>) -> bool {
     let mut found = node.iter();
     for (place, number) in plain {
-        if plain_end(ends, *place) != end {
-            continue;
-        }
-        match found.next() {
-            None => return false,
-            Some((pos, value)) => {
-                if pos.offset != *place || !is_value_of(value, *number) {
-                    return false;
-                }
-            }
+        if plain_end(ends, *place) == end && !is_found(found.next(), *place, *number) {
+            return false;
         }
     }
     found.next().is_none()
@@ -162,6 +148,17 @@ fn has_all(keys: &TreeKeys, plain: &[(u64, u64)], ends: &[u64]) -> bool {
     keys.len() == plain.len() && has_range(keys, plain, 0, u64::MAX) && has_sizes(keys, plain, ends)
 }
 
+// Whether the value that is put at an offset replaces that of a number, or none.
+fn put_over(
+    keys: &mut TreeKeys,
+    offset: u64,
+    number: u64,
+    old: Option<u64>,
+) -> Result<bool, AllocError> {
+    let before = keys.put(&at(offset), Some(value_of(number)))?;
+    Ok(was(&before, old))
+}
+
 // Puts the value of a number or removes one, and says whether the one before was that of the list.
 fn put_one(
     keys: &mut TreeKeys,
@@ -169,20 +166,15 @@ fn put_one(
     offset: u64,
     number: Option<u64>,
 ) -> Result<bool, AllocError> {
-    let before = match number {
-        None => keys.remove(&at(offset)),
-        Some(number) => keys.put(&at(offset), Some(value_of(number)))?,
-    };
-    Ok(was(&before, plain_at(plain, offset)))
+    let old = plain_at(plain, offset);
+    match number {
+        None => Ok(was(&keys.remove(&at(offset)), old)),
+        Some(number) => put_over(keys, offset, number, old),
+    }
 }
 
-// Cuts at an offset that is no end, and adds it to the list.
-fn cut_one(
-    alloc: Global,
-    keys: &mut TreeKeys,
-    ends: &[u64],
-    offset: u64,
-) -> Result<Ends, AllocError> {
+// The list with one more end, unless it has that one.
+fn with_end(alloc: Global, ends: &[u64], offset: u64) -> Result<Ends, AllocError> {
     let mut changed = Vec::new(alloc);
     for end in ends {
         if *end < offset {
@@ -195,11 +187,38 @@ fn cut_one(
             changed.push(*end)?;
         }
     }
+    Ok(changed)
+}
+
+// Cuts at an offset that is no end, and adds it to the list.
+fn cut_one(
+    alloc: Global,
+    keys: &mut TreeKeys,
+    ends: &[u64],
+    offset: u64,
+) -> Result<Ends, AllocError> {
+    let changed = with_end(alloc, ends, offset)?;
     let pos = at(offset);
     if !keys.is_end(&pos) {
         keys.cut(&pos)?;
     }
     Ok(changed)
+}
+
+// Whether what is looked up at an offset, and between another and it, is that of the lists, and with `deep` all that there is.
+fn is_same(
+    alloc: Global,
+    keys: &TreeKeys,
+    plain: &[(u64, u64)],
+    ends: &[u64],
+    between: (u64, u64),
+    deep: bool,
+) -> Result<bool, AllocError> {
+    let (first, offset) = between;
+    if !has_neighbours(keys, plain, ends, offset) || !has_range(keys, plain, first, offset) {
+        return Ok(false);
+    }
+    Ok(!deep || has_all(keys, plain, ends) && has_leaf(alloc, keys, plain, ends, offset)?)
 }
 
 // One random put or removal, and whether all that is looked up then is that of the lists.
@@ -216,15 +235,10 @@ fn goes_on(
         return Ok(None);
     }
     let plain = plain_put(alloc, plain, offset, number)?;
-    let other = (seed >> 41) % 400;
-    if !has_neighbours(keys, &plain, ends, other) || !has_range(keys, &plain, offset, other) {
-        return Ok(None);
-    }
+    let between = (offset, (seed >> 41) % 400);
     let deep = (seed >> 50) % 16 == 0;
-    if deep && !(has_all(keys, &plain, ends) && has_leaf(alloc, keys, &plain, ends, other)?) {
-        return Ok(None);
-    }
-    Ok(Some(plain))
+    let good = is_same(alloc, keys, &plain, ends, between, deep)?;
+    Ok(if good { Some(plain) } else { None })
 }
 
 // The map of the list.
@@ -281,6 +295,41 @@ fn copies(
     Ok(has_all(&copy, plain, ends))
 }
 
+// Random steps and cuts from no keys on, and whether the keys are those of the lists after each.
+fn takes_steps(
+    alloc: Global,
+    keys: &mut TreeKeys,
+    plain: &mut Plain,
+    ends: &mut Ends,
+) -> Result<bool, AllocError> {
+    let mut seed: u64 = 17;
+    for step in 0..4_000 {
+        seed = random(seed);
+        match goes_on(alloc, keys, plain, ends, seed)? {
+            None => return Ok(false),
+            Some(changed) => *plain = changed,
+        }
+        if step % 250 == 249 {
+            *ends = cut_one(alloc, keys, ends, (seed >> 23) % 400)?;
+        }
+    }
+    Ok(true)
+}
+
+// Whether the keys, a copy of them, and those that are made of the lists are all that of the lists.
+fn ends_well(
+    alloc: Global,
+    keys: &TreeKeys,
+    plain: &[(u64, u64)],
+    ends: &[u64],
+) -> Result<bool, AllocError> {
+    Ok(
+        has_all(keys, plain, ends)
+            && copies(alloc, keys, plain, ends)?
+            && makes(alloc, plain, ends)?,
+    )
+}
+
 // Random steps and cuts, and how many keys and ends there are then, or none where the keys aren't those of the lists.
 fn goes_all_steps(
     alloc: Global,
@@ -288,20 +337,8 @@ fn goes_all_steps(
 ) -> Result<Option<(usize, usize)>, AllocError> {
     let mut plain: Plain = Vec::new(alloc);
     let mut ends: Ends = Vec::new(alloc);
-    let mut seed: u64 = 17;
-    for step in 0..4_000 {
-        seed = random(seed);
-        match goes_on(alloc, keys, &plain, &ends, seed)? {
-            None => return Ok(None),
-            Some(changed) => plain = changed,
-        }
-        if step % 250 == 249 {
-            ends = cut_one(alloc, keys, &ends, (seed >> 23) % 400)?;
-        }
-    }
-    let good = has_all(keys, &plain, &ends)
-        && copies(alloc, keys, &plain, &ends)?
-        && makes(alloc, &plain, &ends)?;
+    let good = takes_steps(alloc, keys, &mut plain, &mut ends)?
+        && ends_well(alloc, keys, &plain, &ends)?;
     Ok(if good {
         Some((plain.len(), ends.len()))
     } else {
@@ -344,6 +381,19 @@ fn key(offset: u64, number: Option<u64>) -> Key
     }
 }
 
+// Makes a change of the list, and adds what it finds there.
+fn change_plain(
+    alloc: Global,
+    found: &mut Vec<Option<u64>>,
+    plain: &mut Plain,
+    offset: u64,
+    number: Option<u64>,
+) -> Result<(), AllocError> {
+    found.push(plain_at(plain, offset))?;
+    *plain = plain_put(alloc, plain, offset, number)?;
+    Ok(())
+}
+
 // Draws one more change.
 fn add_change(alloc: Global, script: &mut Script) -> Result<(), AllocError>
     requires { All (λ change. IsKeyValue change.value) script.old.changes }
@@ -354,9 +404,7 @@ fn add_change(alloc: Global, script: &mut Script) -> Result<(), AllocError>
     let number = if (seed >> 60) < 6 { None } else { Some(number) };
     script.seed = seed;
     script.changes.push(key(offset, number))?;
-    script.found.push(plain_at(&script.plain, offset))?;
-    script.plain = plain_put(alloc, &script.plain, offset, number)?;
-    Ok(())
+    change_plain(alloc, &mut script.found, &mut script.plain, offset, number)
 }
 
 fn make_script(
@@ -367,10 +415,11 @@ fn make_script(
 ) -> Result<Script, AllocError>
     ensures { IfOk result (λ script. All (λ change. IsKeyValue change.value) script.changes) }
 {
+    let plain = plain_put(alloc, plain, 1_000, None)?;
     let mut script = Script {
         changes: Listing::new(alloc),
         found: Vec::new(alloc),
-        plain: plain_put(alloc, plain, 1_000, None)?,
+        plain,
         seed,
     };
     for _ in 0..count {
@@ -403,35 +452,35 @@ fn touches(changes: &[Key], ends: &[u64], end: Option<u64>) -> bool {
     false
 }
 
+// Whether it is the size that a leaf has after the changes.
+fn is_size_after(
+    found: Option<&LeafSize>,
+    script: &Script,
+    ends: &[u64],
+    end: Option<u64>,
+) -> bool {
+    match found {
+        None => false,
+        Some(leaf) => {
+            leaf.end == end_pos(end) && Some(leaf.size) == plain_size(&script.plain, ends, end)
+        }
+    }
+}
+
 // Whether the sizes are those of the leaves that the changes touch, in order.
 fn sized_all(sizes: &[LeafSize], script: &Script, ends: &[u64]) -> bool {
     let changes = script.changes.as_slice();
     let mut left = sizes.iter();
     for end in ends {
-        if touches(changes, ends, Some(*end)) {
-            match left.next() {
-                None => return false,
-                Some(found) => {
-                    if found.end != at(*end)
-                        || Some(found.size) != plain_size(&script.plain, ends, Some(*end))
-                    {
-                        return false;
-                    }
-                }
-            }
+        let end = Some(*end);
+        if touches(changes, ends, end) && !is_size_after(left.next(), script, ends, end) {
+            return false;
         }
     }
-    if !touches(changes, ends, None) {
-        return left.next().is_none();
+    if touches(changes, ends, None) && !is_size_after(left.next(), script, ends, None) {
+        return false;
     }
-    match left.next() {
-        None => false,
-        Some(found) => {
-            found.end == Pos::GREATEST
-                && Some(found.size) == plain_size(&script.plain, ends, None)
-                && left.next().is_none()
-        }
-    }
+    left.next().is_none()
 }
 
 // Makes the changes, and says whether all is that of the lists: before them where memory ran out, and then again.

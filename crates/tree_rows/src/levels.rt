@@ -1,10 +1,10 @@
 //! Random divisions and replacements beside plain lists of ranges, and levels that make a tree or none.
 
-use crate::plain::{pointer, random};
+use crate::plain::{NODE_PLACES, pointer, random};
 use std::alloc::{AllocError, Global};
 use std::test::Fail;
 use tree_nodes::{LevelNodes, TreeNodes};
-use vol_types::{Duplicate, Listing, NodePtr, Place, Places, Pos};
+use vol_types::{Duplicate, Listing, NodePtr, Places, Pos};
 
 const MOST: u64 = u64::MAX;
 
@@ -14,7 +14,7 @@ const TOP: u32 = u32::MAX;
 type Parts = (u64, u64, u32);
 
 /// Positions in their order, each with the one that follows it.
-const PLACES: [(Parts, Parts); 12] = [
+static PLACES: [(Parts, Parts); 12] = [
     ((0, 0, 0), (0, 0, 1)),
     ((0, 0, 1), (0, 0, 2)),
     ((0, 0, 7), (0, 0, 8)),
@@ -54,6 +54,29 @@ struct Plain {
     top: Vec<Range>,
 }
 
+// Adds both parts of a range that is cut.
+fn push_parts(
+    after: &mut Vec<Range>,
+    range: &Range,
+    at: Pos,
+    next: Pos,
+    birth: u64,
+) -> Result<(), AllocError> {
+    let first = Range {
+        first: range.first,
+        last: at,
+        birth,
+    };
+    let second = Range {
+        first: next,
+        last: range.last,
+        birth: birth.wrapping_add(1),
+    };
+    after.push(first)?;
+    after.push(second)?;
+    Ok(())
+}
+
 // The ranges of a level with two, of the next births, in the place of the one that has a position inside.
 fn cut(
     alloc: Global,
@@ -65,16 +88,7 @@ fn cut(
     let mut after = Vec::new(alloc);
     for range in row {
         if range.first <= at && at < range.last {
-            after.push(Range {
-                first: range.first,
-                last: at,
-                birth,
-            })?;
-            after.push(Range {
-                first: next,
-                last: range.last,
-                birth: birth.wrapping_add(1),
-            })?;
+            push_parts(&mut after, range, at, next, birth)?;
         } else {
             after.push(*range)?;
         }
@@ -84,7 +98,12 @@ fn cut(
 
 // Whether one of the ranges ends at a position.
 fn ends(row: &[Range], at: Pos) -> bool {
-    row.iter().any(|range| range.last == at)
+    for range in row {
+        if range.last == at {
+            return true;
+        }
+    }
+    false
 }
 
 fn is_node(found: Option<&NodePtr>, range: &Range) -> bool {
@@ -215,7 +234,8 @@ fn divide(
     }
     let first = pointer(alloc, birth, level)?;
     let second = pointer(alloc, birth.wrapping_add(1), level)?;
-    Ok(Some(tree.divide(level, &greatest, at, first, second)?.birth))
+    let old = tree.divide(level, &greatest, at, first, second)?;
+    Ok(Some(old.birth))
 }
 
 // Divides the root where it may be, and gives its old birth.
@@ -235,7 +255,8 @@ fn divide_root(
     let first = pointer(alloc, birth, height - 1)?;
     let second = pointer(alloc, birth.wrapping_add(1), height - 1)?;
     let root = pointer(alloc, birth.wrapping_add(2), height)?;
-    Ok(Some(tree.divide_root(alloc, at, first, second, root)?.birth))
+    let old = tree.divide_root(alloc, at, first, second, root)?;
+    Ok(Some(old.birth))
 }
 
 // The ranges with another birth for the one that has a position.
@@ -281,7 +302,34 @@ fn replace_step(
     Ok(old == planned)
 }
 
-// Divides the node of a level that covers a position, where it may be, and under a new root where it is the root.
+// Divides the node of a level that covers a position where it may be, under a new root where it is the root, and gives its old
+// birth.
+fn divide_under(
+    alloc: Global,
+    tree: &mut TreeNodes,
+    level: u8,
+    at: &Pos,
+    birth: u64,
+    grows: bool,
+) -> Result<Option<u64>, AllocError> {
+    if grows {
+        divide_root(alloc, tree, at, birth)
+    } else {
+        divide(alloc, tree, level, at, birth)
+    }
+}
+
+fn push_root(above: &mut Vec<Range>, birth: u64) -> Result<(), AllocError> {
+    let root = Range {
+        first: Pos::LEAST,
+        last: Pos::GREATEST,
+        birth,
+    };
+    above.push(root)?;
+    Ok(())
+}
+
+// Does so, and changes the ranges of the level, and of the one above it where that is new.
 fn divide_step(
     alloc: Global,
     tree: &mut TreeNodes,
@@ -292,33 +340,58 @@ fn divide_step(
     birth: u64,
 ) -> Result<Option<u64>, AllocError> {
     let grows = usize::from(level) + 1 == usize::from(tree.height());
-    let old = if grows {
-        divide_root(alloc, tree, &at(place.0), birth)?
-    } else {
-        divide(alloc, tree, level, &at(place.0), birth)?
-    };
+    let old = divide_under(alloc, tree, level, &at(place.0), birth, grows)?;
     if old.is_some() {
         *row = cut(alloc, row, place, birth)?;
     }
     if grows && old.is_some() {
-        above.push(Range {
-            first: Pos::LEAST,
-            last: Pos::GREATEST,
-            birth: birth.wrapping_add(2),
-        })?;
+        push_root(above, birth.wrapping_add(2))?;
     }
     Ok(old)
 }
 
 // The birth that goes where a position may divide a range, which it may where a range below ends.
 fn planned(row: &[Range], below: Option<&[Range]>, at: Pos) -> Option<u64> {
-    match below {
-        Some(below) if !ends(below, at) => None,
-        _ => birth_at(row, at, true),
+    let ends_below = match below {
+        Some(below) => ends(below, at),
+        None => true,
+    };
+    if ends_below {
+        birth_at(row, at, true)
+    } else {
+        None
     }
 }
 
-// One random step, and whether it went as with the plain levels.
+// Divides a leaf, and says whether it went as with the plain levels.
+fn divide_leaf(
+    alloc: Global,
+    tree: &mut TreeNodes,
+    plain: &mut Plain,
+    place: (Parts, Parts),
+    birth: u64,
+) -> Result<bool, AllocError> {
+    let old = planned(&plain.leaves, None, at(place.0));
+    let (row, above) = (&mut plain.leaves, &mut plain.middle);
+    let found = divide_step(alloc, tree, row, above, 0, place, birth)?;
+    Ok(found == old)
+}
+
+// Divides a node above the leaves, and says whether it went so.
+fn divide_middle(
+    alloc: Global,
+    tree: &mut TreeNodes,
+    plain: &mut Plain,
+    place: (Parts, Parts),
+    birth: u64,
+) -> Result<bool, AllocError> {
+    let old = planned(&plain.middle, Some(&plain.leaves), at(place.0));
+    let (row, above) = (&mut plain.middle, &mut plain.top);
+    let found = divide_step(alloc, tree, row, above, 1, place, birth)?;
+    Ok(found == old)
+}
+
+// One random step, and whether it went so.
 fn goes_on(
     alloc: Global,
     tree: &mut TreeNodes,
@@ -329,16 +402,8 @@ fn goes_on(
     let place = PLACES[((seed >> 40) % 12) as usize];
     let height = tree.height();
     match (seed >> 50) % 6 {
-        0 | 1 => {
-            let old = planned(&plain.leaves, None, at(place.0));
-            let (row, above) = (&mut plain.leaves, &mut plain.middle);
-            Ok(divide_step(alloc, tree, row, above, 0, place, birth)? == old)
-        }
-        2 if height > 1 => {
-            let old = planned(&plain.middle, Some(&plain.leaves), at(place.0));
-            let (row, above) = (&mut plain.middle, &mut plain.top);
-            Ok(divide_step(alloc, tree, row, above, 1, place, birth)? == old)
-        }
+        0 | 1 => divide_leaf(alloc, tree, plain, place, birth),
+        2 if height > 1 => divide_middle(alloc, tree, plain, place, birth),
         3 if height > 1 => replace_step(alloc, tree, &mut plain.middle, 1, at(place.0), birth),
         4 if height > 2 => replace_step(alloc, tree, &mut plain.top, 2, at(place.0), birth),
         _ => replace_step(alloc, tree, &mut plain.leaves, 0, at(place.0), birth),
@@ -398,53 +463,95 @@ fn random_steps(rt: HostRuntime) -> Result<(), Fail> {
     Ok(())
 }
 
-// A level of nodes that end at offsets of inode 0, or at the greatest position where the offset is 0.
+// An offset of inode 0, or the greatest position for 0.
+fn end_pos(end: u64) -> Pos {
+    if end == 0 {
+        Pos::GREATEST
+    } else {
+        at((0, end, 0))
+    }
+}
+
+fn put_node(alloc: Global, nodes: &mut LevelNodes, end: u64, level: u8) -> Result<(), AllocError> {
+    let places = Places::from_slice(alloc, &NODE_PLACES)?;
+    let node = NodePtr {
+        birth: end,
+        level,
+        places,
+    };
+    nodes.put(&end_pos(end), node)?;
+    Ok(())
+}
+
+// A level of nodes with these ends.
 fn level_of(alloc: Global, ends: &[u64], level: u8) -> Result<LevelNodes, AllocError> {
     let mut nodes = LevelNodes::new(alloc);
     for end in ends {
-        let greatest = if *end == 0 {
-            Pos::GREATEST
-        } else {
-            at((0, *end, 0))
-        };
-        let places = Places::from_slice(alloc, &[Place { dev: 0, block: 512 }])?;
-        nodes.put(
-            &greatest,
-            NodePtr {
-                birth: *end,
-                level,
-                places,
-            },
-        )?;
+        put_node(alloc, &mut nodes, *end, level)?;
     }
     Ok(nodes)
 }
 
+static ROOT_ENDS: [u64; 1] = [0];
+
+fn push_level(
+    alloc: Global,
+    levels: &mut Listing<LevelNodes>,
+    ends: &[u64],
+    level: u8,
+) -> Result<(), AllocError> {
+    let nodes = level_of(alloc, ends, level)?;
+    levels.push(nodes)?;
+    Ok(())
+}
+
+// Two levels and a root.
+fn levels_of(
+    alloc: Global,
+    leaves: &[u64],
+    middle: &[u64],
+    level: u8,
+) -> Result<Listing<LevelNodes>, AllocError> {
+    let mut levels = Listing::new(alloc);
+    push_level(alloc, &mut levels, leaves, 0)?;
+    push_level(alloc, &mut levels, middle, level)?;
+    push_level(alloc, &mut levels, &ROOT_ENDS, 2)?;
+    Ok(levels)
+}
+
 // Whether two levels under a root make a tree.
 fn is_tree(alloc: Global, leaves: &[u64], middle: &[u64], level: u8) -> Result<bool, AllocError> {
-    let mut levels = Listing::new(alloc);
-    levels.push(level_of(alloc, leaves, 0)?)?;
-    levels.push(level_of(alloc, middle, level)?)?;
-    levels.push(level_of(alloc, &[0], 2)?)?;
+    let levels = levels_of(alloc, leaves, middle, level)?;
     Ok(TreeNodes::of(levels).is_ok())
 }
 
 // Levels by the ends of their nodes, with whether they make a tree.
+static TREES: [(&[u64], &[u64], u8, bool); 7] = [
+    (&[3, 5, 9, 0], &[5, 0], 1, true),
+    (&[3, 5, 9, 0], &[0], 1, true),
+    (&[3, 5, 9, 0], &[6, 0], 1, false),
+    (&[3, 5, 9], &[5, 0], 1, false),
+    (&[3, 5, 9, 0], &[3, 5, 9], 1, false),
+    (&[3, 5, 9, 0], &[], 1, false),
+    (&[3, 5, 9, 0], &[5, 0], 2, false),
+];
+
+// The number of the first levels that make a tree where they shouldn't, or don't where they should.
+fn first_other(alloc: Global) -> Result<Option<u32>, AllocError> {
+    let mut number: u32 = 0;
+    for (leaves, middle, level, good) in TREES.iter() {
+        if is_tree(alloc, leaves, middle, *level)? != *good {
+            return Ok(Some(number));
+        }
+        number = number.saturating_add(1);
+    }
+    Ok(None)
+}
+
 #[test]
 fn levels_make_trees(rt: HostRuntime) -> Result<(), Fail> {
     let alloc = rt.alloc();
-    let table: [(&[u64], &[u64], u8, bool); 7] = [
-        (&[3, 5, 9, 0], &[5, 0], 1, true),
-        (&[3, 5, 9, 0], &[0], 1, true),
-        (&[3, 5, 9, 0], &[6, 0], 1, false),
-        (&[3, 5, 9], &[5, 0], 1, false),
-        (&[3, 5, 9, 0], &[3, 5, 9], 1, false),
-        (&[3, 5, 9, 0], &[], 1, false),
-        (&[3, 5, 9, 0], &[5, 0], 2, false),
-    ];
-    for (leaves, middle, level, good) in table {
-        assert_eq!(rt; is_tree(alloc, leaves, middle, level)?, good);
-    }
+    assert_eq!(rt; first_other(alloc)?, None);
     assert!(rt; TreeNodes::of(Listing::new(alloc)).is_err());
     Ok(())
 }

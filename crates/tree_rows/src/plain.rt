@@ -42,6 +42,14 @@ pub(crate) fn is_value_of(value: &Value, number: u64) -> bool {
     }
 }
 
+/// Whether what is found is the value of a number at an offset.
+pub(crate) fn is_found(found: Option<(&Pos, &Value)>, offset: u64, number: u64) -> bool {
+    match found {
+        None => false,
+        Some((pos, value)) => pos.offset == offset && is_value_of(value, number),
+    }
+}
+
 /// Whether the value that was there is that of the number, if there was one.
 pub(crate) fn was(before: &Option<Value>, number: Option<u64>) -> bool {
     match (before, number) {
@@ -128,13 +136,16 @@ pub(crate) fn offset_of(found: Option<(&Pos, &Value)>) -> Option<u64> {
     }
 }
 
+/// The place of each node, which no test looks at.
+pub(crate) static NODE_PLACES: [Place; 1] = [Place { dev: 0, block: 512 }];
+
 /// A pointer of a node of a level, at a block of the first device.
 pub(crate) fn pointer(alloc: Global, birth: u64, level: u8) -> Result<NodePtr, AllocError>
     requires { level ≤ 7 }
     ensures node { IfOk result (IsNodeOf level) }
     ensures born { IfOk result (λ node. node.birth ≡ birth) }
 {
-    let places = Places::from_slice(alloc, &[Place { dev: 0, block: 512 }])?;
+    let places = Places::from_slice(alloc, &NODE_PLACES)?;
     Ok(NodePtr {
         birth,
         level,
