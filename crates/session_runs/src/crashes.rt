@@ -1,18 +1,17 @@
 //! Sessions one after the other, of each of which a device call fails, alone or with all later ones: what is found on what a restart leaves lies between
 //! what was acknowledged and what was committed.
 
-ghost use Rattle.std.specs.Prelude.{◌≡◌, true};
+ghost use Rattle.std.specs.Prelude.{◌≡◌, true, IfOk};
 ghost use Rattle.geometry.specs.Layouts.{is_layout_of};
 ghost use Rattle.replay.specs.Volumes.{found_in};
 
-use crate::opened::{
-    count_numbered, ended, formatted_on, loaded_from, make_file, numbered, started,
-};
+use crate::opened::{Names, count_numbered, ended, formatted_on, loaded_from, make_file, started};
 use dev_model::{Devices, MemDevices, Pick};
 use forest_ops::{Op, Reply};
 use replay::Loaded;
 use std::alloc::{AllocError, Global};
 use std::marker::Brand;
+use std::mem;
 use std::test::Fail;
 use vol_core::Opening;
 use volume::VolState;
@@ -21,7 +20,7 @@ use volume::VolState;
 const FILES: u64 = 40;
 
 /// Whether all calls behind the one that fails do so too, and what is left of what isn't settled: of the sessions of a volume, in turn.
-const WAYS: [(bool, Pick); 6] = [
+static WAYS: [(bool, Pick); 6] = [
     (false, Pick::AllWritten),
     (true, Pick::AllWritten),
     (false, Pick::NoneWritten),
@@ -95,7 +94,7 @@ fn make_one<D: Devices, O: Opening>(
     played: &mut Played,
 ) -> Result<bool, AllocError> {
     let number = played.found.saturating_add(played.commits);
-    let reply = make_file(alloc, volume, &numbered(number))?;
+    let reply = make_file(alloc, volume, Names::Numbered, number)?;
     if matches!(reply, Reply::Okay) {
         played.commits = played.commits.saturating_add(1);
         return Ok(true);
@@ -176,62 +175,98 @@ fn play_from<D: Devices + Drop, O: Opening>(
 }
 
 // The same of a volume that is opened as the devices are now.
-fn play_here(
-    alloc: Global,
-    devices: MemDevices,
-    loaded: Loaded,
-) -> Result<(Played, MemDevices), Fail>
+fn play_here(alloc: Global, devices: MemDevices, loaded: Loaded) -> Option<(Played, MemDevices)>
     requires { is_layout_of (⟦<MemDevices as Devices>⟧.state devices).sizes loaded.layout ≡ true }
 {
     match play_from::<MemDevices, Brand>(alloc, devices, loaded) {
-        Some((Ok(Some(played)), devices)) => Ok((played, devices)),
-        _ => Err(Fail::from("a reply isn't one that it may be")),
+        Some((Ok(Some(played)), devices)) => Some((played, devices)),
+        _ => None,
     }
 }
 
-// A session of which a call fails: what it came to, and its devices.
-fn session(alloc: Global, devices: MemDevices, case: Case) -> Result<(Played, MemDevices), Fail> {
-    let mut devices = devices;
+// What is loaded for a session of which a call fails.
+fn prepared(alloc: Global, devices: &mut MemDevices, case: Case) -> Result<Loaded, Fail>
+    ensures { IfOk result (λ loaded. is_layout_of (⟦<MemDevices as Devices>⟧.state devices.new).sizes loaded.layout ≡ true) }
+{
     devices.failed_writes_leave(case.leaves);
-    let loaded = loaded_from(alloc, &mut devices)?;
+    let loaded = loaded_from(alloc, devices)?;
     let call = devices.calls().saturating_add(case.call);
     if case.stays {
         devices.fail_from(call);
-        return play_here(alloc, devices, loaded);
+    } else {
+        devices.fail_at(&[call])?;
     }
-    devices.fail_at(&[call])?;
-    play_here(alloc, devices, loaded)
+    Ok(loaded)
 }
 
-// A session of which a call fails, and the restart behind it: what is left, if as many files were found as there had to be. If no call fails, each file is made and
-// acknowledged.
-fn survives(
+// A session of which a call fails: what it came to, and its devices.
+fn session(
     alloc: Global,
-    left: Left,
+    devices: MemDevices,
     case: Case,
-    tally: &mut Tally,
-) -> Result<Option<Left>, Fail> {
-    let Left {
-        devices,
-        least,
-        most,
-    } = left;
-    let (played, devices) = session(alloc, devices, case)?;
-    if played.found < least || played.found > most {
-        return Ok(None);
+) -> Result<Option<(Played, MemDevices)>, Fail> {
+    let mut devices = devices;
+    let loaded = prepared(alloc, &mut devices, case)?;
+    Ok(play_here(alloc, devices, loaded))
+}
+
+// The same, on devices that are restarted behind it.
+fn session_on(alloc: Global, devices: &mut MemDevices, case: Case) -> Result<Option<Played>, Fail> {
+    let blank = MemDevices::blank(alloc, &[0])?;
+    match session(alloc, mem::replace(devices, blank), case)? {
+        None => Ok(None),
+        Some((played, left)) => {
+            *devices = left.restart(case.leaves)?;
+            Ok(Some(played))
+        }
     }
-    if case == WHOLE && played.acknowledged != FILES {
-        return Ok(None);
+}
+
+// Whether a session found as many files as there had to be, and, if no call fails, made and acknowledged each of its own.
+fn is_right(played: Played, left: &Left, case: Case) -> bool {
+    played.found >= left.least
+        && played.found <= left.most
+        && (case != WHOLE || played.acknowledged == FILES)
+}
+
+// Whether a session of which a call fails is as it must be. Then the devices are restarted.
+fn survives(alloc: Global, left: &mut Left, case: Case, tally: &mut Tally) -> Result<bool, Fail> {
+    let Some(played) = session_on(alloc, &mut left.devices, case)? else {
+        return Ok(false);
+    };
+    if !is_right(played, left, case) {
+        return Ok(false);
     }
-    tally.add(played.found, least);
-    Ok(Some(Left {
-        devices: devices.restart(case.leaves)?,
-        least: played.found.saturating_add(played.acknowledged),
-        most: played.found.saturating_add(played.commits),
-    }))
+    tally.add(played.found, left.least);
+    left.least = played.found.saturating_add(played.acknowledged);
+    left.most = played.found.saturating_add(played.commits);
+    Ok(true)
 }
 
 // The first case of a call behind which as many files as there have to be aren't found, or of the whole session in the end.
+fn other_case(
+    alloc: Global,
+    left: &mut Left,
+    call: u64,
+    tally: &mut Tally,
+) -> Result<Option<Case>, Fail> {
+    for (stays, leaves) in WAYS.iter() {
+        let case = Case {
+            call,
+            stays: *stays,
+            leaves: *leaves,
+        };
+        if !survives(alloc, left, case, tally)? {
+            return Ok(Some(case));
+        }
+    }
+    if survives(alloc, left, WHOLE, tally)? {
+        return Ok(None);
+    }
+    Ok(Some(WHOLE))
+}
+
+// The same, on so many devices with a fresh volume.
 fn other_of_call(
     alloc: Global,
     count: u8,
@@ -243,21 +278,7 @@ fn other_of_call(
         least: 0,
         most: 0,
     };
-    for (stays, leaves) in WAYS {
-        let case = Case {
-            call,
-            stays,
-            leaves,
-        };
-        left = match survives(alloc, left, case, tally)? {
-            Some(left) => left,
-            None => return Ok(Some(case)),
-        };
-    }
-    match survives(alloc, left, WHOLE, tally)? {
-        Some(_) => Ok(None),
-        None => Ok(Some(WHOLE)),
-    }
+    other_case(alloc, &mut left, call, tally)
 }
 
 // How many device calls a session makes that is whole.
@@ -265,19 +286,23 @@ fn calls_of(alloc: Global, count: u8) -> Result<u64, Fail> {
     let mut devices = formatted_on(alloc, count)?;
     let loaded = loaded_from(alloc, &mut devices)?;
     let before = devices.calls();
-    let (_, devices) = play_here(alloc, devices, loaded)?;
-    Ok(devices.calls().saturating_sub(before))
+    match play_here(alloc, devices, loaded) {
+        Some((_, devices)) => Ok(devices.calls().saturating_sub(before)),
+        None => Err(Fail::from("a reply isn't one that it may be")),
+    }
 }
+
+const NOTHING: Tally = Tally {
+    calls: 0,
+    sessions: 0,
+    newer: 0,
+    files: 0,
+};
 
 // The first case that isn't as it should be, on so many devices, where one of so many calls fails, and what was tried up to it. The calls of a session behind its
 // last one aren't made.
 fn tried(alloc: Global, count: u8, every: u64) -> Result<(Option<Case>, Tally), Fail> {
-    let mut tally = Tally {
-        calls: 0,
-        sessions: 0,
-        newer: 0,
-        files: 0,
-    };
+    let mut tally = NOTHING;
     for call in 0..calls_of(alloc, count)? {
         if every != 0 && call % every == 0 {
             let other = other_of_call(alloc, count, call, &mut tally)?;

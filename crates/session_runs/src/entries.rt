@@ -1,66 +1,14 @@
 //! The entry of sixty files: its parts, byte by byte where it counts.
 
-ghost use Rattle.std.specs.Prelude.{◌≡◌, true};
-ghost use Rattle.geometry.specs.Layouts.{is_layout_of};
-ghost use Rattle.replay.specs.Volumes.{found_in};
-
-use crate::opened::{digits, ended, formatted_on, is_made, loaded_from, started, sync};
+use crate::deeds::{Deed, devices_behind};
+use crate::opened::Names;
 use dev_model::{Devices, MemDevices};
-use replay::Loaded;
-use std::alloc::{AllocError, Global};
-use std::marker::Brand;
+use std::alloc::Global;
 use std::test::Fail;
-use vol_core::Opening;
 use vol_digest::digest;
-use volume::VolState;
 
-// Whether the files n00 to n59 are made.
-fn are_made<D: Devices, O: Opening>(
-    alloc: Global,
-    volume: &mut VolState<D, O>,
-) -> Result<bool, AllocError> {
-    for number in 0..60u64 {
-        let [_, tens, ones] = digits(number);
-        if !is_made(alloc, volume, &[b'n', tens, ones])? {
-            return Ok(false);
-        }
-    }
-    Ok(true)
-}
-
-// Whether sixty files are made and synced.
-fn are_synced<D: Devices, O: Opening>(
-    alloc: Global,
-    volume: &mut VolState<D, O>,
-) -> Result<bool, AllocError> {
-    if !are_made(alloc, volume)? {
-        return Ok(false);
-    }
-    Ok(sync(volume)? == Some(60))
-}
-
-// Makes sixty files on an open volume, and syncs: whether it is done, and the devices.
-fn make_on<D: Devices, O: Opening>(alloc: Global, volume: VolState<D, O>) -> (bool, D) {
-    let mut volume = volume;
-    let made = matches!(are_synced(alloc, &mut volume), Ok(true));
-    (made, ended(volume))
-}
-
-// The same on a volume that was loaded.
-fn make_sixty<D: Devices + Drop, O: Opening>(
-    alloc: Global,
-    devices: D,
-    loaded: Loaded,
-) -> Option<(bool, D)>
-    requires layout { is_layout_of (D.state devices).sizes loaded.layout ≡ true }
-    requires opening { found_in loaded ≡ O.found }
-    requires start { D.state devices ≡ O.start }
-{
-    match started::<D, O>(alloc, devices, loaded) {
-        Some(volume) => Some(make_on(alloc, volume)),
-        None => None,
-    }
-}
+// The files n00 to n59 are made, and then synced.
+static SIXTY: [Deed; 2] = [Deed::Make(Names::Short, 60), Deed::Sync(60)];
 
 // The bytes of a block of a device.
 fn block_of(alloc: Global, devices: &mut MemDevices, dev: u8, block: u32) -> Result<Vec<u8>, Fail> {
@@ -79,28 +27,28 @@ fn stand_at(block: &[u8], at: usize, bytes: &[u8]) -> bool {
 
 // Where it is, and what stands there: of the two blocks of the second entry kind, version, part and parts, the block's number, the sequence, and how many bytes of the payload it
 // has, 6,456 in all; then its sequence, the oldest that it needs, its session, and its commits. Nothing stands behind them.
-const ROWS: [(u32, usize, [u8; 8]); 13] = [
-    (17, 8, [2, 1, 0, 0, 0, 0, 2, 0]),
-    (17, 40, [1, 0, 0, 0, 0, 0, 0, 0]),
-    (17, 48, [2, 0, 0, 0, 0, 0, 0, 0]),
-    (17, 56, [0x80, 0x0f, 0, 0, 0, 0, 0, 0]),
-    (17, 96, [2, 0, 0, 0, 0, 0, 0, 0]),
-    (17, 104, [2, 0, 0, 0, 0, 0, 0, 0]),
-    (17, 112, [2, 0, 0, 0, 0, 0, 0, 0]),
-    (17, 120, [60, 0, 0, 0, 0, 0, 0, 0]),
-    (18, 8, [2, 1, 0, 0, 1, 0, 2, 0]),
-    (18, 40, [2, 0, 0, 0, 0, 0, 0, 0]),
-    (18, 48, [2, 0, 0, 0, 0, 0, 0, 0]),
-    (18, 56, [0xb8, 0x09, 0, 0, 0, 0, 0, 0]),
-    (19, 0, [0, 0, 0, 0, 0, 0, 0, 0]),
+static ROWS: [(u32, usize, &[u8]); 13] = [
+    (17, 8, &[2, 1, 0, 0, 0, 0, 2, 0]),
+    (17, 40, &[1, 0, 0, 0, 0, 0, 0, 0]),
+    (17, 48, &[2, 0, 0, 0, 0, 0, 0, 0]),
+    (17, 56, &[0x80, 0x0f, 0, 0, 0, 0, 0, 0]),
+    (17, 96, &[2, 0, 0, 0, 0, 0, 0, 0]),
+    (17, 104, &[2, 0, 0, 0, 0, 0, 0, 0]),
+    (17, 112, &[2, 0, 0, 0, 0, 0, 0, 0]),
+    (17, 120, &[60, 0, 0, 0, 0, 0, 0, 0]),
+    (18, 8, &[2, 1, 0, 0, 1, 0, 2, 0]),
+    (18, 40, &[2, 0, 0, 0, 0, 0, 0, 0]),
+    (18, 48, &[2, 0, 0, 0, 0, 0, 0, 0]),
+    (18, 56, &[0xb8, 0x09, 0, 0, 0, 0, 0, 0]),
+    (19, 0, &[0, 0, 0, 0, 0, 0, 0, 0]),
 ];
 
 // The digests of both blocks. They were computed by a program in Python, which makes the entry and seals its blocks by the tables of the format: for each file
 // the counter of client 0, its inode and its name are put.
-const BLOCKS: [(u32, [u8; 32]); 2] = [
+static BLOCKS: [(u32, &[u8]); 2] = [
     (
         17,
-        [
+        &[
             0x1f, 0xc1, 0xde, 0x8a, 0x17, 0x36, 0x2c, 0xf8, 0xde, 0x0e, 0x6a, 0xfe, 0x01, 0xa4,
             0x16, 0xca, 0x4d, 0x8c, 0xe4, 0xbe, 0x57, 0x71, 0xdd, 0x5c, 0x2b, 0xac, 0xbb, 0x74,
             0x45, 0x00, 0xb0, 0x7d,
@@ -108,7 +56,7 @@ const BLOCKS: [(u32, [u8; 32]); 2] = [
     ),
     (
         18,
-        [
+        &[
             0x7d, 0x85, 0xa0, 0xc4, 0x62, 0xb2, 0x7e, 0xf4, 0x5c, 0xe4, 0xf8, 0x79, 0xa4, 0xa3,
             0xb3, 0x7f, 0x0d, 0xb4, 0xa7, 0x0c, 0x4f, 0x6e, 0xd6, 0x7c, 0x4a, 0xd6, 0xcf, 0x19,
             0x61, 0x34, 0x96, 0xe9,
@@ -118,9 +66,9 @@ const BLOCKS: [(u32, [u8; 32]); 2] = [
 
 // Whether all that stands in the rows stands on a device.
 fn has_rows(alloc: Global, devices: &mut MemDevices, dev: u8) -> Result<bool, Fail> {
-    for (block, at, expected) in ROWS {
-        let bytes = block_of(alloc, devices, dev, block)?;
-        if !stand_at(&bytes, at, &expected) {
+    for (block, at, expected) in ROWS.iter() {
+        let bytes = block_of(alloc, devices, dev, *block)?;
+        if !stand_at(&bytes, *at, expected) {
             return Ok(false);
         }
     }
@@ -129,26 +77,29 @@ fn has_rows(alloc: Global, devices: &mut MemDevices, dev: u8) -> Result<bool, Fa
 
 // Whether both blocks stand on a device, each byte of them.
 fn has_blocks(alloc: Global, devices: &mut MemDevices, dev: u8) -> Result<bool, Fail> {
-    for (block, expected) in BLOCKS {
-        let bytes = block_of(alloc, devices, dev, block)?;
-        if digest(&bytes) != expected {
+    for (block, expected) in BLOCKS.iter() {
+        let bytes = block_of(alloc, devices, dev, *block)?;
+        if digest(&bytes).as_slice() != *expected {
             return Ok(false);
         }
     }
     Ok(true)
 }
 
+// The first of two devices that hasn't all of it.
+fn other_device(alloc: Global, devices: &mut MemDevices) -> Result<Option<u8>, Fail> {
+    for dev in 0..2u8 {
+        if !has_rows(alloc, devices, dev)? || !has_blocks(alloc, devices, dev)? {
+            return Ok(Some(dev));
+        }
+    }
+    Ok(None)
+}
+
 #[test]
 fn sixty_files_are_one_entry(rt: HostRuntime) -> Result<(), Fail> {
     let alloc = rt.alloc();
-    let mut devices = formatted_on(alloc, 2)?;
-    let loaded = loaded_from(alloc, &mut devices)?;
-    let Some((true, mut devices)) = make_sixty::<MemDevices, Brand>(alloc, devices, loaded) else {
-        return Err(Fail::from("the files aren't made and synced"));
-    };
-    for dev in 0..2u8 {
-        assert!(rt; has_rows(alloc, &mut devices, dev)?);
-        assert!(rt; has_blocks(alloc, &mut devices, dev)?);
-    }
+    let mut devices = devices_behind(alloc, 2, &SIXTY)?;
+    assert_eq!(rt; other_device(alloc, &mut devices)?, None);
     Ok(())
 }

@@ -5,6 +5,8 @@
 #[cfg(test)]
 mod crashes;
 #[cfg(test)]
+mod deeds;
+#[cfg(test)]
 mod entries;
 #[cfg(test)]
 mod limits;

@@ -80,8 +80,8 @@ pub fn ended<D: Devices, O: Opening>(volume: VolState<D, O>) -> D {
     volume.finish().devices
 }
 
-/// The digits of a number below 1,000.
-pub fn digits(number: u64) -> [u8; 3] {
+// The digits of a number below 1,000.
+fn digits(number: u64) -> [u8; 3] {
     [digit(number / 100), digit(number / 10), digit(number)]
 }
 
@@ -98,40 +98,82 @@ fn root(alloc: Global) -> Result<Path, AllocError> {
     })
 }
 
-/// Makes a file of this name in the root of `main`: the reply.
-pub fn make_file<D: Devices, O: Opening>(
-    alloc: Global,
-    volume: &mut VolState<D, O>,
-    name: &[u8],
-) -> Result<Reply, AllocError> {
-    let mut path = root(alloc)?;
-    path.names.push(Bytes::from_slice(alloc, name)?)?;
-    volume.call(Op::Mkfile { path })
+/// How files are named, by their numbers below 1,000.
+#[derive(Clone, Copy)]
+pub enum Names {
+    /// n00 for 0.
+    Short,
+    /// f000 for 0.
+    Numbered,
+    /// So many bytes, three at least, and 000 in the end for 0.
+    Long(usize),
 }
 
-/// Whether a file of this name is made.
-pub fn is_made<D: Devices, O: Opening>(
-    alloc: Global,
-    volume: &mut VolState<D, O>,
-    name: &[u8],
-) -> Result<bool, AllocError> {
-    let reply = make_file(alloc, volume, name)?;
-    Ok(matches!(reply, Reply::Okay))
+// A name of so many bytes.
+fn long_name(alloc: Global, length: usize, number: u64) -> Result<Bytes, AllocError> {
+    let mut name = vec![in alloc; b'x'; length.saturating_sub(3)]?;
+    name.extend_from_slice(&digits(number))?;
+    Bytes::from_slice(alloc, &name)
 }
 
-/// The name of the file of this number, below 1,000: f000 for 0.
-pub fn numbered(number: u64) -> [u8; 4] {
+// The name of the file of this number: f000 for 0.
+fn numbered(number: u64) -> [u8; 4] {
     let [hundreds, tens, ones] = digits(number);
     [b'f', hundreds, tens, ones]
 }
 
-/// Makes all commits durable: as how many they are told, if they are.
-pub fn sync<D: Devices, O: Opening>(
+// The name with two digits: n00 for 0.
+fn short(number: u64) -> [u8; 3] {
+    let [_, tens, ones] = digits(number);
+    [b'n', tens, ones]
+}
+
+fn name_of(alloc: Global, names: Names, number: u64) -> Result<Bytes, AllocError> {
+    match names {
+        Names::Short => Bytes::from_slice(alloc, &short(number)),
+        Names::Numbered => Bytes::from_slice(alloc, &numbered(number)),
+        Names::Long(length) => long_name(alloc, length, number),
+    }
+}
+
+// The path of a file in the root of `main`.
+fn path_of(alloc: Global, names: Names, number: u64) -> Result<Path, AllocError> {
+    let name = name_of(alloc, names, number)?;
+    let mut path = root(alloc)?;
+    path.names.push(name)?;
+    Ok(path)
+}
+
+/// Makes the file of this number in the root of `main`: the reply.
+pub fn make_file<D: Devices, O: Opening>(
+    alloc: Global,
     volume: &mut VolState<D, O>,
-) -> Result<Option<u64>, AllocError> {
+    names: Names,
+    number: u64,
+) -> Result<Reply, AllocError> {
+    let path = path_of(alloc, names, number)?;
+    volume.call(Op::Mkfile { path })
+}
+
+/// Whether the file of this number is made.
+pub fn is_made<D: Devices, O: Opening>(
+    alloc: Global,
+    volume: &mut VolState<D, O>,
+    names: Names,
+    number: u64,
+) -> Result<bool, AllocError> {
+    let reply = make_file(alloc, volume, names, number)?;
+    Ok(matches!(reply, Reply::Okay))
+}
+
+/// Whether all commits are made durable, so many in all.
+pub fn is_synced<D: Devices, O: Opening>(
+    volume: &mut VolState<D, O>,
+    commits: u64,
+) -> Result<bool, AllocError> {
     match volume.call(Op::Sync)? {
-        Reply::Synced(count) => Ok(Some(count)),
-        _ => Ok(None),
+        Reply::Synced(count) => Ok(count == commits),
+        _ => Ok(false),
     }
 }
 
@@ -149,20 +191,25 @@ fn is_numbered(listed: &FlaggedName, number: u64) -> bool {
     listed.flag == 1 && listed.name.as_slice() == numbered(number).as_slice()
 }
 
+// How many files are listed, if they are those of the first numbers.
+fn count_of(names: &[FlaggedName]) -> Option<u64> {
+    let mut count: u64 = 0;
+    for listed in names {
+        if !is_numbered(listed, count) {
+            return None;
+        }
+        count = count.saturating_add(1);
+    }
+    Some(count)
+}
+
 /// How many files are listed, if they are those of the first numbers.
 pub fn count_numbered<D: Devices, O: Opening>(
     alloc: Global,
     volume: &mut VolState<D, O>,
 ) -> Result<Option<u64>, AllocError> {
-    let Reply::List(names) = list(alloc, volume)? else {
-        return Ok(None);
-    };
-    let mut count: u64 = 0;
-    for listed in names.iter() {
-        if !is_numbered(listed, count) {
-            return Ok(None);
-        }
-        count = count.saturating_add(1);
+    match list(alloc, volume)? {
+        Reply::List(names) => Ok(count_of(names.as_slice())),
+        _ => Ok(None),
     }
-    Ok(Some(count))
 }

@@ -4,7 +4,7 @@ ghost use Rattle.std.specs.Prelude.{◌≡◌, true};
 ghost use Rattle.geometry.specs.Layouts.{is_layout_of};
 ghost use Rattle.replay.specs.Volumes.{found_in};
 
-use crate::opened::{count_numbered, ended, formatted_on, is_made, loaded_from, numbered, started};
+use crate::opened::{Names, count_numbered, ended, formatted_on, is_made, loaded_from, started};
 use dev_model::{Devices, MemDevices};
 use replay::Loaded;
 use std::alloc::Global;
@@ -23,7 +23,7 @@ struct Returned<D: Devices, O: Opening> {
 
 fn make_on<D: Devices + Drop, O: Opening>(alloc: Global, volume: VolState<D, O>) -> Returned<D, O> {
     let mut volume = volume;
-    let made = matches!(is_made(alloc, &mut volume, &numbered(0)), Ok(true));
+    let made = matches!(is_made(alloc, &mut volume, Names::Numbered, 0), Ok(true));
     Returned { volume, made }
 }
 
