@@ -85,14 +85,14 @@ fn block_with(
 }
 
 // Whether a run ends so over a fresh volume in whose block 288, where the root of the inodes lies, this block stands.
-fn ends_with(alloc: Global, block: &[u8], end: Step<'static>) -> Result<bool, AllocError> {
+fn ends_with(alloc: Global, block: &[u8], end: &Step<'static>) -> Result<bool, AllocError> {
     let put = Step::Put(0, 288, block);
-    Ok(other_step(alloc, Start::One, &[put, ALL_WRITTEN, end])?.is_none())
+    Ok(other_step(alloc, Start::One, &[put, ALL_WRITTEN, *end])?.is_none())
 }
 
-const BAD_NODE: Step = Step::Refused(b"mount refused 7 at 0:288\n");
+static BAD_NODE: Step = Step::Refused(b"mount refused 7 at 0:288\n");
 
-const MOUNTS: Step = Step::Run(Trial {
+static MOUNTS: Step = Step::Run(Trial {
     printed: Some(b"end commits 0 synced 0\n"),
     ..EMPTY_RUN
 });
@@ -101,8 +101,8 @@ const MOUNTS: Step = Step::Run(Trial {
 fn keys_in_falling_order_are_a_bad_node(rt: HostRuntime) -> Result<(), Fail> {
     let alloc = rt.alloc();
     let falling = block_with(alloc, &FILE, &DIRECTORY, &FALLING)?;
-    assert!(rt; ends_with(alloc, &falling, BAD_NODE)?);
+    assert!(rt; ends_with(alloc, &falling, &BAD_NODE)?);
     let rising = block_with(alloc, &DIRECTORY, &FILE, &RISING)?;
-    assert!(rt; ends_with(alloc, &rising, MOUNTS)?);
+    assert!(rt; ends_with(alloc, &rising, &MOUNTS)?);
     Ok(())
 }
