@@ -22,11 +22,16 @@ const FAIL: Step = Step::Fail {
     stays: true,
 };
 
-fn are_refused(alloc: Global, arguments: &[&str]) -> Result<bool, AllocError> {
-    let run = Step::Run(Trial {
+// A run with these arguments.
+fn refused<'a>(arguments: &'a [&'a str]) -> Trial<'a> {
+    Trial {
         arguments,
         ..REFUSED
-    });
+    }
+}
+
+fn are_refused(alloc: Global, arguments: &[&str]) -> Result<bool, AllocError> {
+    let run = Step::Run(refused(arguments));
     Ok(other_step(alloc, Start::Blank(&[16]), &[FAIL, run])?.is_none())
 }
 
