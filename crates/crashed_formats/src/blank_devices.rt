@@ -4,7 +4,7 @@ use std::test::Fail;
 
 // Devices without a block have no superblock to zero, so that both are only flushed, twice. They are extended and flushed. Then
 // 414 blocks of each are written: the first bucket but for its superblocks, the journal area, and nine roots. Both are flushed.
-const STAGES: [Stage; 12] = [
+static STAGES: [Stage; 12] = [
     NOTHING,
     Stage { dev: 1, ..NOTHING },
     NOTHING,

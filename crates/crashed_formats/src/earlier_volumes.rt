@@ -14,7 +14,7 @@ const EARLIER: Stage = Stage {
 // Both superblock copies of each device are read. Those that don't count are zeroed and flushed, and then the others, without
 // which the volume doesn't mount. No device is extended, but both are flushed. Then 414 blocks of each are written, and both
 // are flushed.
-const STAGES: [Stage; 16] = [
+static STAGES: [Stage; 16] = [
     Stage {
         calls: 2,
         ..EARLIER
@@ -70,11 +70,13 @@ fn it_crashes_at_each_call_and_blocks_are_torn(rt: HostRuntime) -> Result<(), Fa
     Ok(())
 }
 
+static PICKS: [Pick; 3] = [Pick::AllWritten, Pick::NoneWritten, Pick::Torn];
+
 #[test]
 fn after_the_last_call_the_fresh_volume_is_left(rt: HostRuntime) -> Result<(), Fail> {
-    for pick in [Pick::AllWritten, Pick::NoneWritten, Pick::Torn] {
+    for pick in PICKS.iter() {
         assert!(rt;
-            ends_after(rt.alloc(), Before::Volume, &STAGES, pick)?,
+            ends_after(rt.alloc(), Before::Volume, &STAGES, *pick)?,
             "at {pick:?}"
         );
     }

@@ -1,6 +1,6 @@
-use dev_model::{MemDevices, Pick};
+use dev_model::Pick;
 use std::alloc::{AllocError, Global};
-use volume_runs::{Ran, TWO, TWO_LINE, do_arguments, fail, run, two_devices};
+use volume_runs::{EMPTY_RUN, FORMAT_TWO, Start, Step, Trial, other_step};
 
 /// Of so many calls of a stage one is to fail, the first of them, and the last of all; with 1 each call is.
 const EVERY: u64 = 60;
@@ -47,7 +47,7 @@ pub const NOTHING: Stage = Stage {
 
 /// The last step: both superblock copies of device 0 and of device 1 are written, and both devices are flushed. Once each has a
 /// copy, flushed or not, the fresh volume may be there.
-pub const SEALING: [Stage; 5] = [
+pub static SEALING: [Stage; 5] = [
     Stage {
         calls: 2,
         ..NOTHING
@@ -69,19 +69,32 @@ pub const SEALING: [Stage; 5] = [
     },
 ];
 
-// Two devices to be formatted.
-fn devices_with(alloc: Global, before: Before) -> Result<MemDevices, AllocError> {
-    match before {
-        Before::Blank => MemDevices::blank(alloc, &[0, 0]),
-        Before::Volume => {
-            let ran = run(
-                alloc,
-                b"mkfile main:/a\nmkfile main:/b\n",
-                two_devices(alloc)?,
-            )?;
-            Ok(ran.devices)
+// Makes the files of the earlier volume.
+const MAKE: Step = Step::Run(Trial {
+    script: b"mkfile main:/a\nmkfile main:/b\n",
+    ..EMPTY_RUN
+});
+
+// Whether these steps over two devices all find what they must: one at which the devices fail, a format, a restart, and a run.
+fn are_taken(
+    alloc: Global,
+    before: Before,
+    fail: Step<'static>,
+    format: Step<'static>,
+    restart: Step<'static>,
+    run: Step<'static>,
+) -> Result<bool, AllocError> {
+    let other = match before {
+        Before::Blank => {
+            let steps = [fail, format, restart, run];
+            other_step(alloc, Start::Blank(&[0, 0]), &steps)?
         }
-    }
+        Before::Volume => {
+            let steps = [MAKE, fail, format, restart, run];
+            other_step(alloc, Start::Two, &steps)?
+        }
+    };
+    Ok(other.is_none())
 }
 
 fn left_by(stage: &Stage, pick: Pick) -> Left {
@@ -92,30 +105,51 @@ fn left_by(stage: &Stage, pick: Pick) -> Left {
     }
 }
 
-// The status and the text of a run that lists the names of what is left.
-fn listing_of(left: Left) -> (u8, &'static [u8]) {
+// A run that lists the names of what is left.
+const NOTHING_LISTED: Step = Step::Run(Trial {
+    script: b"ls main:/\n",
+    status: Some(3),
+    printed: Some(b"mount refused 1\n"),
+    ..EMPTY_RUN
+});
+
+const EARLIER_LISTED: Step = Step::Run(Trial {
+    script: b"ls main:/\n",
+    status: Some(0),
+    printed: Some(b"@0 1 list a b\nend commits 0 synced 0\n"),
+    ..EMPTY_RUN
+});
+
+const FRESH_LISTED: Step = Step::Run(Trial {
+    script: b"ls main:/\n",
+    status: Some(0),
+    printed: Some(b"@0 1 list\nend commits 0 synced 0\n"),
+    ..EMPTY_RUN
+});
+
+fn listing_of(left: Left) -> Step<'static> {
     match left {
-        Left::Nothing => (3, b"mount refused 1\n"),
-        Left::Earlier => (0, b"@0 1 list a b\nend commits 0 synced 0\n"),
-        Left::Fresh => (0, b"@0 1 list\nend commits 0 synced 0\n"),
+        Left::Nothing => NOTHING_LISTED,
+        Left::Earlier => EARLIER_LISTED,
+        Left::Fresh => FRESH_LISTED,
     }
 }
 
-// Whether a run finds this on the devices.
-fn is_left(alloc: Global, devices: MemDevices, left: Left) -> Result<bool, AllocError> {
-    let ran = run(alloc, b"ls main:/\n", devices)?;
-    let (status, lines) = listing_of(left);
-    Ok(ran.status == status && ran.sink.held() == lines)
-}
+// A format that ends for a device.
+const FAILS_0: Step = Step::Run(Trial {
+    status: Some(6),
+    printed: Some(b"error 6 device 0\n"),
+    ..FORMAT_TWO
+});
 
-// Whether the format ended for this device.
-fn has_failed(ran: &Ran, dev: u8) -> bool {
-    let line = if dev == 0 {
-        b"error 6 device 0\n".as_slice()
-    } else {
-        b"error 6 device 1\n".as_slice()
-    };
-    ran.status == 6 && ran.sink.held() == line && ran.trace.len() == 0 && ran.acks.is_empty()
+const FAILS_1: Step = Step::Run(Trial {
+    status: Some(6),
+    printed: Some(b"error 6 device 1\n"),
+    ..FORMAT_TWO
+});
+
+fn failing(dev: u8) -> Step<'static> {
+    if dev == 0 { FAILS_0 } else { FAILS_1 }
 }
 
 // Whether a format whose devices fail at this call, alone or with all later ones, ends for the device of the stage, and leaves
@@ -128,13 +162,10 @@ fn crashes_so(
     stays: bool,
     pick: Pick,
 ) -> Result<bool, AllocError> {
-    let mut devices = devices_with(alloc, before)?;
-    fail(&mut devices, call, stays)?;
-    let ran = do_arguments(alloc, TWO, devices)?;
-    if !has_failed(&ran, stage.dev) {
-        return Ok(false);
-    }
-    is_left(alloc, ran.devices.restart(pick)?, left_by(stage, pick))
+    let fail = Step::Fail { call, stays };
+    let listing = listing_of(left_by(stage, pick));
+    let format = failing(stage.dev);
+    are_taken(alloc, before, fail, format, Step::Restart(pick), listing)
 }
 
 // Whether this call of a stage of so many is tried.
@@ -203,11 +234,17 @@ pub fn ends_after(
     stages: &[Stage],
     pick: Pick,
 ) -> Result<bool, AllocError> {
-    let mut devices = devices_with(alloc, before)?;
-    fail(&mut devices, calls_of(stages), true)?;
-    let ran = do_arguments(alloc, TWO, devices)?;
-    if ran.status != 0 || ran.sink.held() != TWO_LINE {
-        return Ok(false);
-    }
-    is_left(alloc, ran.devices.restart(pick)?, Left::Fresh)
+    let fail = Step::Fail {
+        call: calls_of(stages),
+        stays: true,
+    };
+    let format = Step::Run(FORMAT_TWO);
+    are_taken(
+        alloc,
+        before,
+        fail,
+        format,
+        Step::Restart(pick),
+        FRESH_LISTED,
+    )
 }

@@ -1,11 +1,11 @@
-use dev_model::{MemDevices, Pick};
+use dev_model::Pick;
 use std::alloc::{AllocError, Global};
 use std::test::Fail;
-use volume_runs::{MOUNTING, Ran, fail, has_acks, run, two_devices};
+use volume_runs::{EMPTY_RUN, MOUNTING, Start, Step, Trial, crash_in};
 
 // A line of the script.
 #[derive(Clone, Copy)]
-enum Step {
+enum Line {
     // Makes the file of this name, the one with this number.
     Make(&'static str, u64),
     List,
@@ -13,52 +13,52 @@ enum Step {
 }
 
 // The script. Names are numbered from 1 as they are first made, and some are made again.
-const STEPS: [Step; 41] = [
-    Step::Make("nut-1", 1),
-    Step::Make("7up", 2),
-    Step::Make("fig", 3),
-    Step::Make("cherry", 4),
-    Step::Make("aa", 5),
-    Step::Make("7up", 2),
-    Step::Sync,
-    Step::Make("grape", 6),
-    Step::Make("b", 7),
-    Step::Make("oak", 8),
-    Step::Make("pear", 9),
-    Step::Make("ab", 10),
-    Step::Make("mango", 11),
-    Step::Make("mango", 11),
-    Step::Make("nut-1", 1),
-    Step::Sync,
-    Step::Make("nut-2", 12),
-    Step::Sync,
-    Step::Make("_", 13),
-    Step::Make("quince-with-a-longer-name", 14),
-    Step::Make("nut-10", 15),
-    Step::Make("0", 16),
-    Step::Make("quince-with-a-longer-name", 14),
-    Step::List,
-    Step::Make("Kiwi", 17),
-    Step::Make("a", 18),
-    Step::Make("lime", 19),
-    Step::Make("-", 20),
-    Step::Make("sloe", 21),
-    Step::Make("!x", 22),
-    Step::Make("fir", 23),
-    Step::Make("date", 24),
-    Step::Sync,
-    Step::Make("ash", 25),
-    Step::Make("elm", 26),
-    Step::Make("kiwi", 27),
-    Step::Make("plum", 28),
-    Step::Make("Yew", 29),
-    Step::Make("~", 30),
-    Step::Make("kiwi", 27),
-    Step::Make("aa", 5),
+static LINES: [Line; 41] = [
+    Line::Make("nut-1", 1),
+    Line::Make("7up", 2),
+    Line::Make("fig", 3),
+    Line::Make("cherry", 4),
+    Line::Make("aa", 5),
+    Line::Make("7up", 2),
+    Line::Sync,
+    Line::Make("grape", 6),
+    Line::Make("b", 7),
+    Line::Make("oak", 8),
+    Line::Make("pear", 9),
+    Line::Make("ab", 10),
+    Line::Make("mango", 11),
+    Line::Make("mango", 11),
+    Line::Make("nut-1", 1),
+    Line::Sync,
+    Line::Make("nut-2", 12),
+    Line::Sync,
+    Line::Make("_", 13),
+    Line::Make("quince-with-a-longer-name", 14),
+    Line::Make("nut-10", 15),
+    Line::Make("0", 16),
+    Line::Make("quince-with-a-longer-name", 14),
+    Line::List,
+    Line::Make("Kiwi", 17),
+    Line::Make("a", 18),
+    Line::Make("lime", 19),
+    Line::Make("-", 20),
+    Line::Make("sloe", 21),
+    Line::Make("!x", 22),
+    Line::Make("fir", 23),
+    Line::Make("date", 24),
+    Line::Sync,
+    Line::Make("ash", 25),
+    Line::Make("elm", 26),
+    Line::Make("kiwi", 27),
+    Line::Make("plum", 28),
+    Line::Make("Yew", 29),
+    Line::Make("~", 30),
+    Line::Make("kiwi", 27),
+    Line::Make("aa", 5),
 ];
 
 // The names in rising order, each with its number.
-const RISING: [(&str, u64); 30] = [
+static RISING: [(&str, u64); 30] = [
     ("!x", 22),
     ("-", 20),
     ("0", 16),
@@ -122,8 +122,8 @@ impl Answers {
 // Adds the listing of the first names, so many of them.
 fn push_listing(lines: &mut String, count: u64) -> Result<(), AllocError> {
     lines.push_str("list")?;
-    for (name, number) in RISING {
-        if number <= count {
+    for (name, number) in RISING.iter() {
+        if *number <= count {
             write!(lines, " {name}")?;
         }
     }
@@ -140,36 +140,36 @@ fn found(alloc: Global, count: u64) -> Result<String, AllocError> {
 
 fn script(alloc: Global) -> Result<String, AllocError> {
     let mut script = String::new(alloc);
-    for step in STEPS {
-        match step {
-            Step::Make(name, _) => write!(script, "mkfile main:/{name}\n")?,
-            Step::List => script.push_str("ls main:/\n")?,
-            Step::Sync => script.push_str("sync\n")?,
+    for line in LINES.iter() {
+        match line {
+            Line::Make(name, _) => write!(script, "mkfile main:/{name}\n")?,
+            Line::List => script.push_str("ls main:/\n")?,
+            Line::Sync => script.push_str("sync\n")?,
         }
     }
     Ok(script)
 }
 
-// Answers a step of a session that has so many commits. After its failure nothing more is made.
-fn answer(expected: &mut Answers, step: Step, failure: Failure) -> Result<(), AllocError> {
+// Answers a line of a session that has so many commits. After its failure nothing more is made.
+fn answer(expected: &mut Answers, line: Line, failure: Failure) -> Result<(), AllocError> {
     let has_halted = expected.status == 6;
     let is_failing = expected.is_next(failure);
     let dev = failure.dev;
     let commits = expected.commits;
     let lines = &mut expected.lines;
-    match step {
-        Step::Make(_, number) if number <= commits => lines.push_str("err exists")?,
-        Step::Make(_, _) | Step::Sync if has_halted => write!(lines, "err halted {dev}")?,
-        Step::Make(_, number) => {
+    match line {
+        Line::Make(_, number) if number <= commits => lines.push_str("err exists")?,
+        Line::Make(_, _) | Line::Sync if has_halted => write!(lines, "err halted {dev}")?,
+        Line::Make(_, number) => {
             expected.commits = number;
             lines.push_str("ok")?;
         }
-        Step::List => push_listing(lines, commits)?,
-        Step::Sync if is_failing => {
+        Line::List => push_listing(lines, commits)?,
+        Line::Sync if is_failing => {
             expected.status = 6;
             write!(lines, "err device {dev}")?;
         }
-        Step::Sync => {
+        Line::Sync => {
             expected.acks.push(commits)?;
             write!(lines, "ok {commits}")?;
         }
@@ -185,11 +185,11 @@ fn answers_of(alloc: Global, failure: Failure) -> Result<Answers, AllocError> {
         commits: 0,
         acks: Vec::new(alloc),
     };
-    let mut line = 0u32;
-    for step in STEPS {
-        line = line.saturating_add(1);
-        write!(expected.lines, "@0 {line} ")?;
-        answer(&mut expected, step, failure)?;
+    let mut number = 0u32;
+    for line in LINES.iter() {
+        number = number.saturating_add(1);
+        write!(expected.lines, "@0 {number} ")?;
+        answer(&mut expected, *line, failure)?;
         expected.lines.push_str("\n")?;
     }
     expected.status = 6;
@@ -199,21 +199,34 @@ fn answers_of(alloc: Global, failure: Failure) -> Result<Answers, AllocError> {
     Ok(expected)
 }
 
-// Whether a run of `ls main:/` over what is left of the devices finds the names that a prefix of the commits made, with at
-// least and at most so many.
-fn finds_a_prefix(
-    alloc: Global,
-    left: MemDevices,
-    least: u64,
-    most: u64,
-) -> Result<bool, AllocError> {
-    let next = run(alloc, b"ls main:/\n", left)?;
+// Whether a run of `ls main:/` that printed this found the names that a prefix of the commits made, with at least and at most so
+// many.
+fn is_a_prefix(alloc: Global, printed: &[u8], least: u64, most: u64) -> Result<bool, AllocError> {
     for count in least..=most {
-        if next.sink.held() == found(alloc, count)?.as_bytes() {
-            return Ok(next.status == 0 && has_acks(&next, &[0]));
+        if printed == found(alloc, count)?.as_bytes() {
+            return Ok(true);
         }
     }
     Ok(false)
+}
+
+// A run that lists the names, whichever it finds.
+static LISTING: Trial = Trial {
+    script: b"ls main:/\n",
+    status: Some(0),
+    acks: Some(&[0]),
+    ..EMPTY_RUN
+};
+
+// The run of the script, which ends as expected.
+fn run_of<'a>(script: &'a [u8], expected: &'a Answers) -> Trial<'a> {
+    Trial {
+        script,
+        status: Some(expected.status),
+        printed: Some(expected.lines.as_bytes()),
+        acks: Some(&expected.acks),
+        ..EMPTY_RUN
+    }
 }
 
 // Whether the run whose devices fail at this call, alone or with all later ones, ends as expected, and leaves a prefix of its
@@ -226,35 +239,35 @@ fn survives(
     stays: bool,
     pick: Pick,
 ) -> Result<bool, AllocError> {
-    let mut devices = two_devices(alloc)?;
-    fail(&mut devices, call, stays)?;
-    let ran = run(alloc, script.as_bytes(), devices)?;
-    if !has_ended(&ran, expected) {
-        return Ok(false);
+    let fail = [Step::Fail { call, stays }];
+    let run = run_of(script.as_bytes(), expected);
+    match crash_in(alloc, Start::Two, &fail, &run, pick, &LISTING)? {
+        Some(crash) => is_a_prefix(
+            alloc,
+            crash.next.printed.as_slice(),
+            expected.synced(),
+            expected.commits,
+        ),
+        None => Ok(false),
     }
-    let left = ran.devices.restart(pick)?;
-    finds_a_prefix(alloc, left, expected.synced(), expected.commits)
-}
-
-fn has_ended(ran: &Ran, expected: &Answers) -> bool {
-    ran.status == expected.status
-        && ran.sink.held() == expected.lines.as_bytes()
-        && has_acks(ran, &expected.acks)
 }
 
 // The syncs, and how many calls each takes, to device 0 and device 1 by turns: before the first entry both are flushed, each entry is
 // written on both, and both are flushed.
-const SYNCS: [(u64, u64); 5] = [(1, 6), (2, 4), (3, 4), (4, 4), (5, 4)];
+static SYNCS: [(u64, u64); 5] = [(1, 6), (2, 4), (3, 4), (4, 4), (5, 4)];
 
 // The first call behind mounting whose failure leaves anything else, alone or with all later ones, where the devices are restarted by
 // this pick.
 fn other_call(alloc: Global, pick: Pick) -> Result<Option<u64>, AllocError> {
     let script = script(alloc)?;
     let mut call = 2 * MOUNTING;
-    for (sync, calls) in SYNCS {
-        for part in 0..calls {
-            let dev = part % 2;
-            let expected = answers_of(alloc, Failure { sync, dev })?;
+    for (sync, calls) in SYNCS.iter() {
+        for part in 0..*calls {
+            let failure = Failure {
+                sync: *sync,
+                dev: part % 2,
+            };
+            let expected = answers_of(alloc, failure)?;
             if !survives(alloc, &script, &expected, call, true, pick)?
                 || !survives(alloc, &script, &expected, call, false, pick)?
             {

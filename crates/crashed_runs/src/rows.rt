@@ -1,10 +1,7 @@
-use dev_model::{MemDevices, Pick};
+use dev_model::Pick;
 use std::alloc::{AllocError, Global};
 use std::test::Fail;
-use volume_runs::{MOUNTING, Ran, fail, has_acks, letters, one_device, run, two_devices};
-
-// The picks by which a crash may leave the devices.
-const PICKS: [Pick; 3] = [Pick::AllWritten, Pick::NoneWritten, Pick::Torn];
+use volume_runs::{EMPTY_RUN, MOUNTING, Start, Step, Trial, other_step};
 
 // How a run ends that crashes at one of some calls of its devices, counted from the first behind mounting, and what the next run prints
 // for `ls main:/` on what is left of them.
@@ -32,86 +29,92 @@ const ABC: &[u8] = b"@0 1 list a b c\nend commits 0 synced 0\n";
 
 const ABCD: &[u8] = b"@0 1 list a b c d\nend commits 0 synced 0\n";
 
-fn has_ended(alloc: Global, ran: &Ran, crash: &Crash) -> Result<bool, AllocError> {
-    Ok(
-        ran.status == crash.status
-            && ran.sink.held() == crash.lines
-            && letters(alloc, &ran.trace)?.as_slice() == crash.entries
-            && has_acks(ran, crash.acks),
-    )
+// The run of a script that ends with a crash.
+fn crashing(script: &'static [u8], crash: &Crash) -> Step<'static> {
+    Step::Run(Trial {
+        script,
+        status: Some(crash.status),
+        printed: Some(crash.lines),
+        history: Some(crash.entries),
+        acks: Some(crash.acks),
+        ..EMPTY_RUN
+    })
 }
 
-// Whether the next run finds these names.
-fn finds(alloc: Global, left: MemDevices, names: &[u8]) -> Result<bool, AllocError> {
-    let next = run(alloc, b"ls main:/\n", left)?;
-    Ok(
-        next.status == 0
-            && next.sink.held() == names
-            && next.trace.len() == 2
-            && has_acks(&next, &[0]),
-    )
+// A run that finds these names.
+fn finding(names: &'static [u8]) -> Step<'static> {
+    Step::Run(Trial {
+        script: b"ls main:/\n",
+        status: Some(0),
+        printed: Some(names),
+        entries: Some(2),
+        acks: Some(&[0]),
+        ..EMPTY_RUN
+    })
 }
 
-// Whether the run of a script over these devices ends as it should, and the next one finds what it should on what is left of
-// them.
-fn crashes_so(
-    alloc: Global,
-    script: &[u8],
-    devices: MemDevices,
-    crash: &Crash,
-    pick: Pick,
-) -> Result<bool, AllocError> {
-    let ran = run(alloc, script, devices)?;
-    if !has_ended(alloc, &ran, crash)? {
-        return Ok(false);
-    }
-    let names = match pick {
+// The names that the next run finds where a crash leaves what the pick says.
+fn names_left(crash: &Crash, pick: Pick) -> &'static [u8] {
+    match pick {
         Pick::AllWritten => crash.all,
         Pick::NoneWritten | Pick::Torn => crash.flushed,
-    };
-    finds(alloc, ran.devices.restart(pick)?, names)
+    }
 }
 
-// A volume on one or two devices that fail at this call behind mounting, alone or with all later ones.
-fn failing(alloc: Global, count: u8, call: u64, stays: bool) -> Result<MemDevices, AllocError> {
-    let (mut devices, first) = if count == 1 {
-        (one_device(alloc)?, MOUNTING)
-    } else {
-        (two_devices(alloc)?, 2 * MOUNTING)
-    };
-    fail(&mut devices, first.saturating_add(call), stays)?;
-    Ok(devices)
+// A script, on how many devices it runs, and how many calls these get before its first line.
+#[derive(Clone, Copy)]
+struct Script {
+    text: &'static [u8],
+    devices: Start<'static>,
+    mounting: u64,
+}
+
+// Whether the run of a script whose devices fail at this call behind mounting, alone or with all later ones, ends as it should, and the
+// next one finds what it should on what is left of them.
+fn crashes_so(
+    alloc: Global,
+    script: &Script,
+    crash: &Crash,
+    call: u64,
+    stays: bool,
+    pick: Pick,
+) -> Result<bool, AllocError> {
+    let call = script.mounting.saturating_add(call);
+    let steps = [
+        Step::Fail { call, stays },
+        crashing(script.text, crash),
+        Step::Restart(pick),
+        finding(names_left(crash, pick)),
+    ];
+    Ok(other_step(alloc, script.devices, &steps)?.is_none())
 }
 
 // The first call of a crash at which the run of the script doesn't end so.
 fn other_call(
     alloc: Global,
-    script: &[u8],
-    count: u8,
+    script: &Script,
     crash: &Crash,
     pick: Pick,
 ) -> Result<Option<u64>, AllocError> {
     for call in crash.calls {
-        for stays in [true, false] {
-            let devices = failing(alloc, count, *call, stays)?;
-            if !crashes_so(alloc, script, devices, crash, pick)? {
-                return Ok(Some(*call));
-            }
+        if !crashes_so(alloc, script, crash, *call, true, pick)?
+            || !crashes_so(alloc, script, crash, *call, false, pick)?
+        {
+            return Ok(Some(*call));
         }
     }
     Ok(None)
 }
 
-// The first call of these crashes at which the run of the script on so many devices doesn't end so.
+// The first call of these crashes at which the run of the script doesn't end so.
 fn other_crash(
     alloc: Global,
-    script: &[u8],
-    count: u8,
+    script: &Script,
     crashes: &[Crash],
     pick: Pick,
 ) -> Result<Option<u64>, AllocError> {
     for crash in crashes {
-        let other = other_call(alloc, script, count, crash, pick)?;
+        let other = other_call(alloc, script, crash, pick)?;
         if other.is_some() {
             return Ok(other);
         }
@@ -119,8 +122,29 @@ fn other_crash(
     Ok(None)
 }
 
+// The first pick, and the first call, at which the run of the script doesn't end so.
+fn other_pick(
+    alloc: Global,
+    script: &Script,
+    crashes: &[Crash],
+) -> Result<Option<(Pick, u64)>, AllocError> {
+    for pick in PICKS.iter() {
+        if let Some(call) = other_crash(alloc, script, crashes, *pick)? {
+            return Ok(Some((*pick, call)));
+        }
+    }
+    Ok(None)
+}
+
+// The picks by which a crash may leave the devices.
+static PICKS: [Pick; 3] = [Pick::AllWritten, Pick::NoneWritten, Pick::Torn];
+
 // Three files, a sync and a fourth file.
-const FILES: &[u8] = b"mkfile main:/a\nmkfile main:/b\nmkfile main:/c\nsync\nmkfile main:/d\n";
+static FILES: Script = Script {
+    text: b"mkfile main:/a\nmkfile main:/b\nmkfile main:/c\nsync\nmkfile main:/d\n",
+    devices: Start::Two,
+    mounting: 2 * MOUNTING,
+};
 
 // The sync of the script failed on device 0.
 const AT_SYNC: Crash = Crash {
@@ -169,7 +193,7 @@ const NO_CRASH: Crash = Crash {
 
 // On two devices both are flushed first, calls 0 and 1. Then the entry of the sync is written on both, and both are flushed, and so it goes with
 // that of the last sync. An entry is found where one of them has it, and with it all its commits. So call 10 isn't made.
-const FILES_ON_TWO: [Crash; 10] = [
+static FILES_ON_TWO: [Crash; 10] = [
     Crash {
         calls: &[0, 2],
         ..AT_SYNC
@@ -222,15 +246,16 @@ const FILES_ON_TWO: [Crash; 10] = [
 
 #[test]
 fn a_crash_of_two_devices_leaves_what_was_acknowledged(rt: HostRuntime) -> Result<(), Fail> {
-    for pick in PICKS {
-        let other = other_crash(rt.alloc(), FILES, 2, &FILES_ON_TWO, pick)?;
-        assert_eq!(rt; other, None, "at {pick:?}");
-    }
+    assert_eq!(rt; other_pick(rt.alloc(), &FILES, &FILES_ON_TWO)?, None);
     Ok(())
 }
 
 // A file, a sync, another file and a listing.
-const TWO_FILES: &[u8] = b"mkfile main:/a\nsync\nmkfile main:/b\nls main:/\n";
+static TWO_FILES: Script = Script {
+    text: b"mkfile main:/a\nsync\nmkfile main:/b\nls main:/\n",
+    devices: Start::One,
+    mounting: MOUNTING,
+};
 
 // The sync of the script failed.
 const AT_FIRST: Crash = Crash {
@@ -249,7 +274,7 @@ const AT_LAST: Crash = Crash {
     ..AT_SYNC
 };
 
-const TWO_FILES_ON_ONE: [Crash; 5] = [
+static TWO_FILES_ON_ONE: [Crash; 5] = [
     Crash {
         calls: &[0, 1],
         ..AT_FIRST
@@ -281,9 +306,9 @@ const TWO_FILES_ON_ONE: [Crash; 5] = [
 
 #[test]
 fn a_sync_whose_flush_fails_halts_the_session(rt: HostRuntime) -> Result<(), Fail> {
-    for pick in PICKS {
-        let other = other_crash(rt.alloc(), TWO_FILES, 1, &TWO_FILES_ON_ONE, pick)?;
-        assert_eq!(rt; other, None, "at {pick:?}");
-    }
+    assert_eq!(rt;
+        other_pick(rt.alloc(), &TWO_FILES, &TWO_FILES_ON_ONE)?,
+        None
+    );
     Ok(())
 }

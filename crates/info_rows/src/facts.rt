@@ -1,17 +1,15 @@
-use dev_model::{MemDevices, Pick};
-use std::alloc::{AllocError, Global};
 use std::test::Fail;
-use volume_runs::{ID_TEXT, Ran, do_arguments, has_acks, one_device, run, two_devices};
+use volume_runs::{EMPTY_RUN, ID_TEXT, NONE_WRITTEN, Start, Step, Trial, other_step};
 
-// Whether `info` printed these lines. The source wasn't asked, and there is no history.
-fn has_told(ran: &Ran, lines: &[u8]) -> bool {
-    ran.status == 0 && ran.sink.held() == lines && ran.trace.len() == 0 && has_acks(ran, &[])
-}
-
-// Says what the devices hold.
-fn info(alloc: Global, devices: MemDevices) -> Result<Ran, AllocError> {
-    do_arguments(alloc, &["info"], devices)
-}
+// A call of `info`. The source isn't asked, and there is no history.
+const INFO: Trial = Trial {
+    arguments: &["info"],
+    failing_takes: &[0],
+    status: Some(0),
+    entries: Some(0),
+    acks: Some(&[]),
+    ..EMPTY_RUN
+};
 
 /// What a fresh volume of one device holds: the only entry of the journal; the root directory, the subvolume, its snapshot id and 17
 /// numbers that are drawn next; and of 64 buckets one with the superblocks, 16 with the journal and nine with roots.
@@ -34,14 +32,22 @@ end
 
 // It reads 2 superblock copies, 2 sessions, 256 blocks of the journal and 16 of each of nine roots, and makes no other call; so what is
 // left of the devices, if that is what was flushed, holds the same.
+static FRESH_TWICE: [Step; 3] = [
+    Step::Run(Trial {
+        printed: Some(FRESH),
+        calls: Some(404),
+        ..INFO
+    }),
+    NONE_WRITTEN,
+    Step::Run(Trial {
+        printed: Some(FRESH),
+        ..INFO
+    }),
+];
+
 #[test]
 fn a_fresh_volume_is_told(rt: HostRuntime) -> Result<(), Fail> {
-    let alloc = rt.alloc();
-    let first = info(alloc, one_device(alloc)?)?;
-    assert!(rt; has_told(&first, FRESH));
-    assert_eq!(rt; first.calls, 404);
-    let second = info(alloc, first.devices.restart(Pick::NoneWritten)?)?;
-    assert!(rt; has_told(&second, FRESH));
+    assert_eq!(rt; other_step(rt.alloc(), Start::One, &FRESH_TWICE)?, None);
     Ok(())
 }
 
@@ -65,21 +71,31 @@ device 1 buckets 64 free 38 used 9
 end
 ";
 
+// No session is begun for it: the next run's is 3.
+static SESSIONS: [Step; 4] = [
+    Step::Run(Trial {
+        script: b"mkfile main:/a\nmkfile main:/b\nsync\nmkfile main:/c\n",
+        ..EMPTY_RUN
+    }),
+    Step::Run(Trial {
+        printed: Some(TWO_ENTRIES),
+        ..INFO
+    }),
+    Step::Run(Trial {
+        printed: Some(b"end commits 0 synced 0\n"),
+        ..EMPTY_RUN
+    }),
+    Step::Run(Trial {
+        arguments: &["info"],
+        failing_takes: &[0],
+        line: Some((1, b"session 3 commits 3 sequence 3")),
+        ..EMPTY_RUN
+    }),
+];
+
 #[test]
 fn what_a_session_left_is_told(rt: HostRuntime) -> Result<(), Fail> {
-    let alloc = rt.alloc();
-    let script = b"mkfile main:/a\nmkfile main:/b\nsync\nmkfile main:/c\n";
-    let ran = run(alloc, script, two_devices(alloc)?)?;
-    let told = info(alloc, ran.devices)?;
-    assert!(rt; has_told(&told, TWO_ENTRIES));
-    // No session was begun for it: the next run's is 3.
-    let next = run(alloc, b"", told.devices)?;
-    assert_eq!(rt; next.sink.held(), b"end commits 0 synced 0\n".as_slice());
-    let again = info(alloc, next.devices)?;
-    assert!(rt;
-        again.sink.held().split(|byte| *byte == b'\n').nth(1)
-            == Some(b"session 3 commits 3 sequence 3".as_slice())
-    );
+    assert_eq!(rt; other_step(rt.alloc(), Start::Two, &SESSIONS)?, None);
     Ok(())
 }
 
@@ -103,21 +119,29 @@ device 2 buckets 65 free 64 used 0
 end
 ";
 
+static THREE_DEVICES: [Step; 2] = [
+    Step::Run(Trial {
+        arguments: &[
+            "format",
+            "--id",
+            ID_TEXT,
+            "--blocks=1040",
+            "--journal=272",
+            "--data-replicas=3",
+            "--meta-replicas=2",
+        ],
+        failing_takes: &[0],
+        ..EMPTY_RUN
+    }),
+    Step::Run(Trial {
+        printed: Some(THREE),
+        ..INFO
+    }),
+];
+
 #[test]
 fn a_device_without_metadata_is_told(rt: HostRuntime) -> Result<(), Fail> {
-    let alloc = rt.alloc();
-    let arguments = [
-        "format",
-        "--id",
-        ID_TEXT,
-        "--blocks=1040",
-        "--journal=272",
-        "--data-replicas=3",
-        "--meta-replicas=2",
-    ];
-    let blank = MemDevices::blank(alloc, &[1040, 1040, 1040])?;
-    let formatted = do_arguments(alloc, &arguments, blank)?;
-    let told = info(alloc, formatted.devices)?;
-    assert!(rt; has_told(&told, THREE));
+    let blank = Start::Blank(&[1040, 1040, 1040]);
+    assert_eq!(rt; other_step(rt.alloc(), blank, &THREE_DEVICES)?, None);
     Ok(())
 }

@@ -1,172 +1,169 @@
-use dev_model::{MemDevices, Pick};
-use std::alloc::{AllocError, Global};
 use std::test::Fail;
 use volume_runs::{
-    Ran, copied, one_device, put_session, put_version, run, session_on, two_devices, wipe,
+    ALL_WRITTEN, EMPTY_RUN, NONE_WRITTEN, Start, Step, Trial, other_row, other_step,
 };
 
-/// Whether a run over the devices is refused with this line, and nothing is written: a run over what is left of them, where
-/// that is what was flushed, is refused as well, after as many calls.
-pub fn is_refused(alloc: Global, devices: MemDevices, line: &[u8]) -> Result<bool, AllocError> {
-    let first = run(alloc, b"mkfile main:/a\nsync\n", devices)?;
-    if !has_refused(&first, line) {
-        return Ok(false);
-    }
-    let calls = first.calls;
-    let second = run(alloc, b"", first.devices.restart(Pick::NoneWritten)?)?;
-    Ok(has_refused(&second, line) && second.calls == calls)
-}
+const NO_SUPERBLOCK: Step = Step::Refused(b"mount refused 1\n");
 
-fn has_refused(ran: &Ran, line: &[u8]) -> bool {
-    ran.status == 3
-        && ran.sink.held() == line
-        && ran.trace.len() == 0
-        && ran.acks.is_empty()
-        && ran.devices.shortages() == 0
-}
+const VERSION: Step = Step::Refused(b"mount refused 2\n");
 
-// The same, of devices that could be made.
-fn is_copy_refused(
-    alloc: Global,
-    devices: Option<MemDevices>,
-    line: &[u8],
-) -> Result<bool, AllocError> {
-    match devices {
-        Some(devices) => is_refused(alloc, devices.restart(Pick::AllWritten)?, line),
-        None => Ok(false),
-    }
-}
+const MIXED: Step = Step::Refused(b"mount refused 3\n");
 
-const NO_SUPERBLOCK: &[u8] = b"mount refused 1\n";
+const NO_ENTRY: Step = Step::Refused(b"mount refused 5\n");
 
-const VERSION: &[u8] = b"mount refused 2\n";
+// A run of an empty script that mounts.
+const MOUNTS: Step = Step::Run(Trial {
+    status: Some(0),
+    ..EMPTY_RUN
+});
 
-const MIXED: &[u8] = b"mount refused 3\n";
+static BLANK: [Step; 1] = [NO_SUPERBLOCK];
 
-const NO_ENTRY: &[u8] = b"mount refused 5\n";
+// One device, two of which the first has as many blocks, and eight.
+static SIZES: [&[u32]; 11] = [
+    &[0],
+    &[0, 1024],
+    &[1],
+    &[1, 1024],
+    &[8],
+    &[8, 1024],
+    &[9],
+    &[9, 1024],
+    &[1024],
+    &[1024, 1024],
+    &[16, 16, 16, 16, 16, 16, 16, 16],
+];
 
 #[test]
 fn blank_devices_are_not_mounted(rt: HostRuntime) -> Result<(), Fail> {
     let alloc = rt.alloc();
-    for size in [0, 1, 8, 9, 1024] {
-        let one = MemDevices::blank(alloc, &[size])?;
-        assert!(rt; is_refused(alloc, one, NO_SUPERBLOCK)?, "at {size}");
-        let two = MemDevices::blank(alloc, &[size, 1024])?;
-        assert!(rt; is_refused(alloc, two, NO_SUPERBLOCK)?, "at {size}");
+    for sizes in SIZES.iter() {
+        let other = other_step(alloc, Start::Blank(sizes), &BLANK)?;
+        assert_eq!(rt; other, None, "at {sizes:?}");
     }
-    let eight = MemDevices::blank(alloc, &[16, 16, 16, 16, 16, 16, 16, 16])?;
-    assert!(rt; is_refused(alloc, eight, NO_SUPERBLOCK)?);
     Ok(())
 }
 
-// Of the two copies the first counts, where both have the same sequence. So version 9 in the second alone isn't seen.
+// Superblock copies in the blocks 0 and 8 have the version 9. Of the two copies the first counts, where both have the same sequence. So
+// version 9 in the second alone isn't seen.
+static VERSIONS: [&[Step]; 3] = [
+    &[
+        Step::PutVersion(0, 0, 9),
+        Step::PutVersion(0, 8, 9),
+        ALL_WRITTEN,
+        VERSION,
+    ],
+    &[
+        Step::PutVersion(1, 0, 9),
+        Step::PutVersion(1, 8, 9),
+        ALL_WRITTEN,
+        VERSION,
+    ],
+    &[Step::PutVersion(1, 8, 9), ALL_WRITTEN, MOUNTS],
+];
+
 #[test]
 fn another_version_is_not_mounted(rt: HostRuntime) -> Result<(), Fail> {
-    let alloc = rt.alloc();
-    for dev in [0, 1] {
-        let mut devices = two_devices(alloc)?;
-        assert!(rt; put_version(alloc, &mut devices, dev, 0, 9)?);
-        assert!(rt; put_version(alloc, &mut devices, dev, 8, 9)?);
-        let left = devices.restart(Pick::AllWritten)?;
-        assert!(rt; is_refused(alloc, left, VERSION)?, "at {dev}");
-    }
-    let mut second = two_devices(alloc)?;
-    assert!(rt; put_version(alloc, &mut second, 1, 8, 9)?);
-    let ran = run(alloc, b"", second.restart(Pick::AllWritten)?)?;
-    assert_eq!(rt; ran.status, 0);
+    assert_eq!(rt; other_row(rt.alloc(), Start::Two, &VERSIONS)?, None);
     Ok(())
 }
+
+static ORDERS: [&[Step]; 4] = [
+    &[Step::Copy(&[0, 1]), MOUNTS],
+    &[Step::Copy(&[1, 0]), ALL_WRITTEN, MIXED],
+    &[Step::Copy(&[0, 0]), ALL_WRITTEN, MIXED],
+    &[Step::Copy(&[1, 1]), ALL_WRITTEN, MIXED],
+];
 
 #[test]
 fn devices_in_another_order_are_not_mounted(rt: HostRuntime) -> Result<(), Fail> {
-    let alloc = rt.alloc();
-    let blank = MemDevices::blank(alloc, &[1024, 1024])?;
-    let same = copied(alloc, two_devices(alloc)?, &[0, 1], blank)?;
-    match same {
-        Some(devices) => {
-            let ran = run(alloc, b"", devices)?;
-            assert_eq!(rt; ran.status, 0);
-        }
-        None => assert!(rt; false),
-    }
-    for order in [[1, 0], [0, 0], [1, 1]] {
-        let blank = MemDevices::blank(alloc, &[1024, 1024])?;
-        let devices = copied(alloc, two_devices(alloc)?, &order, blank)?;
-        assert!(rt; is_copy_refused(alloc, devices, MIXED)?, "at {order:?}");
-    }
+    assert_eq!(rt; other_row(rt.alloc(), Start::Two, &ORDERS)?, None);
     Ok(())
 }
+
+// A device loses both its sessions, which stand in its blocks 4 and 5.
+static LOST_ON_ONE: [Step; 3] = [Step::Wipe(0, 4, 5), ALL_WRITTEN, NO_ENTRY];
+
+static LOST_ON_TWO: [&[Step]; 2] = [
+    &[Step::Wipe(0, 4, 5), ALL_WRITTEN, MOUNTS],
+    &[
+        Step::Wipe(0, 4, 5),
+        Step::Wipe(1, 4, 5),
+        ALL_WRITTEN,
+        NO_ENTRY,
+    ],
+];
 
 // A session is enough on one of the metadata devices.
 #[test]
 fn devices_without_a_session_are_not_mounted(rt: HostRuntime) -> Result<(), Fail> {
     let alloc = rt.alloc();
-    let mut one = one_device(alloc)?;
-    assert!(rt; wipe(alloc, &mut one, 0, 4, 5)?);
-    assert!(rt; is_refused(alloc, one.restart(Pick::AllWritten)?, NO_ENTRY)?);
-    let mut two = two_devices(alloc)?;
-    assert!(rt; wipe(alloc, &mut two, 0, 4, 5)?);
-    let ran = run(alloc, b"", two.restart(Pick::AllWritten)?)?;
-    assert_eq!(rt; ran.status, 0);
-    let mut two = two_devices(alloc)?;
-    assert!(rt; wipe(alloc, &mut two, 0, 4, 5)?);
-    assert!(rt; wipe(alloc, &mut two, 1, 4, 5)?);
-    assert!(rt; is_refused(alloc, two.restart(Pick::AllWritten)?, NO_ENTRY)?);
+    assert_eq!(rt; other_step(alloc, Start::One, &LOST_ON_ONE)?, None);
+    assert_eq!(rt; other_row(alloc, Start::Two, &LOST_ON_TWO)?, None);
     Ok(())
 }
 
-// Whether the greatest session that the device names is this one: in block 4 or 5, by turns, with the one before in the
-// other.
-fn names(
-    alloc: Global,
-    devices: &mut MemDevices,
-    dev: u8,
-    session: u64,
-) -> Result<bool, AllocError> {
-    let even = session_on(alloc, devices, dev, 4)?;
-    let odd = session_on(alloc, devices, dev, 5)?;
-    let (newest, before) = if session % 2 == 0 {
-        (even, odd)
-    } else {
-        (odd, even)
-    };
-    Ok(newest == Some(session) && before == Some(session.saturating_sub(1)))
-}
+// A run that makes a file that may be there already.
+const RUN: Step = Step::Run(Trial {
+    script: b"mkfile main:/a\n",
+    status: Some(0),
+    ..EMPTY_RUN
+});
 
-// Formatting leaves session 1, and each run seals the next one.
+// Formatting leaves session 1, and each run seals the next one, in block 4 or 5, by turns, with the one before in the other.
+static FOUR_RUNS: [Step; 24] = [
+    RUN,
+    NONE_WRITTEN,
+    Step::HasSession(0, 4, Some(2)),
+    Step::HasSession(0, 5, Some(1)),
+    Step::HasSession(1, 4, Some(2)),
+    Step::HasSession(1, 5, Some(1)),
+    RUN,
+    NONE_WRITTEN,
+    Step::HasSession(0, 4, Some(2)),
+    Step::HasSession(0, 5, Some(3)),
+    Step::HasSession(1, 4, Some(2)),
+    Step::HasSession(1, 5, Some(3)),
+    RUN,
+    NONE_WRITTEN,
+    Step::HasSession(0, 4, Some(4)),
+    Step::HasSession(0, 5, Some(3)),
+    Step::HasSession(1, 4, Some(4)),
+    Step::HasSession(1, 5, Some(3)),
+    RUN,
+    NONE_WRITTEN,
+    Step::HasSession(0, 4, Some(4)),
+    Step::HasSession(0, 5, Some(5)),
+    Step::HasSession(1, 4, Some(4)),
+    Step::HasSession(1, 5, Some(5)),
+];
+
 #[test]
 fn each_run_raises_the_session(rt: HostRuntime) -> Result<(), Fail> {
-    let alloc = rt.alloc();
-    let mut devices = two_devices(alloc)?;
-    for session in 2..6u64 {
-        let ran = run(alloc, b"mkfile main:/a\n", devices)?;
-        assert_eq!(rt; ran.status, 0);
-        devices = ran.devices.restart(Pick::NoneWritten)?;
-        assert!(rt; names(alloc, &mut devices, 0, session)?, "at {session}");
-        assert!(rt; names(alloc, &mut devices, 1, session)?, "at {session}");
-    }
+    assert_eq!(rt; other_step(rt.alloc(), Start::Two, &FOUR_RUNS)?, None);
     Ok(())
 }
+
+static LAST_ON_TWO: [&[Step]; 2] = [
+    &[Step::PutSession(0, 4_294_967_295), ALL_WRITTEN, NO_ENTRY],
+    &[Step::PutSession(1, 4_294_967_295), ALL_WRITTEN, NO_ENTRY],
+];
+
+static LAST_ON_ONE: [Step; 7] = [
+    Step::PutSession(0, 4_294_967_293),
+    ALL_WRITTEN,
+    MOUNTS,
+    Step::HasSession(0, 4, Some(4_294_967_294)),
+    MOUNTS,
+    NONE_WRITTEN,
+    NO_ENTRY,
+];
 
 // After session 4,294,967,295 there is none.
 #[test]
 fn the_last_session_is_spent(rt: HostRuntime) -> Result<(), Fail> {
     let alloc = rt.alloc();
-    for dev in [0, 1] {
-        let mut devices = two_devices(alloc)?;
-        assert!(rt; put_session(alloc, &mut devices, dev, 4_294_967_295)?);
-        let left = devices.restart(Pick::AllWritten)?;
-        assert!(rt; is_refused(alloc, left, NO_ENTRY)?, "at {dev}");
-    }
-    let mut devices = one_device(alloc)?;
-    assert!(rt; put_session(alloc, &mut devices, 0, 4_294_967_293)?);
-    let ran = run(alloc, b"", devices.restart(Pick::AllWritten)?)?;
-    assert_eq!(rt; ran.status, 0);
-    let mut devices = ran.devices;
-    assert_eq!(rt; session_on(alloc, &mut devices, 0, 4)?, Some(4_294_967_294));
-    let ran = run(alloc, b"", devices)?;
-    assert_eq!(rt; ran.status, 0);
-    let left = ran.devices.restart(Pick::NoneWritten)?;
-    assert!(rt; is_refused(alloc, left, NO_ENTRY)?);
+    assert_eq!(rt; other_row(alloc, Start::Two, &LAST_ON_TWO)?, None);
+    assert_eq!(rt; other_step(alloc, Start::One, &LAST_ON_ONE)?, None);
     Ok(())
 }

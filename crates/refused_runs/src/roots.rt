@@ -1,15 +1,13 @@
 //! The root of the inodes with keys in rising and in falling order. The blocks were packed by Python's struct module by the tables of the
 //! format, and their digests are those of its hashlib.
 
-use crate::mounts::is_refused;
-use dev_model::{MemDevices, Pick};
 use std::alloc::{AllocError, Global};
 use std::test::Fail;
-use volume_runs::{one_device, put_block, run};
+use volume_runs::{ALL_WRITTEN, EMPTY_RUN, Start, Step, Trial, other_step};
 
 // The magic; kind 3, version 1, part 0 of 1; the volume's id; the birth of the root of btree 1, block 0 of its bucket, sequence 1, and 124
 // bytes of payload.
-const HEAD: [u8; 64] = [
+static HEAD: [u8; 64] = [
     0x62, 0x76, 0x6f, 0x6c, 0x73, 0x65, 0x61, 0x6c, 3, 1, 0, 0, 0, 0, 1, 0, 0, 0, 0, 0, 0, 0, 0x40,
     0, 0x80, 0, 0, 0, 0, 0, 0, 1, 1, 0, 0, 0, 1, 0, 0, 0, 0, 0, 0, 0, 0, 0, 0, 0, 1, 0, 0, 0, 0, 0,
     0, 0, 0x7c, 0, 0, 0, 0, 0, 0, 0,
@@ -23,25 +21,25 @@ struct Digests {
 }
 
 // The payload up to its keys: the birth, btree 1, level 0, the least and the greatest position, and 2 keys.
-const RANGE: [u8; 56] = [
+static RANGE: [u8; 56] = [
     1, 0, 0, 0, 1, 0, 0, 0, 1, 0, 0, 0, 0, 0, 0, 0, 0, 0, 0, 0, 0, 0, 0, 0, 0, 0, 0, 0, 0, 0, 0, 0,
     0xff, 0xff, 0xff, 0xff, 0xff, 0xff, 0xff, 0xff, 0xff, 0xff, 0xff, 0xff, 0xff, 0xff, 0xff, 0xff,
     0xff, 0xff, 0xff, 0xff, 2, 0, 0, 0,
 ];
 
 // The root directory of `main`, which is inode 1, and a file, inode 2.
-const DIRECTORY: [u8; 34] = [
+static DIRECTORY: [u8; 34] = [
     0, 0, 0, 0, 0, 0, 0, 0, 1, 0, 0, 0, 0, 0, 0, 0, 0xff, 0xff, 0xff, 0xff, 1, 2, 1, 0, 0, 0, 0, 0,
     0, 0, 0, 0, 0, 0,
 ];
 
-const FILE: [u8; 34] = [
+static FILE: [u8; 34] = [
     0, 0, 0, 0, 0, 0, 0, 0, 2, 0, 0, 0, 0, 0, 0, 0, 0xff, 0xff, 0xff, 0xff, 1, 1, 1, 0, 0, 0, 0, 0,
     0, 0, 0, 0, 0, 0,
 ];
 
 // Where the directory stands before the file.
-const RISING: Digests = Digests {
+static RISING: Digests = Digests {
     record: [
         0xac, 0xbc, 0xa7, 0xf9, 0xb4, 0x54, 0x1d, 0xd4, 0xb3, 0x28, 0xae, 0x85, 0xf8, 0xd6, 0x36,
         0x44, 0xa9, 0xf2, 0x97, 0x81, 0xb8, 0x35, 0x2f, 0x71, 2, 0xd0, 0xff, 0xbe, 0xfe, 0x40,
@@ -55,7 +53,7 @@ const RISING: Digests = Digests {
 };
 
 // Where the file stands before the directory.
-const FALLING: Digests = Digests {
+static FALLING: Digests = Digests {
     record: [
         0x36, 0x23, 0xb3, 0x48, 0xda, 0x4d, 0x6e, 0x29, 0x1a, 0xbd, 0xda, 0x73, 0x5c, 0x46, 0x0f,
         0x9f, 0x0f, 0xd4, 0xc0, 0x0a, 0x37, 0x62, 0x27, 0x51, 0xa3, 0x28, 0x5b, 0x44, 0x72, 0x5d,
@@ -86,23 +84,25 @@ fn block_with(
     Ok(block)
 }
 
-// A fresh volume in whose block 288, where the root of the inodes lies, this block stands. A blank device where it can't.
-fn with_root(alloc: Global, block: &[u8]) -> Result<MemDevices, AllocError> {
-    let mut devices = one_device(alloc)?;
-    if !put_block(&mut devices, 0, 288, block) {
-        return MemDevices::blank(alloc, &[1024]);
-    }
-    devices.restart(Pick::AllWritten)
+// Whether a run ends so over a fresh volume in whose block 288, where the root of the inodes lies, this block stands.
+fn ends_with(alloc: Global, block: &[u8], end: &Step<'static>) -> Result<bool, AllocError> {
+    let put = Step::Put(0, 288, block);
+    Ok(other_step(alloc, Start::One, &[put, ALL_WRITTEN, *end])?.is_none())
 }
+
+static BAD_NODE: Step = Step::Refused(b"mount refused 7 at 0:288\n");
+
+static MOUNTS: Step = Step::Run(Trial {
+    printed: Some(b"end commits 0 synced 0\n"),
+    ..EMPTY_RUN
+});
 
 #[test]
 fn keys_in_falling_order_are_a_bad_node(rt: HostRuntime) -> Result<(), Fail> {
     let alloc = rt.alloc();
     let falling = block_with(alloc, &FILE, &DIRECTORY, &FALLING)?;
-    let devices = with_root(alloc, &falling)?;
-    assert!(rt; is_refused(alloc, devices, b"mount refused 7 at 0:288\n")?);
+    assert!(rt; ends_with(alloc, &falling, &BAD_NODE)?);
     let rising = block_with(alloc, &DIRECTORY, &FILE, &RISING)?;
-    let ran = run(alloc, b"", with_root(alloc, &rising)?)?;
-    assert_eq!(rt; ran.sink.held(), b"end commits 0 synced 0\n".as_slice());
+    assert!(rt; ends_with(alloc, &rising, &MOUNTS)?);
     Ok(())
 }
