@@ -45,14 +45,25 @@ const AB: &[u8] = b"@0 1 list a b\nend commits 0 synced 0\n";
 
 const ABC: &[u8] = b"@0 1 list a b c\nend commits 0 synced 0\n";
 
+// What a run prints that ends before its first line, for device 0 and for device 1, with a sync that failed, and well.
+const OF_0: &[u8] = b"error 6 device 0\n";
+
+const OF_1: &[u8] = b"error 6 device 1\n";
+
+const UNSYNCED: &[u8] = b"@0 1 ok\nend commits 1 synced 0\n";
+
+const SYNCED: &[u8] = b"@0 1 ok\nend commits 1 synced 1\n";
+
 // Whether a run that makes a third file ended as it may: before its line, or with a sync that failed, or well.
 fn may_end(run: &Seen) -> bool {
-    match run.printed.as_slice() {
-        b"error 6 device 0\n" | b"error 6 device 1\n" => run.status == 6 && run.entries == 0,
-        b"@0 1 ok\nend commits 1 synced 0\n" => run.status == 6 && run.acks == 0,
-        b"@0 1 ok\nend commits 1 synced 1\n" => run.status == 0,
-        _ => false,
+    let printed = run.printed.as_slice();
+    if printed == OF_0 || printed == OF_1 {
+        return run.status == 6 && run.entries == 0;
     }
+    if printed == UNSYNCED {
+        return run.status == 6 && run.acks == 0;
+    }
+    printed == SYNCED && run.status == 0
 }
 
 // Whether the next run lists what it may behind a run that made a third file, if it came to that, and acknowledged so many commits.
@@ -114,7 +125,7 @@ static MENDING: [Step; 4] = [
     LOSE,
     ALL_WRITTEN,
     Step::Run(Trial {
-        printed: Some(b"@0 1 ok\nend commits 1 synced 1\n"),
+        printed: Some(SYNCED),
         calls: Some(ALL),
         ..THIRD
     }),
