@@ -12,7 +12,7 @@ use crate::words::number_of;
 const CLIENTS: u64 = 16;
 
 /// Which client a line is for, and what stands behind its number.
-pub(crate) fn read_client(line: &[u8]) -> Result<(u8, Option<&[u8]>), ReadFault>
+pub fn read_client(line: &[u8]) -> Result<(u8, Option<&[u8]>), ReadFault>
     ensures ok { IfOk result (λ said. IsFor (words_of line.now) said.0 (words_in (option_copied said.1))) }
     ensures err { IfErr result (IsFaultOfText line.now) }
 {

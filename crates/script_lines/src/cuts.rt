@@ -3,7 +3,7 @@ ghost use Rattle.script_lines.specs.Lines.{IsCut, is_skipped, lines_of};
 
 /// What stands before the first such byte, and what stands behind it; none where there is no such byte. It costs time
 /// linear in what stands before it.
-pub(crate) fn cut_at(byte: u8, text: &[u8]) -> (&[u8], Option<&[u8]>)
+pub fn cut_at(byte: u8, text: &[u8]) -> (&[u8], Option<&[u8]>)
     ensures { IsCut byte text.now result.0.now (option_copied result.1) }
 {
     for (at, found) in text.iter().enumerate() {
@@ -37,7 +37,7 @@ pub(crate) fn behind(byte: u8, text: &[u8]) -> Option<&[u8]>
 }
 
 /// Whether the line says nothing.
-pub(crate) fn is_line_skipped(line: &[u8]) -> bool
+pub fn is_line_skipped(line: &[u8]) -> bool
     ensures { result ≡ is_skipped line.now }
 {
     match line {

@@ -43,17 +43,13 @@ mod verb;
 mod words;
 mod writing;
 
+pub use client::read_client;
+pub use cuts::{cut_at, is_line_skipped};
 pub use laws::{
     clients_are_below_16, one_fault, one_operation, one_reading, one_script, printed_names_are_read,
 };
-pub use reading::{Line, LineFault, Script, ScriptFault, read_script};
+pub use operations::read_operation;
+pub use reading::{Line, LineFault, ReadFault, Script, ScriptFault, read_script};
+pub use verb::Verb;
+pub use words::{read_bytes, read_path};
 pub use writing::{end_line, fault_word, reply_line};
-
-#[cfg(test)]
-mod examples;
-#[cfg(test)]
-mod printing;
-#[cfg(test)]
-mod tables;
-#[cfg(test)]
-mod tests;

@@ -14,7 +14,7 @@ use std::alloc::Global;
 
 /// The operation that a verb with these words behind it asks for; none for a barrier. It costs time linear in the words, and
 /// copies each once.
-pub(crate) fn read_operation(
+pub fn read_operation(
     alloc: Global,
     verb: Verb,
     words: Option<&[u8]>,

@@ -50,7 +50,7 @@ pub enum ScriptFault {
 
 /// Why a part of a line can't be read.
 #[derive(Clone, Copy, Debug, PartialEq, Eq)]
-pub(crate) enum ReadFault {
+pub enum ReadFault {
     /// The line has the fault.
     Faulty(LineFault),
     /// Out of memory.

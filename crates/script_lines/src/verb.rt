@@ -4,7 +4,7 @@ ghost use Rattle.script_lines.specs.declared.verb.Verb.{Verb as AVerb};
 
 /// A verb of a script.
 #[derive(Clone, Copy, Debug, PartialEq, Eq)]
-pub(crate) enum Verb {
+pub enum Verb {
     Mkdir,
     Mkfile,
     Write,
@@ -98,7 +98,7 @@ impl Verb {
     }
 
     /// The verb that a word is, among all verbs. It costs one comparison for each verb.
-    pub(crate) fn among_all(word: &[u8]) -> Option<Self>
+    pub fn among_all(word: &[u8]) -> Option<Self>
         ensures found { IfSome result (λ verb. word.now ≡ verb_word verb) }
         ensures none { IfNone result ((verb : AVerb) → word.now ≢ verb_word verb) }
     {

@@ -19,7 +19,7 @@ const MAX_BYTES: usize = 65_536;
 const MAX_DIGITS: usize = 131_072;
 
 /// The path that a word stands for. It costs time linear in the word.
-pub(crate) fn read_path(alloc: Global, word: &[u8]) -> Result<Path, ReadFault>
+pub fn read_path(alloc: Global, word: &[u8]) -> Result<Path, ReadFault>
     ensures ok { IfOk result (SaysPath word.now) }
     ensures err { IfErr result (IsFaultOfWord PathWord word.now) }
 {
@@ -111,7 +111,7 @@ pub(crate) fn read_length(word: &[u8]) -> Result<u64, ReadFault>
 
 /// The bytes to be written that a word stands for. It costs time linear in the word, and takes no memory where the word is
 /// too long.
-pub(crate) fn read_bytes(alloc: Global, word: &[u8]) -> Result<Bytes, ReadFault>
+pub fn read_bytes(alloc: Global, word: &[u8]) -> Result<Bytes, ReadFault>
     ensures ok { IfOk result (SaysBytes word.now) }
     ensures err { IfErr result (IsFaultOfWord BytesWord word.now) }
 {

@@ -1,15 +1,13 @@
-use crate::client::read_client;
-use crate::cuts::{cut_at, is_line_skipped};
-use crate::operations::read_operation;
-use crate::reading::ReadFault;
-use crate::verb::Verb;
-use crate::{LineFault, fault_word, reply_line};
+//! The examples of docs/SEMANTICS.md, over a forest without devices.
+
+use crate::reading::said;
 use forest_ops::{Forest, Op, Reply};
+use script_lines::{ReadFault, fault_word, is_line_skipped, read_client, reply_line};
 use std::alloc::{AllocError, Global};
 use vol_types::Bytes;
 
 /// The examples of docs/SEMANTICS.md: scripts, and the lines that answer them.
-const EXAMPLES: [(&str, &str); 20] = [
+static EXAMPLES: [(&str, &str); 20] = [
     (
         "\
 # two clients
@@ -360,7 +358,7 @@ usage
 ];
 
 /// Lines of docs/SEMANTICS.md that can't be run, and the words for their faults.
-const BAD_LINES: [(&str, &str); 13] = [
+static BAD_LINES: [(&str, &str); 13] = [
     ("@16 sync", "bad-client"),
     ("@01 frob", "bad-client"),
     ("@3", "bad-verb"),
@@ -389,8 +387,9 @@ struct Session {
 impl Session {
     // A session over the fresh forest.
     fn fresh(alloc: Global) -> Result<Self, AllocError> {
+        let forest = Forest::fresh(alloc)?;
         Ok(Session {
-            forest: Forest::fresh(alloc)?,
+            forest,
             commits: 0,
             answered: Bytes::new(alloc),
         })
@@ -398,11 +397,26 @@ impl Session {
 
     // Runs the line of this number.
     fn run(&mut self, alloc: Global, number: u32, line: &[u8]) -> Result<(), ReadFault> {
-        match said(alloc, line)? {
-            (client, Some(op)) => self.answer(alloc, client, number, &op)?,
-            (_, None) => {}
-        }
+        let (client, op) = said_by(alloc, line)?;
+        let answered = self.answer_line(alloc, client, number, op.as_ref());
+        // By a call: at the end of the block it takes a minute to prove.
+        drop(op);
+        answered?;
         Ok(())
+    }
+
+    // Answers what a line of a client says.
+    fn answer_line(
+        &mut self,
+        alloc: Global,
+        client: u8,
+        number: u32,
+        op: Option<&Op>,
+    ) -> Result<(), AllocError> {
+        match op {
+            Some(op) => self.answer(alloc, client, number, op),
+            None => Ok(()),
+        }
     }
 
     // Answers an operation of a client.
@@ -413,15 +427,34 @@ impl Session {
         number: u32,
         op: &Op,
     ) -> Result<(), AllocError> {
-        let before = self.forest.copy()?;
-        // Whoever was read is below 16 already.
-        let reply = self.forest.apply(client % 16, op)?;
-        if before.commits(op, &reply) {
+        let (reply, is_commit) = applied(&mut self.forest, client, op)?;
+        if is_commit {
             self.commits = self.commits.saturating_add(1);
         }
         let reply = with_count(self.commits, reply);
         reply_line(alloc, &mut self.answered, client, number, &reply)
     }
+
+    // Runs the lines of a script.
+    fn run_all(&mut self, alloc: Global, script: &str) -> Result<(), ReadFault> {
+        let mut number: u32 = 0;
+        for line in script.split('\n') {
+            number = number.saturating_add(1);
+            if !is_line_skipped(line.as_bytes()) {
+                self.run(alloc, number, line.as_bytes())?;
+            }
+        }
+        Ok(())
+    }
+}
+
+// The reply to an operation of a client, and whether it is a commit.
+fn applied(forest: &mut Forest, client: u8, op: &Op) -> Result<(Reply, bool), AllocError> {
+    let before = forest.copy()?;
+    // Whoever was read is below 16 already.
+    let reply = forest.apply(client % 16, op)?;
+    let is_commit = before.commits(op, &reply);
+    Ok((reply, is_commit))
 }
 
 // A reply with the number of commits that a forest doesn't know.
@@ -433,31 +466,37 @@ fn with_count(commits: u64, reply: Reply) -> Reply {
 }
 
 // Whose a line is and what it says, also where the program doesn't run its verb.
-fn said(alloc: Global, line: &[u8]) -> Result<(u8, Option<Op>), ReadFault> {
+fn said_by(alloc: Global, line: &[u8]) -> Result<(u8, Option<Op>), ReadFault> {
     let (client, rest) = read_client(line)?;
-    let (word, words) = cut_at(b' ', rest.unwrap_or(b"".as_slice()));
-    let verb = Verb::among_all(word).ok_or(ReadFault::Faulty(LineFault::BadVerb))?;
-    let op = read_operation(alloc, verb, words)?;
+    let op = said(alloc, rest.unwrap_or(b"".as_slice()))?;
     Ok((client, op))
 }
 
-// Whether a script is answered so.
-pub(crate) fn is_answered(alloc: Global, script: &str, replies: &str) -> Result<bool, ReadFault> {
-    let mut session = Session::fresh(alloc)?;
-    let mut number: u32 = 0;
-    for line in script.as_bytes().split(|byte| *byte == b'\n') {
-        number = number.saturating_add(1);
-        if !is_line_skipped(line) {
-            session.run(alloc, number, line)?;
-        }
+// Whether a script is answered so in a session.
+fn is_answered_in(session: &mut Session, alloc: Global, script: &str, replies: &str) -> bool {
+    match session.run_all(alloc, script) {
+        Ok(()) => session.answered.as_slice() == replies.as_bytes(),
+        Err(_) => false,
     }
-    Ok(session.answered.as_slice() == replies.as_bytes())
+}
+
+// Whether a script is answered so.
+pub(crate) fn is_answered(alloc: Global, script: &str, replies: &str) -> bool {
+    match Session::fresh(alloc) {
+        Ok(mut session) => is_answered_in(&mut session, alloc, script, replies),
+        Err(_) => false,
+    }
+}
+
+// The fault of a line.
+fn fault_of(alloc: Global, line: &str) -> Option<ReadFault> {
+    said_by(alloc, line.as_bytes()).err()
 }
 
 // Whether a line has the fault with this word.
 fn is_faulty(alloc: Global, line: &str, word: &str) -> bool {
-    match said(alloc, line.as_bytes()) {
-        Err(ReadFault::Faulty(fault)) => fault_word(fault) == word,
+    match fault_of(alloc, line) {
+        Some(ReadFault::Faulty(fault)) => fault_word(fault) == word,
         _ => false,
     }
 }
@@ -465,18 +504,15 @@ fn is_faulty(alloc: Global, line: &str, word: &str) -> bool {
 #[test]
 fn examples_are_answered(rt: HostRuntime) {
     let alloc = rt.alloc();
-    for (script, replies) in EXAMPLES {
-        assert!(rt;
-            is_answered(alloc, script, replies) == Ok(true),
-            "at {script:?}"
-        );
+    for (script, replies) in EXAMPLES.iter() {
+        assert!(rt; is_answered(alloc, script, replies), "at {script:?}");
     }
 }
 
 #[test]
 fn bad_lines_have_their_faults(rt: HostRuntime) {
     let alloc = rt.alloc();
-    for (line, word) in BAD_LINES {
+    for (line, word) in BAD_LINES.iter() {
         assert!(rt; is_faulty(alloc, line, word), "at {line:?}");
     }
 }

@@ -1,8 +1,10 @@
-use super::examples::is_answered;
+//! Tables of scripts and the lines that answer them.
+
+use crate::examples::is_answered;
 
 /// Where two causes hold, the first one of the verb's row is told. Each script begins with a directory `d` that holds a
 /// file, a file `f`, and a subvolume `ro` that may only be read.
-const ORDER: [(&str, &str); 6] = [
+static ORDER: [(&str, &str); 6] = [
     (
         "\
 mkdir main:/d
@@ -232,7 +234,7 @@ delsub none
 ];
 
 /// Files, their bytes and their names, and truncations in steps.
-const FILES: [(&str, &str); 2] = [
+static FILES: [(&str, &str); 2] = [
     (
         "\
 mkfile main:/a
@@ -320,7 +322,7 @@ stat main:/b
 ];
 
 /// Directories, renames and subvolumes.
-const TREES: (&str, &str) = (
+static TREES: (&str, &str) = (
     "\
 mkdir main:/d
 mkdir main:/d/e
@@ -418,7 +420,7 @@ usage
 );
 
 /// Each operation with the number of commits after it: what changes nothing is none.
-const COMMITS: (&str, &str) = (
+static COMMITS: (&str, &str) = (
     "\
 mkfile main:/f
 sync
@@ -496,35 +498,27 @@ sync
 #[test]
 fn refusals_come_in_their_order(rt: HostRuntime) {
     let alloc = rt.alloc();
-    for (script, replies) in ORDER {
-        assert!(rt;
-            is_answered(alloc, script, replies) == Ok(true),
-            "at {script:?}"
-        );
+    for (script, replies) in ORDER.iter() {
+        assert!(rt; is_answered(alloc, script, replies), "at {script:?}");
     }
 }
 
 #[test]
 fn files_hold_what_was_put(rt: HostRuntime) {
     let alloc = rt.alloc();
-    for (script, replies) in FILES {
-        assert!(rt;
-            is_answered(alloc, script, replies) == Ok(true),
-            "at {script:?}"
-        );
+    for (script, replies) in FILES.iter() {
+        assert!(rt; is_answered(alloc, script, replies), "at {script:?}");
     }
 }
 
 #[test]
 fn trees_change(rt: HostRuntime) {
-    let alloc = rt.alloc();
     let (script, replies) = TREES;
-    assert!(rt; is_answered(alloc, script, replies) == Ok(true));
+    assert!(rt; is_answered(rt.alloc(), script, replies));
 }
 
 #[test]
 fn idle_operations_are_no_commits(rt: HostRuntime) {
-    let alloc = rt.alloc();
     let (script, replies) = COMMITS;
-    assert!(rt; is_answered(alloc, script, replies) == Ok(true));
+    assert!(rt; is_answered(rt.alloc(), script, replies));
 }
