@@ -95,15 +95,13 @@ fn settle<D: Devices, O: Opening>(
     ensures served { IfOk result (λ reply. IsServed D.state not.op reply session.old session.new) }
     ensures unserved { OnErr result (IsUnserved D.state session.old session.new) }
 {
-    let Uncommitted {
-        answer,
-        op,
-        reply: _reply,
-    } = not;
+    let Uncommitted { answer, op, reply } = not;
+    drop(reply);
     match answer {
         Answer::Refused(refusal) => refuse(alloc, session, op, refusal),
         Answer::NoMemory => {
             end(session);
+            drop(op);
             Err(AllocError)
         }
         _ => unreachable!(),
@@ -187,15 +185,13 @@ fn settle_at_rest<D: Devices, O: Opening>(
     ensures served { IfOk result (λ reply. IsServed D.state not.op reply session.old session.new) }
     ensures unserved { OnErr result (IsUnserved D.state session.old session.new) }
 {
-    let Uncommitted {
-        answer,
-        op,
-        reply: _reply,
-    } = not;
+    let Uncommitted { answer, op, reply } = not;
+    drop(reply);
     match answer {
         Answer::Refused(refusal) => refuse_at_rest(alloc, session, op, refusal),
         Answer::NoMemory => {
             end(session);
+            drop(op);
             Err(AllocError)
         }
         _ => unreachable!(),
@@ -252,6 +248,7 @@ fn give_up<D: Devices, O: Opening>(
         Stop::Foreign(_) => lack(alloc, session, op, nothing_short(alloc)),
         Stop::NoMemory => {
             end(session);
+            drop(op);
             Err(AllocError)
         }
     }

@@ -171,6 +171,7 @@ fn carry_out<D: Devices, O: Opening>(
         }
         Err(error) => {
             end(session);
+            drop(plan);
             Err(error)
         }
     }
@@ -250,6 +251,8 @@ pub(crate) fn lack<D: Devices, O: Opening>(
         }
         Err(error) => {
             end(session);
+            drop(reply);
+            drop(op);
             Err(error)
         }
     }
