@@ -116,7 +116,10 @@ fn send<R: Threads, O: Opening + Send + 'static>(
 ) -> Option<JoinHandle<Returned<MemDevices, O>>> {
     match spawn(rt, move || commit(core, updates)) {
         Ok(thread) => Some(thread),
-        Err(_) => None,
+        Err(error) => {
+            drop(error);
+            None
+        }
     }
 }
 

@@ -35,7 +35,10 @@ fn send<R: Threads, D: Devices + Drop + Send + 'static, O: Opening + Send + 'sta
 ) -> Option<JoinHandle<Returned<D, O>>> {
     match spawn(rt, move || make_on(alloc, volume)) {
         Ok(thread) => Some(thread),
-        Err(_) => None,
+        Err(error) => {
+            drop(error);
+            None
+        }
     }
 }
 
