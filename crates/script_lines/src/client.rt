@@ -11,7 +11,8 @@ use crate::words::number_of;
 /// How many clients there are.
 const CLIENTS: u64 = 16;
 
-/// Which client a line is for, and what stands behind its number.
+/// Which client a line is for, and what stands behind its number; client 0 where none is named. An `Err` is a bad client: a first word
+/// that begins with `@` and isn't the number of one of the 16. It takes no memory.
 pub fn read_client(line: &[u8]) -> Result<(u8, Option<&[u8]>), ReadFault>
     ensures ok { IfOk result (λ said. IsFor (words_of line.now) said.0 (words_in (option_copied said.1))) }
     ensures err { IfErr result (IsFaultOfText line.now) }

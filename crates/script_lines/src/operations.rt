@@ -12,8 +12,8 @@ use crate::verb::Verb;
 use forest_ops::Op;
 use std::alloc::Global;
 
-/// The operation that a verb with these words behind it asks for; none for a barrier. It costs time linear in the words, and
-/// copies each once.
+/// The operation that a verb with these words behind it asks for; none for a barrier. An `Err` is a fault of the words, as too many or too few
+/// of them or one that isn't of the verb's form, or out of memory. It costs time linear in the words, and copies each once.
 pub fn read_operation(
     alloc: Global,
     verb: Verb,

@@ -18,7 +18,7 @@ const MAX_BYTES: usize = 65_536;
 /// The most hex digits that write so many bytes.
 const MAX_DIGITS: usize = 131_072;
 
-/// The path that a word stands for. It costs time linear in the word.
+/// The path that a word stands for. An `Err` is a bad path, or out of memory. It costs time linear in the word.
 pub fn read_path(alloc: Global, word: &[u8]) -> Result<Path, ReadFault>
     ensures ok { IfOk result (SaysPath word.now) }
     ensures err { IfErr result (IsFaultOfWord PathWord word.now) }
@@ -109,8 +109,8 @@ pub(crate) fn read_length(word: &[u8]) -> Result<u64, ReadFault>
     }
 }
 
-/// The bytes to be written that a word stands for. It costs time linear in the word, and takes no memory where the word is
-/// too long.
+/// The bytes to be written that a word stands for, 65,536 at most. An `Err` is a bad argument: a word that isn't an even number of hex digits,
+/// none or too many; or out of memory. It costs time linear in the word, and takes no memory where this is too long.
 pub fn read_bytes(alloc: Global, word: &[u8]) -> Result<Bytes, ReadFault>
     ensures ok { IfOk result (SaysBytes word.now) }
     ensures err { IfErr result (IsFaultOfWord BytesWord word.now) }

@@ -95,6 +95,7 @@ fn settle<D: Devices, O: Opening>(
     ensures served { IfOk result (λ reply. IsServed D.state not.op reply session.old session.new) }
     ensures unserved { OnErr result (IsUnserved D.state session.old session.new) }
 {
+    // What isn't handed on is dropped by name, here and below: that spares the proof the drop of each variant on each way out.
     let Uncommitted { answer, op, reply } = not;
     drop(reply);
     match answer {

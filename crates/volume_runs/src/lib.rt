@@ -6,12 +6,8 @@ mod runs;
 mod steps;
 mod volumes;
 
-pub use runs::{Ran, has_acks, letters, run, run_over};
 pub use steps::{
     ALL_WRITTEN, Crashed, EMPTY_RUN, FORMAT_ONE, FORMAT_TWO, NONE_WRITTEN, Seen, Start, Step,
     Trial, crash_in, ends_so, fails_so, other_row, other_step,
 };
-pub use volumes::{
-    ID, ID_TEXT, MOUNTING, ONE, ONE_LINE, TWO, TWO_LINE, block_of, copied, do_arguments, fail,
-    one_device, put_block, put_session, put_version, session_on, tear, two_devices, wipe,
-};
+pub use volumes::{ID_TEXT, MOUNTING};
