@@ -1,6 +1,6 @@
 use crate::refusal::Refusal;
 use file_devices::Trouble;
-use script_lines::LineFault;
+use script_text::LineFault;
 use shell::{EarlyEnd, Refusal as MountRefusal};
 use std::fmt;
 use std::rc::RcStr;

@@ -5,7 +5,7 @@ ghost use Rattle.bvol.specs.declared.refusal.Refusal.{Refusal};
 ghost use Rattle.bvol.specs.declared.refusal.Refusal.TheVariants.{Memory, Usage};
 
 use crate::refusal::Refusal;
-use command_words::WordsFault;
+use command_line::WordsFault;
 use shell::{Task, read_task};
 use std::alloc::Global;
 use std::rc::RcStr;

@@ -1,6 +1,6 @@
 ghost use Rattle.std.specs.Prelude.{◌≡◌, ◌<◌, length};
 
-use command_words::id_text;
+use command_line::id_text;
 use dev_model::Devices;
 use sealed_block::{SUPERBLOCK, unseal};
 use shell::Task;

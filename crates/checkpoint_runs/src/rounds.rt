@@ -9,7 +9,7 @@ use core_fixtures::{
     formatted_on, is_version,
 };
 use dev_model::{Devices, MemDevices, Pick};
-use plain_reader::{FoundVolume, read_plain};
+use image_reader::{FoundVolume, read_plain};
 use replay::{Loaded, open_volume};
 use std::alloc::{AllocError, Global};
 use std::marker::Brand;

@@ -9,7 +9,7 @@ use core_fixtures::{
     newest_of, push, step,
 };
 use dev_model::{Devices, MemDevices, Pick};
-use plain_reader::read_plain;
+use image_reader::read_plain;
 use replay::{Loaded, open_volume};
 use std::alloc::{AllocError, Global};
 use std::marker::Brand;

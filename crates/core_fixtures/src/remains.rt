@@ -4,7 +4,7 @@
 use crate::images::{block_of, put};
 use crate::moves::{Version, counters_of};
 use dev_model::MemDevices;
-use plain_reader::{FoundBtree, FoundVolume, read_plain};
+use image_reader::{FoundBtree, FoundVolume, read_plain};
 use std::alloc::{AllocError, Global};
 use std::test::Fail;
 use vol_types::{NodePtr, Pos, Value};

@@ -1,7 +1,7 @@
 use dev_model::Pick;
 use std::alloc::{AllocError, Global};
 use std::test::Fail;
-use volume_runs::{EMPTY_RUN, MOUNTING, Start, Step, Trial, crash_in};
+use crash_runs::{EMPTY_RUN, MOUNTING, Start, Step, Trial, crash_in};
 
 // A line of the script.
 #[derive(Clone, Copy)]

@@ -3,7 +3,7 @@
 use dev_model::Pick;
 use std::alloc::{AllocError, Global};
 use std::test::Fail;
-use volume_runs::{ALL_WRITTEN, EMPTY_RUN, Seen, Start, Step, Trial, crash_in, other_step};
+use crash_runs::{ALL_WRITTEN, EMPTY_RUN, Seen, Start, Step, Trial, crash_in, other_step};
 
 // Of so many calls that read the volume one fails, the first of them; with 1 each does. So does each call behind them.
 const EVERY: u64 = 202;

@@ -1,7 +1,7 @@
 use dev_model::Pick;
 use std::alloc::{AllocError, Global};
 use std::test::Fail;
-use volume_runs::{EMPTY_RUN, MOUNTING, Start, Step, Trial, other_step};
+use crash_runs::{EMPTY_RUN, MOUNTING, Start, Step, Trial, other_step};
 
 // How a run ends that crashes at one of some calls of its devices, counted from the first behind mounting, and what the next run prints
 // for `ls main:/` on what is left of them.

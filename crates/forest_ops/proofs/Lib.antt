@@ -1,9 +1,9 @@
-pub mod MapLemmas
-pub mod Sums
 pub mod Counting
-pub mod TakenBack
-pub mod Keeping
-pub mod Putting
-pub mod Idle
 pub mod Entries
+pub mod Idle
 pub mod Inserting
+pub mod Keeping
+pub mod MapLemmas
+pub mod Putting
+pub mod Sums
+pub mod TakenBack

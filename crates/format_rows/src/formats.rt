@@ -4,7 +4,7 @@ ghost use Rattle.dev_model.specs.Disk.{NothingPending};
 
 use dev_model::{Devices, MemDevices, Pick};
 use geometry::{DiskFault, read_session, read_super};
-use plain_reader::{FoundVolume, read_plain};
+use image_reader::{FoundVolume, read_plain};
 use std::alloc::{AllocError, Global};
 use std::test::Fail;
 use vol_format::format;

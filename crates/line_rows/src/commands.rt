@@ -1,6 +1,6 @@
 //! Arguments of the command line, and what they ask for.
 
-use command_words::{FormatRequest, Request, WordsFault, id_text, read_number, read_words};
+use command_line::{FormatRequest, Request, WordsFault, id_text, read_number, read_words};
 use std::alloc::Global;
 use std::rc::RcStr;
 use std::test::Fail;

@@ -4,7 +4,7 @@ ghost use Rattle.std.specs.Prelude.{IfOk, IsSome, OnOk};
 ghost use Rattle.std.specs.Ordering.{nat_cmp};
 ghost use Rattle.vol_types.specs.Maps.{value_at};
 
-use commit_plan::{DirtyNodes, Paths};
+use dirty_nodes::{DirtyNodes, Paths};
 use std::alloc::{AllocError, Global};
 use std::test::Fail;
 

@@ -2,7 +2,7 @@
 
 use crate::maps::{fresh, may_stand};
 use btree_map::KeyMap;
-use commit_plan::{ids_updated, split_needed, trees_after};
+use dirty_nodes::{ids_updated, split_needed, trees_after};
 use snap_tree::SnapTree;
 use std::alloc::{AllocError, Global};
 use std::test::Fail;

@@ -1,13 +1,13 @@
 //! Random events of four actors beside a plain table, and each cause that refuses a commit, at its limit and beyond.
 
 ghost use Rattle.std.specs.Prelude.{◌≡◌, IfOk, IsTrue};
-ghost use Rattle.core_memory.specs.Events.{IsOfMemory};
+ghost use Rattle.core_state.specs.Events.{IsOfMemory};
 ghost use Rattle.btree_map.specs.Trees.{AreRoots};
 ghost use Rattle.tree_nodes.specs.Levels.{IsNodeOf};
 
 use btree_map::{IndexFault, KeyMap};
-use commit_plan::NeedSplit;
-use core_memory::{Answer, Event, Failure, Halt, Memory, NoSpace, Refusal, Stage, Work};
+use dirty_nodes::NeedSplit;
+use core_state::{Answer, Event, Failure, Halt, Memory, NoSpace, Refusal, Stage, Work};
 use journal_ring::{FoundEntry, RingFull};
 use record_codec::EntryRecord;
 use std::alloc::{AllocError, Global};

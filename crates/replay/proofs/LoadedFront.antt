@@ -13,9 +13,9 @@ use Rattle.journal_ring.specs.Parts.{area_of}
 use Rattle.journal_ring.specs.declared.found.FoundEntry.{FoundEntry}
 use Rattle.key_codec.specs.Combined.{ok_is}
 use Rattle.key_codec.specs.Formats.{◌>>=◌, carried}
-use Rattle.plain_reader.specs.Answers.{IsFront}
-use Rattle.plain_reader.specs.Volumes.{entries_in, found_of, with_last}
-use Rattle.plain_reader.specs.declared.found.FoundVolume.{FoundVolume}
+use Rattle.image_reader.specs.Answers.{IsFront}
+use Rattle.image_reader.specs.Volumes.{entries_in, found_of, with_last}
+use Rattle.image_reader.specs.declared.found.FoundVolume.{FoundVolume}
 use Rattle.vol_types.specs.declared.layout.Layout.{Layout}
 use Rattle.replay.specs.Volumes.{found_in}
 use Rattle.replay.specs.declared.volume.Loaded.{Loaded}

@@ -8,10 +8,10 @@ use Rattle.image_view.specs.Found.{Found, found}
 use Rattle.image_view.specs.Trees.{nodes_of}
 use Rattle.image_view.specs.declared.fault.MountFault.{MountFault}
 use Rattle.image_view.specs.declared.fault.MountFault.TheVariants.{NoSuper, Version, Mixed, BadLayout, NoEntry, MissingEntry, BadNode, Unsound, DeviceFault, NoMemory}
-use Rattle.plain_reader.specs.Answers.{AreRagged, Finds, IsEarly, IsRead}
-use Rattle.plain_reader.specs.Faults.{failed_mount_device}
-use Rattle.plain_reader.specs.Volumes.{found_of, ragged_of}
-use Rattle.plain_reader.specs.declared.found.FoundVolume.{FoundVolume}
+use Rattle.image_reader.specs.Answers.{AreRagged, Finds, IsEarly, IsRead}
+use Rattle.image_reader.specs.Faults.{failed_mount_device}
+use Rattle.image_reader.specs.Volumes.{found_of, ragged_of}
+use Rattle.image_reader.specs.declared.found.FoundVolume.{FoundVolume}
 use Rattle.replay.specs.Answers.{IsLoaded, IsUnmade}
 use Rattle.replay.specs.Volumes.{IsVolume, found_in, trees_read}
 use Rattle.replay.specs.declared.volume.Loaded.{Loaded}

@@ -5,9 +5,9 @@ use Rattle.birth_index.specs.Births.{BirthsDiffer}
 use Rattle.btree_map.specs.Trees.{IsBtree, IsTrees, Trees, keys_in, no_cut}
 use Rattle.image_view.specs.Found.{Found}
 use Rattle.image_view.specs.Trees.{TreesRead, joined, no_btree}
-use Rattle.plain_reader.specs.Volumes.{btree_in, found_of, last_of}
-use Rattle.plain_reader.specs.declared.found.FoundBtree.{FoundBtree}
-use Rattle.plain_reader.specs.declared.found.FoundVolume.{FoundVolume}
+use Rattle.image_reader.specs.Volumes.{btree_in, found_of, last_of}
+use Rattle.image_reader.specs.declared.found.FoundBtree.{FoundBtree}
+use Rattle.image_reader.specs.declared.found.FoundVolume.{FoundVolume}
 use Rattle.tree_nodes.specs.Levels.{Levels}
 use Rattle.vol_types.specs.Btrees.{btree_code}
 use Rattle.vol_types.specs.KeyMaps.{key_map}

@@ -3,7 +3,7 @@ use Rattle.std.proofs.Common.{◌≡◌, ℕ, zero, suc, ◌<◌, List, [], ◌�
 use Rattle.std.specs.List.{AllByRecursion, flat_map}
 use Rattle.std.specs.Result.{IsErrAnd}
 use Rattle.std.proofs.lemmas.List.Elements.{recursion_from_All}
-use Rattle.plain_reader.specs.declared.found.FoundBtree.{FoundBtree}
+use Rattle.image_reader.specs.declared.found.FoundBtree.{FoundBtree}
 use Rattle.tree_keys.specs.Cuts.{Cut}
 use Rattle.tree_nodes.specs.Levels.{IsTree, Level, Levels}
 use Rattle.vol_types.specs.Maps.{IsMap}

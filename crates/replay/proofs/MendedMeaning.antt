@@ -31,7 +31,7 @@ use Rattle.vol_types.specs.declared.values.Extent.{Extent}
 use Rattle.vol_types.specs.declared.values.Value.{Value}
 use Rattle.vol_types.specs.declared.values.Value.TheVariants as values
 use Rattle.replay.specs.Beginning.{MeansTheSame}
-use Rattle.plain_reader.specs.Answers.{WasWhole}
+use Rattle.image_reader.specs.Answers.{WasWhole}
 use Rattle.replay.specs.Mending.{ChangesJournal, IsInOrderOn, IsJournalBlock, KeepsFound, KeepsMeaning}
 
 -- ---- what is touched

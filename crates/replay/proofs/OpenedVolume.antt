@@ -11,8 +11,8 @@ use Rattle.geometry.specs.Faults.{DeviceFailed, SomeFailed}
 use Rattle.image_view.specs.Found.{Found, found, with_session}
 use Rattle.image_view.specs.declared.fault.MountFault.{MountFault}
 use Rattle.image_view.specs.declared.fault.MountFault.TheVariants.{NoSuper, Version, Mixed, BadLayout, NoEntry, MissingEntry, BadNode, Unsound, DeviceFault, NoMemory}
-use Rattle.plain_reader.specs.Answers.{Finds, IsEarly}
-use Rattle.plain_reader.specs.Faults.{mount_fault_device}
+use Rattle.image_reader.specs.Answers.{Finds, IsEarly}
+use Rattle.image_reader.specs.Faults.{mount_fault_device}
 use Rattle.tree_nodes.specs.Levels.{Levels}
 use Rattle.vol_types.specs.Faults.{RoseBy}
 use Rattle.vol_types.specs.declared.layout.Layout.{Layout}

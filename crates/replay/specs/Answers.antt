@@ -3,7 +3,7 @@ use Rattle.std.specs.Prelude.{◌≡◌, ⊤, Result, Ok, Err}
 use Rattle.image_view.specs.Found.{Found}
 use Rattle.image_view.specs.declared.fault.MountFault.{MountFault}
 use Rattle.image_view.specs.declared.fault.MountFault.TheVariants.{BadNode, DeviceFault, NoMemory}
-use Rattle.plain_reader.specs.declared.found.FoundVolume.{FoundVolume}
+use Rattle.image_reader.specs.declared.found.FoundVolume.{FoundVolume}
 use Rattle.replay.specs.Volumes.{IsVolume, found_in}
 use Rattle.replay.specs.declared.volume.Loaded.{Loaded}
 

@@ -5,7 +5,7 @@ use Rattle.image_view.specs.Found.{Found, with_session}
 use Rattle.image_view.specs.declared.fault.MountFault.{MountFault}
 use Rattle.image_view.specs.declared.fault.MountFault.TheVariants.{NoEntry, DeviceFault, NoMemory}
 use Rattle.journal_ring.specs.declared.found.FoundEntry.{FoundEntry}
-use Rattle.plain_reader.specs.Answers.{IsFront}
+use Rattle.image_reader.specs.Answers.{IsFront}
 use Rattle.vol_types.specs.declared.layout.Layout.{Layout}
 use Rattle.replay.specs.declared.beginning.BeginFault.{BeginFault}
 use Rattle.replay.specs.declared.beginning.BeginFault.TheVariants as of_begin

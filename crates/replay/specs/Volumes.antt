@@ -6,9 +6,9 @@ use Rattle.btree_map.specs.Trees.{IsTrees, Trees, keys_in}
 use Rattle.image_view.specs.Found.{Found}
 use Rattle.image_view.specs.Trees.{TreesRead, all_btrees}
 use Rattle.journal_ring.specs.declared.found.FoundEntry.{FoundEntry}
-use Rattle.plain_reader.specs.Volumes.{last_of, no_entry}
-use Rattle.plain_reader.specs.declared.found.FoundBtree.{FoundBtree}
-use Rattle.plain_reader.specs.declared.found.FoundVolume.{FoundVolume}
+use Rattle.image_reader.specs.Volumes.{last_of, no_entry}
+use Rattle.image_reader.specs.declared.found.FoundBtree.{FoundBtree}
+use Rattle.image_reader.specs.declared.found.FoundVolume.{FoundVolume}
 use Rattle.replay.specs.declared.volume.Loaded.{Loaded}
 use Rattle.tree_keys.specs.Cuts.{Cut, IsCut}
 use Rattle.tree_nodes.specs.Levels.{IsTree, level_of}

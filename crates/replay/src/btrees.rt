@@ -9,7 +9,7 @@ ghost use Rattle.vol_types.specs.Positions.{pos_cmp};
 ghost use Rattle.vol_types.specs.Ranges.{IsAbove, Rise};
 
 use btree_map::{KeyMap, NotAKeyMap};
-use plain_reader::FoundBtree;
+use image_reader::FoundBtree;
 use std::alloc::{AllocError, AllocFailed, Global};
 use std::collections::BTreeMap;
 use tree_keys::TreeKeys;

@@ -1,5 +1,5 @@
 ghost use Rattle.std.specs.Prelude.{◌≡◌};
-ghost use Rattle.plain_reader.specs.Volumes.{last_of};
+ghost use Rattle.image_reader.specs.Volumes.{last_of};
 ghost use Rattle.replay.specs.Volumes.{first_of};
 
 use crate::Loaded;

@@ -6,7 +6,7 @@ ghost use Rattle.dev_model.specs.Frames.{AreAfterCalls, GoOn};
 ghost use Rattle.geometry.specs.Faults.{failed_device};
 ghost use Rattle.geometry.specs.Layouts.{is_layout_of};
 ghost use Rattle.image_view.specs.Found.{Found};
-ghost use Rattle.plain_reader.specs.Answers.{WasWhole};
+ghost use Rattle.image_reader.specs.Answers.{WasWhole};
 ghost use Rattle.replay.specs.Mending.{BringsNoBlock, ChangesJournal, HasMended, IsInOrderOn, KeepsFound, KeepsMeaning};
 
 use dev_model::Devices;

@@ -7,9 +7,9 @@ ghost use Rattle.geometry.specs.Layouts.{is_layout_of};
 ghost use Rattle.image_view.specs.Found.{Found, found};
 ghost use Rattle.image_view.specs.Trees.{nodes_of};
 ghost use Rattle.image_view.specs.declared.fault.MountFault.{MountFault as AFault};
-ghost use Rattle.plain_reader.specs.Answers.{AreRagged, Finds, IsEarly, IsFront, NodesAgree, WasWhole};
-ghost use Rattle.plain_reader.specs.Faults.{failed_mount_device};
-ghost use Rattle.plain_reader.specs.Volumes.{found_of, ragged_of};
+ghost use Rattle.image_reader.specs.Answers.{AreRagged, Finds, IsEarly, IsFront, NodesAgree, WasWhole};
+ghost use Rattle.image_reader.specs.Faults.{failed_mount_device};
+ghost use Rattle.image_reader.specs.Volumes.{found_of, ragged_of};
 ghost use Rattle.replay.specs.Answers.{IsLoaded, IsUnmade};
 ghost use Rattle.replay.specs.Volumes.{found_in};
 
@@ -18,7 +18,7 @@ use crate::{Loaded, found_btrees_are_a_key_map};
 use dev_model::Devices;
 use image_view::MountFault;
 use journal_ring::FoundEntry;
-use plain_reader::{FoundVolume, read_plain};
+use image_reader::{FoundVolume, read_plain};
 use std::alloc::Global;
 use vol_types::{Listing, Place};
 

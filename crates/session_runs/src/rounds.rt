@@ -3,7 +3,7 @@
 use crate::deeds::{Deed, devices_behind};
 use crate::opened::Names;
 use dev_model::{MemDevices, Pick};
-use plain_reader::read_plain;
+use image_reader::read_plain;
 use std::alloc::Global;
 use std::test::Fail;
 

@@ -6,12 +6,12 @@ use Rattle.dev_model.specs.Devices.{DevicesState}
 use Rattle.plain_forest.specs.Forest.{Forest}
 use Rattle.forest_ops.specs.History.{History, commit_count}
 use Rattle.forest_ops.specs.HistoryLaws.{EachEntry-none}
-use Rattle.run_history.specs.Acknowledged.{synced_count}
+use Rattle.forest_ops.specs.Acknowledged.{synced_count}
 use Rattle.forest_ops.specs.declared.operation.Reply.{Reply}
-use Rattle.script_lines.specs.Replies.{end_line_of}
-use Rattle.script_lines.specs.declared.reading.Line.{Line}
-use Rattle.run_history.specs.declared.acks.Ack.{Ack}
-use Rattle.run_history.specs.Fits.{last_entry}
+use Rattle.script_text.specs.Replies.{end_line_of}
+use Rattle.script_text.specs.declared.reading.Line.{Line}
+use Rattle.forest_ops.specs.declared.acks.Ack.{Ack}
+use Rattle.forest_ops.specs.Fits.{last_entry}
 use Rattle.text_io.specs.StreamLaws.{gains_nothing}
 use Rattle.vol_session.specs.Sessions.{SessionState}
 use Rattle.shell.specs.declared.tally.Tally.{Tally}

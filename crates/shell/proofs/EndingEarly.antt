@@ -3,13 +3,13 @@ use Rattle.std.proofs.Common.{◌≡◌, ◌⊎◌, ◌≤◌, ℕ, List, [], le
 use Rattle.vol_types.specs.declared.layout.Layout.{Layout}
 use Rattle.forest_ops.specs.History.{History, IsLegal}
 use Rattle.forest_ops.specs.HistoryLaws.{IsLegal-none}
-use Rattle.command_words.specs.declared.request.WordsFault.{WordsFault}
-use Rattle.command_words.specs.declared.request.WordsFault.TheVariants as of_words
-use Rattle.run_history.specs.declared.acks.Ack.{Ack}
+use Rattle.command_line.specs.declared.request.WordsFault.{WordsFault}
+use Rattle.command_line.specs.declared.request.WordsFault.TheVariants as of_words
+use Rattle.forest_ops.specs.declared.acks.Ack.{Ack}
 use Rattle.dev_model.specs.Devices.{now}
 use Rattle.plain_forest.specs.Forest.{Forest}
 use Rattle.image_view.specs.Found.{Found}
-use Rattle.run_safety.specs.Runs.{MayRun, RunSurvives}
+use Rattle.vol_session.specs.Runs.{MayRun, RunSurvives}
 use Rattle.vol_core.specs.Safety.{nothing_found}
 use Rattle.vol_session.specs.Marks.{forest_found}
 use Rattle.shell.specs.declared.early_end.EarlyEnd.{EarlyEnd}

@@ -13,8 +13,8 @@ use Rattle.forest_ops.specs.declared.operation.Op.TheVariants.{Sync}
 use Rattle.forest_ops.specs.declared.operation.Reply.{Reply}
 use Rattle.forest_ops.specs.declared.operation.Reply.TheVariants.{Okay, More, Synced, Content, List as Listed, File, Dir, SubNames, Used, Refused, NoSpace, DeviceFault, DataLost, Halted, Spent, NoMemory}
 use Rattle.forest_ops.specs.declared.operation.Entry.{Entry}
-use Rattle.run_history.specs.Acknowledged.{synced_count}
-use Rattle.run_history.specs.Fits.{AcknowledgesAtLeast, AreOfPhase, Fits, LineReply, entry_by, entry_of, joined, last_entry, phases_of, with_line}
+use Rattle.forest_ops.specs.Acknowledged.{synced_count}
+use Rattle.forest_ops.specs.Fits.{AcknowledgesAtLeast, AreOfPhase, Fits, LineReply, entry_by, entry_of, joined, last_entry, phases_of, with_line}
 use Rattle.shell.specs.Outcome.{Answered, entries_of, entry_of as answered_entry, line_reply}
 use Rattle.shell.specs.Phases.{AreSyncsCounted}
 

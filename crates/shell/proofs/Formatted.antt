@@ -8,8 +8,8 @@ use Rattle.dev_model.specs.Frames.{AreAfterCalls}
 use Rattle.geometry.specs.Faults.{fault_device}
 use Rattle.geometry.specs.declared.fault.DiskFault.{DiskFault}
 use Rattle.forest_ops.specs.History.{History}
-use Rattle.run_history.specs.declared.acks.Ack.{Ack}
-use Rattle.run_safety.specs.RunLaws.{FreshLeavesRoom, FreshMayRun}
+use Rattle.forest_ops.specs.declared.acks.Ack.{Ack}
+use Rattle.vol_session.specs.RunLaws.{FreshLeavesRoom, FreshMayRun}
 use Rattle.vol_types.specs.Layouts.{is_layout}
 use Rattle.vol_format.specs.Formatting.{FormatSurvives, IsFormatted, IsFresh}
 use Rattle.shell.specs.declared.early_end.EarlyEnd.{EarlyEnd}

@@ -9,12 +9,12 @@ use Rattle.geometry.specs.Faults.{DeviceFailed, SomeFailed}
 use Rattle.image_view.specs.Found.{Found, found}
 use Rattle.image_view.specs.declared.fault.MountFault.{MountFault}
 use Rattle.image_view.specs.declared.fault.MountFault.TheVariants as faults
-use Rattle.plain_reader.specs.Answers.{IsEarly}
-use Rattle.plain_reader.specs.Faults.{mount_fault_device}
+use Rattle.image_reader.specs.Answers.{IsEarly}
+use Rattle.image_reader.specs.Faults.{mount_fault_device}
 use Rattle.replay.proofs.OpenedVolume.{stay_means}
-use Rattle.run_history.specs.declared.acks.Ack.{Ack}
-use Rattle.run_safety.specs.RunLaws.{OpeningIsSafe}
-use Rattle.run_safety.specs.Runs.{MayRun, RunSurvives}
+use Rattle.forest_ops.specs.declared.acks.Ack.{Ack}
+use Rattle.vol_session.specs.RunLaws.{OpeningIsSafe}
+use Rattle.vol_session.specs.Runs.{MayRun, RunSurvives}
 use Rattle.vol_core.specs.Safety.{nothing_found}
 use Rattle.vol_info.specs.Readings.{IsFaultOf}
 use Rattle.vol_session.specs.Marks.{forest_found}

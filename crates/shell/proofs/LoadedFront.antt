@@ -11,8 +11,8 @@ use Rattle.journal_ring.specs.Parts.{area_of}
 use Rattle.journal_ring.specs.declared.found.FoundEntry.{FoundEntry}
 use Rattle.key_codec.specs.Combined.{ok_is}
 use Rattle.key_codec.specs.Formats.{◌>>=◌, carried}
-use Rattle.plain_reader.specs.Answers.{IsFront}
-use Rattle.plain_reader.specs.Volumes.{entries_in, with_last}
+use Rattle.image_reader.specs.Answers.{IsFront}
+use Rattle.image_reader.specs.Volumes.{entries_in, with_last}
 use Rattle.vol_types.specs.declared.layout.Layout.{Layout}
 
 -- The layout, the session and the needed entries are those of what is found.

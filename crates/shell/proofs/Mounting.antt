@@ -8,8 +8,8 @@ use Rattle.geometry.specs.Faults.{DeviceFailed, SomeFailed}
 use Rattle.image_view.specs.Found.{Found, found, with_session}
 use Rattle.image_view.specs.declared.fault.MountFault.{MountFault}
 use Rattle.image_view.specs.declared.fault.MountFault.TheVariants as faults
-use Rattle.plain_reader.specs.Answers.{Finds, IsEarly, NodesAgree}
-use Rattle.plain_reader.specs.Faults.{mount_fault_device}
+use Rattle.image_reader.specs.Answers.{Finds, IsEarly, NodesAgree}
+use Rattle.image_reader.specs.Faults.{mount_fault_device}
 use Rattle.replay.specs.Beginning.{begin_fault_device}
 use Rattle.replay.specs.Mending.{IsInOrderOn, IsReady}
 use Rattle.replay.specs.Opening.{in_next_session}

@@ -6,10 +6,10 @@ use Rattle.dev_model.specs.Disk.{IsDisk}
 use Rattle.dev_model.specs.Frames.{GoOn}
 use Rattle.forest_ops.specs.History.{History}
 use Rattle.image_view.specs.Found.{Found}
-use Rattle.run_history.specs.declared.acks.Ack.{Ack}
-use Rattle.run_safety.specs.RunLaws.{OpeningIsSafe, RunsAreSafe, SessionsBeginWell}
-use Rattle.run_safety.specs.Runs.{RunSurvives}
-use Rattle.script_lines.specs.declared.reading.Line.{Line}
+use Rattle.forest_ops.specs.declared.acks.Ack.{Ack}
+use Rattle.vol_session.specs.RunLaws.{OpeningIsSafe, RunsAreSafe, SessionsBeginWell}
+use Rattle.vol_session.specs.Runs.{RunSurvives}
+use Rattle.script_text.specs.declared.reading.Line.{Line}
 use Rattle.vol_session.specs.Marks.{forest_found}
 use Rattle.vol_types.specs.declared.space.Short.{Short}
 use Rattle.shell.specs.declared.early_end.EarlyEnd.{EarlyEnd}

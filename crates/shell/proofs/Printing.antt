@@ -5,7 +5,7 @@ use Rattle.std.proofs.Math.Seq.{take-append-add, take-append_seam}
 use Rattle.std.proofs.lemmas.List.{length-append, take-append-drop, take-append-le, take_all}
 use Rattle.vol_types.specs.Faults.{CountsFaults, RoseBy}
 use Rattle.text_io.specs.Streams.{GivesPrefix}
-use Rattle.script_lines.specs.Replies.{end_line_of, reply_line_of}
+use Rattle.script_text.specs.Replies.{end_line_of, reply_line_of}
 use Rattle.forest_ops.specs.declared.operation.Reply.{Reply}
 use Rattle.shell.specs.Causes.{IsCut}
 use Rattle.shell.specs.Printing.{Prints, has_ended}

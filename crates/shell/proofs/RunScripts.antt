@@ -9,10 +9,10 @@ use Rattle.std.proofs.lemmas.Option.{none-some as none_some}
 use Rattle.forest_ops.specs.declared.operation.Op.{Op}
 use Rattle.forest_ops.specs.declared.operation.Op.TheVariants as op
 use Rattle.fs_plan.specs.Plans.{is_planned}
-use Rattle.script_lines.specs.Operations.{verb_of}
-use Rattle.script_lines.specs.Scripts.{IsLine, IsScript, saying_from}
-use Rattle.script_lines.specs.Verbs.{is_supported}
-use Rattle.script_lines.specs.declared.reading.Line.{Line}
+use Rattle.script_text.specs.Operations.{verb_of}
+use Rattle.script_text.specs.Scripts.{IsLine, IsScript, saying_from}
+use Rattle.script_text.specs.Verbs.{is_supported}
+use Rattle.script_text.specs.declared.reading.Line.{Line}
 use Rattle.shell.specs.Lines.{AreRunLines, IsRunIfAny, IsRunLine, first_of_other, is_of_other}
 
 -- the operations of the verbs that are run can be planned

@@ -21,18 +21,18 @@ use Rattle.forest_ops.specs.declared.operation.Reply.TheVariants.{Okay, More, Sy
 use Rattle.forest_ops.specs.declared.operation.Entry.{Entry}
 use Rattle.text_io.specs.Streams.{GainsBy, GainsTextBy, GivesPrefix}
 use Rattle.text_io.specs.StreamLaws.{gains_nothing, gains_text, gains_text_still, gains_then}
-use Rattle.script_lines.specs.declared.reading.Line.{Line}
-use Rattle.core_memory.specs.Volumes.{Volume}
-use Rattle.run_history.specs.Acknowledged.{synced_count}
+use Rattle.script_text.specs.declared.reading.Line.{Line}
+use Rattle.core_state.specs.Volumes.{Volume}
+use Rattle.forest_ops.specs.Acknowledged.{synced_count}
 use Rattle.vol_session.specs.Sessions.{SessionState}
 use Rattle.volume.specs.Answers.{HasCause, IsAnswered, acks_after}
-use Rattle.run_history.specs.Fits.{entry_by, entry_if_any, last_entry}
+use Rattle.forest_ops.specs.Fits.{entry_by, entry_if_any, last_entry}
 use Rattle.shell.specs.declared.tally.Tally.{Tally}
 use Rattle.shell.specs.declared.page.Page.{Page}
 use Rattle.shell.specs.Printing.{Prints, has_ended}
 use Rattle.shell.specs.Output.{WereMade}
 use Rattle.shell.proofs.Printing.{all_given, all_or_part}
-use Rattle.run_history.specs.declared.acks.Ack.{Ack}
+use Rattle.forest_ops.specs.declared.acks.Ack.{Ack}
 use Rattle.shell.specs.Outcome.{Answered, ack_by, ack_of, acknowledges, entry_of, reply_line, reply_line_by, reply_lines}
 use Rattle.shell.specs.Causes.{is_no_memory}
 use Rattle.shell.specs.Phases.{AddsEntries, AreSyncsCounted, AreMade, Gains, RunsLines, tally_after, tally_with}

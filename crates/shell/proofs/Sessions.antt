@@ -15,16 +15,16 @@ use Rattle.image_view.specs.Found.{Found, MountsAs, Volume, found, read_in, volu
 use Rattle.image_view.specs.declared.fault.MountFault.{MountFault}
 use Rattle.image_view.specs.declared.fault.MountFault.TheVariants.{NoEntry}
 use Rattle.key_meaning.specs.Forest.{forest_in}
-use Rattle.plain_reader.specs.Answers.{NodesAgree}
+use Rattle.image_reader.specs.Answers.{NodesAgree}
 use Rattle.replay.specs.Beginning.{MeansTheSame}
 use Rattle.replay.specs.Mending.{IsInOrderOn, IsUntorn, KeepsMeaning}
 use Rattle.replay.specs.Opening.{in_next_session}
-use Rattle.run_history.specs.Acknowledged.{AreAcks, RiseWithin}
-use Rattle.run_history.specs.Failures.{Halts, HaveCauses}
-use Rattle.run_history.specs.declared.acks.Ack.{Ack}
-use Rattle.run_history.specs.declared.halt.Halt.{Halt}
-use Rattle.run_safety.specs.RunLaws.{OpeningIsSafe, RunsAreSafe, SessionsBeginWell, in_next}
-use Rattle.run_safety.specs.Runs.{MayRun, RunSurvives}
+use Rattle.forest_ops.specs.Acknowledged.{AreAcks, RiseWithin}
+use Rattle.forest_ops.specs.Failures.{Halts, HaveCauses}
+use Rattle.forest_ops.specs.declared.acks.Ack.{Ack}
+use Rattle.forest_ops.specs.declared.halt.Halt.{Halt}
+use Rattle.vol_session.specs.RunLaws.{OpeningIsSafe, RunsAreSafe, SessionsBeginWell, in_next}
+use Rattle.vol_session.specs.Runs.{MayRun, RunSurvives}
 use Rattle.vol_core.specs.Room.{LeavesRoom}
 use Rattle.vol_session.specs.Marks.{forest_found}
 use Rattle.vol_session.specs.Survivors.{BeginsWell, Survive}

@@ -10,10 +10,10 @@ use Rattle.std.proofs.lemmas.Slice.Zip.{AllZip-long}
 use Rattle.forest_ops.specs.declared.operation.Entry.{Entry}
 use Rattle.forest_ops.specs.declared.operation.Op.TheVariants.{Sync}
 use Rattle.forest_ops.specs.declared.operation.Reply.{Reply}
-use Rattle.run_history.specs.Fits.{entry_if_any, last_entry}
-use Rattle.script_lines.specs.Lines.{is_skipped, lines_of}
-use Rattle.script_lines.specs.Scripts.{IsLine, saying_from}
-use Rattle.script_lines.specs.declared.reading.Line.{Line}
+use Rattle.forest_ops.specs.Fits.{entry_if_any, last_entry}
+use Rattle.script_text.specs.Lines.{is_skipped, lines_of}
+use Rattle.script_text.specs.Scripts.{IsLine, saying_from}
+use Rattle.script_text.specs.declared.reading.Line.{Line}
 use Rattle.shell.specs.Outcome.{Answered, entries_of, entry_of}
 use Rattle.shell.specs.Output.{GaveScript}
 

@@ -10,16 +10,16 @@ use Rattle.forest_ops.specs.declared.operation.Reply.{Reply}
 use Rattle.forest_ops.specs.declared.operation.Reply.TheVariants.{DeviceFault, Halted, NoMemory, Spent}
 use Rattle.forest_ops.specs.declared.operation.Entry.{Entry}
 use Rattle.forest_ops.specs.declared.operation.Op.TheVariants.{Sync}
-use Rattle.script_lines.specs.Lines.{lines_of}
-use Rattle.script_lines.specs.Scripts.{IsFirstBad}
-use Rattle.script_lines.specs.declared.reading.Line.{Line}
+use Rattle.script_text.specs.Lines.{lines_of}
+use Rattle.script_text.specs.Scripts.{IsFirstBad}
+use Rattle.script_text.specs.declared.reading.Line.{Line}
 use Rattle.geometry.specs.Faults.{fault_device}
 use Rattle.geometry.specs.declared.fault.DiskFault.{DiskFault}
-use Rattle.run_history.specs.Failures.{Halts, HaveCauses, NoCommitAfterHalt}
-use Rattle.run_history.specs.declared.halt.Halt.{Halt}
+use Rattle.forest_ops.specs.Failures.{Halts, HaveCauses, NoCommitAfterHalt}
+use Rattle.forest_ops.specs.declared.halt.Halt.{Halt}
 use Rattle.plain_forest.specs.Forest.{Forest}
 use Rattle.image_view.specs.Found.{Found}
-use Rattle.run_safety.specs.Runs.{MayRun}
+use Rattle.vol_session.specs.Runs.{MayRun}
 use Rattle.vol_core.specs.Room.{LeavesRoom}
 use Rattle.vol_session.specs.Numbers.{IsFarFromSpent}
 use Rattle.vol_session.specs.Sessions.{IsExact}

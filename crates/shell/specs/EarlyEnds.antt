@@ -1,10 +1,10 @@
 -- Which early end a fault leads to.
 use Rattle.text_io.specs.declared.source.TakeFault.{TakeFault}
 use Rattle.text_io.specs.declared.source.TakeFault.TheVariants.{ReadFault, TooLong as TextTooLong, NoMemory as NoTextMemory}
-use Rattle.script_lines.specs.declared.reading.ScriptFault.{ScriptFault}
-use Rattle.script_lines.specs.declared.reading.ScriptFault.TheVariants.{Bad, NoMemory as NoScriptMemory}
-use Rattle.command_words.specs.declared.request.WordsFault.{WordsFault}
-use Rattle.command_words.specs.declared.request.WordsFault.TheVariants as of_words
+use Rattle.script_text.specs.declared.reading.ScriptFault.{ScriptFault}
+use Rattle.script_text.specs.declared.reading.ScriptFault.TheVariants.{Bad, NoMemory as NoScriptMemory}
+use Rattle.command_line.specs.declared.request.WordsFault.{WordsFault}
+use Rattle.command_line.specs.declared.request.WordsFault.TheVariants as of_words
 use Rattle.geometry.specs.declared.fault.DiskFault.{DiskFault}
 use Rattle.geometry.specs.declared.fault.DiskFault.TheVariants as of_disk
 use Rattle.image_view.specs.declared.fault.MountFault.{MountFault}

@@ -3,8 +3,8 @@ use Rattle.std.specs.Prelude.{◌≡◌, ℕ, List, []}
 use Rattle.dev_model.specs.Devices.{DevicesState, now}
 use Rattle.forest_ops.specs.History.{IsLegal}
 use Rattle.image_view.specs.Found.{Found}
-use Rattle.run_history.specs.Acknowledged.{AreAcks}
-use Rattle.run_safety.specs.Runs.{MayRun}
+use Rattle.forest_ops.specs.Acknowledged.{AreAcks}
+use Rattle.vol_session.specs.Runs.{MayRun}
 use Rattle.vol_session.specs.Marks.{forest_found}
 use Rattle.shell.specs.Outcome.{Outcome, early_end_of}
 use Rattle.shell.specs.Runs.{Run}

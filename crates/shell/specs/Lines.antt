@@ -2,10 +2,10 @@
 use Rattle.std.specs.Prelude.{◌≡◌, ℕ, Bool, true, not, ◌&&◌, ◌==◌, All, List, [], ◌∷◌, Option, Some, None, is_some, if◌then◌else◌}
 use Rattle.forest_ops.specs.declared.operation.Op.{Op}
 use Rattle.fs_plan.specs.Plans.{is_planned}
-use Rattle.script_lines.specs.Scripts.{IsScript}
-use Rattle.script_lines.specs.declared.reading.Line.{Line}
-use Rattle.script_lines.specs.declared.reading.LineFault.{LineFault}
-use Rattle.script_lines.specs.declared.reading.LineFault.TheVariants.{BadClient}
+use Rattle.script_text.specs.Scripts.{IsScript}
+use Rattle.script_text.specs.declared.reading.Line.{Line}
+use Rattle.script_text.specs.declared.reading.LineFault.{LineFault}
+use Rattle.script_text.specs.declared.reading.LineFault.TheVariants.{BadClient}
 
 -- the operation can be planned, and is client 0's, if there is one
 abbrev pub IsRunIfAny : ℕ → Option Op → Type 0

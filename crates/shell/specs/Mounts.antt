@@ -8,7 +8,7 @@ use Rattle.image_view.specs.Found.{Found, found, with_session}
 use Rattle.image_view.specs.declared.fault.MountFault.{MountFault}
 use Rattle.image_view.specs.declared.fault.MountFault.TheVariants as faults
 use Rattle.replay.specs.Mending.{IsInOrderOn, IsReady, KeepsMeaning, KeepsPast}
-use Rattle.plain_reader.specs.Answers.{NodesAgree}
+use Rattle.image_reader.specs.Answers.{NodesAgree}
 use Rattle.replay.specs.Opening.{IsSpent, in_next_session}
 use Rattle.shell.specs.EarlyEnds.{end_of_mount}
 use Rattle.shell.specs.declared.early_end.Refusal.{Refusal}

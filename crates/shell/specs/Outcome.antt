@@ -8,12 +8,12 @@ use Rattle.forest_ops.specs.declared.operation.Op.{Op}
 use Rattle.forest_ops.specs.declared.operation.Reply.{Reply}
 use Rattle.forest_ops.specs.declared.operation.Reply.TheVariants.{Synced}
 use Rattle.forest_ops.specs.declared.operation.Entry.{Entry}
-use Rattle.run_history.specs.declared.acks.Ack.{Ack}
-use Rattle.run_history.specs.Fits.{LineReply, entry_by, last_entry}
-use Rattle.script_lines.specs.Replies.{reply_line_of, end_line_of}
-use Rattle.script_lines.specs.declared.reading.Line.{Line}
-use Rattle.script_lines.specs.declared.reading.LineFault.{LineFault}
-use Rattle.script_lines.specs.declared.reading.LineFault.TheVariants.{BadVerb, BadArgs, BadPath, BadClient}
+use Rattle.forest_ops.specs.declared.acks.Ack.{Ack}
+use Rattle.forest_ops.specs.Fits.{LineReply, entry_by, last_entry}
+use Rattle.script_text.specs.Replies.{reply_line_of, end_line_of}
+use Rattle.script_text.specs.declared.reading.Line.{Line}
+use Rattle.script_text.specs.declared.reading.LineFault.{LineFault}
+use Rattle.script_text.specs.declared.reading.LineFault.TheVariants.{BadVerb, BadArgs, BadPath, BadClient}
 use Rattle.uuid.specs.Text.{hyphenated_text, lower}
 use Rattle.vol_types.specs.declared.layout.Layout.{Layout}
 use Rattle.geometry.specs.declared.fault.DiskFault.{DiskFault}

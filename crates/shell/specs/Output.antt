@@ -4,11 +4,11 @@ use Rattle.text_io.specs.Streams.{GainsTextBy, GivesPrefix}
 use Rattle.plain_forest.specs.Forest.{Forest}
 use Rattle.forest_ops.specs.History.{History}
 use Rattle.forest_ops.specs.declared.operation.Reply.{Reply}
-use Rattle.run_history.specs.declared.acks.Ack.{Ack}
-use Rattle.script_lines.specs.Lines.{lines_of}
-use Rattle.script_lines.specs.Scripts.{IsScript}
-use Rattle.script_lines.specs.declared.reading.Line.{Line}
-use Rattle.run_history.specs.Fits.{Fits}
+use Rattle.forest_ops.specs.declared.acks.Ack.{Ack}
+use Rattle.script_text.specs.Lines.{lines_of}
+use Rattle.script_text.specs.Scripts.{IsScript}
+use Rattle.script_text.specs.declared.reading.Line.{Line}
+use Rattle.forest_ops.specs.Fits.{Fits}
 use Rattle.shell.specs.Lines.{first_of_other}
 use Rattle.shell.specs.Outcome.{Outcome, EndedEarly, Ran, Formatted, Informed, Answered, acks_of, acknowledges, early_line, format_line, entries_of, line_reply, reply_line, text_of}
 use Rattle.shell.specs.Runs.{Run, Streams}

@@ -6,10 +6,10 @@ use Rattle.dev_model.specs.Devices.{DevicesState}
 use Rattle.dev_model.specs.Frames.{AreAfterCalls, AreOnlyRead, GoOn}
 use Rattle.plain_forest.specs.Forest.{Forest}
 use Rattle.text_io.specs.Streams.{GainsBy, GainsTextBy, GivesPrefix}
-use Rattle.script_lines.specs.Replies.{end_line_of}
+use Rattle.script_text.specs.Replies.{end_line_of}
 use Rattle.forest_ops.specs.History.{EachEntry, History, IsLegal, commit_count}
 use Rattle.forest_ops.specs.declared.operation.Reply.{Reply}
-use Rattle.script_lines.specs.declared.reading.Line.{Line}
+use Rattle.script_text.specs.declared.reading.Line.{Line}
 use Rattle.vol_session.specs.Marks.{forest_found}
 use Rattle.volume.specs.States.{AreUnspent}
 use Rattle.vol_session.specs.Sessions.{IsExact, SessionState}
@@ -17,14 +17,14 @@ use Rattle.vol_session.specs.Survivors.{BeginsWell, Survive}
 use Rattle.vol_types.specs.declared.layout.Layout.{Layout}
 use Rattle.geometry.specs.declared.fault.DiskFault.{DiskFault}
 use Rattle.vol_format.specs.Formatting.{FormatSurvives}
-use Rattle.run_history.specs.declared.acks.Ack.{Ack}
+use Rattle.forest_ops.specs.declared.acks.Ack.{Ack}
 use Rattle.shell.specs.declared.tally.Tally.{Tally}
 use Rattle.shell.specs.declared.page.Page.{Page}
 use Rattle.image_view.specs.Found.{Found}
-use Rattle.run_history.specs.Acknowledged.{AreAcks, synced_count}
-use Rattle.run_history.specs.Failures.{Halts, HaveCauses, NoCommitAfterHalt}
-use Rattle.run_history.specs.declared.halt.Halt.{Halt}
-use Rattle.run_history.specs.Fits.{last_entry}
+use Rattle.forest_ops.specs.Acknowledged.{AreAcks, synced_count}
+use Rattle.forest_ops.specs.Failures.{Halts, HaveCauses, NoCommitAfterHalt}
+use Rattle.forest_ops.specs.declared.halt.Halt.{Halt}
+use Rattle.forest_ops.specs.Fits.{last_entry}
 use Rattle.geometry.specs.Faults.{fault_device}
 use Rattle.shell.specs.declared.early_end.EarlyEnd.{EarlyEnd}
 use Rattle.shell.specs.EarlyEnds.{end_of_disk}

@@ -3,7 +3,7 @@ use Rattle.std.specs.Prelude.{ℕ, List, Option}
 use Rattle.vol_types.specs.declared.space.Short.{Short}
 use Rattle.dev_model.specs.Devices.{DevicesState}
 use Rattle.forest_ops.specs.History.{History}
-use Rattle.run_history.specs.declared.acks.Ack.{Ack}
+use Rattle.forest_ops.specs.declared.acks.Ack.{Ack}
 use Rattle.shell.specs.declared.early_end.EarlyEnd.{EarlyEnd}
 
 -- what the source had left, before a run and after it, and what the sink held, where they tell it

@@ -7,9 +7,9 @@ use Rattle.dev_model.specs.Crashes.{EachCrashNow}
 use Rattle.dev_model.specs.Frames.{AreOnlyRead, GoOn}
 use Rattle.replay.specs.Mending.{IsUntorn}
 use Rattle.forest_ops.specs.History.{History}
-use Rattle.run_history.specs.declared.acks.Ack.{Ack}
+use Rattle.forest_ops.specs.declared.acks.Ack.{Ack}
 use Rattle.image_view.specs.Found.{Found}
-use Rattle.run_safety.specs.Runs.{MayRun, RunSurvives}
+use Rattle.vol_session.specs.Runs.{MayRun, RunSurvives}
 use Rattle.vol_format.specs.Formatting.{FormatSurvives, IsFormatted, IsFresh}
 use Rattle.vol_format.specs.Fresh.{fresh_found}
 use Rattle.vol_core.specs.Room.{LeavesRoom}

@@ -2,10 +2,10 @@
 use Rattle.std.specs.Prelude.{◌≡◌, ℕ, List, Option, Some, None, replicate, length, if◌then◌else◌, option_and_then}
 use Rattle.vol_types.specs.declared.layout.Layout.{Layout}
 use Rattle.vol_types.specs.Layouts.{is_layout}
-use Rattle.command_words.specs.Requests.{request_of}
-use Rattle.command_words.specs.declared.request.FormatRequest.{FormatRequest}
-use Rattle.command_words.specs.declared.request.Request.{Request}
-use Rattle.command_words.specs.declared.request.Request.TheVariants as requests
+use Rattle.command_line.specs.Requests.{request_of}
+use Rattle.command_line.specs.declared.request.FormatRequest.{FormatRequest}
+use Rattle.command_line.specs.declared.request.Request.{Request}
+use Rattle.command_line.specs.declared.request.Request.TheVariants as requests
 use Rattle.shell.specs.declared.task.Task.{Task}
 use Rattle.shell.specs.declared.task.Task.TheVariants.{Run, Format, Info}
 

@@ -3,12 +3,12 @@ ghost use Rattle.vol_types.specs.Faults.{CountsFaults};
 ghost use Rattle.text_io.specs.Streams.{GivesPrefix};
 ghost use Rattle.shell.specs.Outcome.{bad_end, early_line, early_status, refusal_line};
 
-use command_words::WordsFault;
+use command_line::WordsFault;
 use dev_model::Devices;
 use geometry::DiskFault;
 use image_view::MountFault;
 use itoa::Buffer;
-use script_lines::{LineFault, ScriptFault};
+use script_text::{LineFault, ScriptFault};
 use text_io::{Sink, TakeFault, give_all};
 use vol_types::{Failed, Place};
 

@@ -1,7 +1,7 @@
 use crate::early_end::EarlyEnd;
 use crate::shorts::Shorts;
 use forest_ops::Trace;
-use run_history::Acks;
+use forest_ops::Acks;
 
 /// How a run ended.
 #[derive(Drop)]

@@ -1,7 +1,7 @@
 ghost use Rattle.std.specs.Prelude.{◌≡◌, ◌≤◌, IfOk, length};
 ghost use Rattle.shell.specs.Outcome.{formatted_line};
 
-use command_words::id_text;
+use command_line::id_text;
 use std::alloc::{AllocError, Global};
 use vol_types::{Bytes, Layout};
 

@@ -1,6 +1,6 @@
 ghost use Rattle.std.specs.Prelude.{◌≡◌, ◌<◌, ◌++◌, [], true, false, ℕ, List, length};
 ghost use Rattle.text_io.specs.Streams.{GainsBy};
-ghost use Rattle.script_lines.specs.Replies.{reply_line_of, end_line_of};
+ghost use Rattle.script_text.specs.Replies.{reply_line_of, end_line_of};
 ghost use Rattle.shell.specs.Outcome.{acknowledges};
 ghost use Rattle.shell.specs.Printing.{Prints, has_ended, page_status};
 ghost use Rattle.shell.specs.Phases.{tally_with};
@@ -8,7 +8,7 @@ ghost use Rattle.shell.specs.Phases.{tally_with};
 use crate::tally::Tally;
 use dev_model::Devices;
 use forest_ops::Reply;
-use script_lines::{end_line, reply_line};
+use script_text::{end_line, reply_line};
 use std::alloc::Global;
 use text_io::{Sink, give_all};
 use vol_types::Bytes;

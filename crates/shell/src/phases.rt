@@ -1,7 +1,7 @@
 ghost use Rattle.std.specs.Prelude.{◌≡◌, [], ◌∷◌, Some, IfOk, OnErr, true};
 ghost use Rattle.std.specs.List.{cons_option};
 ghost use Rattle.fs_plan.specs.Plans.{is_planned};
-ghost use Rattle.run_history.specs.Fits.{entry_if_any};
+ghost use Rattle.forest_ops.specs.Fits.{entry_if_any};
 ghost use Rattle.vol_session.specs.Marks.{forest_found};
 ghost use Rattle.shell.specs.Lines.{AreRunLines, IsRunLine};
 ghost use Rattle.shell.specs.Outcome.{ack_by};
@@ -10,7 +10,7 @@ ghost use Rattle.shell.specs.Phases.{AddsEntries, RunsEnd, RunsLines, RunsSync};
 use crate::page::{Page, give_lines, print_end, print_reply};
 use dev_model::{BEFORE_COMMIT, Devices, Gate};
 use forest_ops::{Op, Reply};
-use script_lines::Line;
+use script_text::Line;
 use std::alloc::{AllocError, Global};
 use text_io::Sink;
 use vol_core::Opening;

@@ -12,7 +12,7 @@ use crate::early_end::EarlyEnd;
 use crate::mounted::mount;
 use dev_model::Devices;
 use replay::Loaded;
-use script_lines::{Line, LineFault, Script, read_script};
+use script_text::{Line, LineFault, Script, read_script};
 use std::alloc::Global;
 use text_io::{Source, take_all};
 use vol_types::Bytes;

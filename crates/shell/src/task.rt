@@ -3,7 +3,7 @@ ghost use Rattle.std.specs.Rc.{rc_str_bytes};
 ghost use Rattle.vol_types.specs.Layouts.{is_layout};
 ghost use Rattle.shell.specs.Tasks.{layout_asked, task_of};
 
-use command_words::{FormatRequest, Request, WordsFault, read_words};
+use command_line::{FormatRequest, Request, WordsFault, read_words};
 use std::alloc::{AllocError, Global};
 use std::rc::RcStr;
 use vol_types::{Blocks, Layout};

@@ -1,7 +1,7 @@
 //! What is found in an image, as numbers that another program can compute; and whether it was loaded as it was read.
 
 use image_view::MountFault;
-use plain_reader::{FoundBtree, FoundVolume};
+use image_reader::{FoundBtree, FoundVolume};
 use replay::Loaded;
 use vol_types::{Btree, Pos, Value};
 

@@ -5,7 +5,7 @@ use crate::spoiling::{restore, spoil};
 use crate::tables::volume;
 use dev_model::MemDevices;
 use image_view::MountFault;
-use plain_reader::read_plain;
+use image_reader::read_plain;
 use replay::load;
 use std::alloc::Global;
 use std::test::Fail;

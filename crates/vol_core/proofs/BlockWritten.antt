@@ -3,27 +3,27 @@ use Rattle.std.proofs.Common.{◌≡◌, ◌≢◌, ◌⊎◌, ◌+◌, ℕ, Boo
 use Rattle.std.proofs.lemmas.Bool.Decides.{eqb_tells}
 use Rattle.std.proofs.lemmas.List.{append-nil, map-append}
 use Rattle.std.specs.Prelude.{◌==◌, All, IfSome}
-use Rattle.checkpoint_safety.specs.Kept.{KeepsLeaves}
-use Rattle.checkpoint_safety.specs.Leaves.{FreshLeaf}
-use Rattle.checkpoint_safety.specs.Steps.{AreSameLeaves, with_last}
-use Rattle.core_memory.specs.Volumes.{IsVolume, Volume}
+use Rattle.crash_safety.specs.KeptLeaves.{KeepsLeaves}
+use Rattle.crash_safety.specs.CheckpointLeaves.{FreshLeaf}
+use Rattle.crash_safety.specs.LeafSteps.{AreSameLeaves, with_last}
+use Rattle.core_state.specs.Volumes.{IsVolume, Volume}
 use Rattle.dev_model.specs.Devices.{DevicesState, now}
 use Rattle.dev_model.specs.Disk.{IsDisk}
-use Rattle.entry_writer.specs.Writers.{unsettled_by, with_flags}
-use Rattle.journal_safety.specs.Flushes.{AreFlushed}
-use Rattle.journal_safety.specs.NodeWritings.{IsSafeWithNodes}
-use Rattle.journal_safety.specs.Parts.{standing_by}
-use Rattle.journal_safety.specs.Safety.{IsSafe}
+use Rattle.journal_writer.specs.Writers.{unsettled_by, with_flags}
+use Rattle.crash_safety.specs.Flushes.{AreFlushed}
+use Rattle.crash_safety.specs.NodeWritings.{IsSafeWithNodes}
+use Rattle.crash_safety.specs.Parts.{standing_by}
+use Rattle.crash_safety.specs.Safety.{IsSafe}
 use Rattle.image_view.specs.Found.{Found}
-use Rattle.node_safety.specs.NodeParts.{IsNodePartWritten}
-use Rattle.node_writer.specs.NodeWork.{IsUnfinished, NodeWork, advanced, with_part}
-use Rattle.node_writer.specs.declared.node.UnfinishedNode.{UnfinishedNode}
+use Rattle.crash_safety.specs.NodeParts.{IsNodePartWritten}
+use Rattle.node_writeback.specs.NodeWork.{IsUnfinished, NodeWork, advanced, with_part}
+use Rattle.node_writeback.specs.declared.node.UnfinishedNode.{UnfinishedNode}
 use Rattle.vol_types.specs.Limits.{bucket_blocks}
 use Rattle.vol_core.specs.Safety.{IsCoreSafe}
 use Rattle.vol_core.specs.VolumeLeaves.{fresh_leaf, fresh_leaves, leaves_in, leaves_left}
 use Rattle.vol_core.specs.CoreLaws.{CoreLaws}
 use Rattle.vol_core.proofs.KnownParts.{flies_also, known_also}
-use Rattle.core_memory.specs.Volumes.{KeepParts}
+use Rattle.core_state.specs.Volumes.{KeepParts}
 use Rattle.vol_core.proofs.Written.{flags_stay, past_later}
 
 -- the work on nodes after a block was written, or a device failed

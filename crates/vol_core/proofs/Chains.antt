@@ -3,8 +3,8 @@ use Rattle.std.proofs.Common.{◌≡◌, ◌≤◌, ◌<◌, ℕ, zero, suc, Lis
 use Rattle.std.proofs.lemmas.Option.{same_Some, slice_get-get_or}
 use Rattle.std.specs.Prelude.{slice_get}
 use Rattle.image_view.specs.Found.{Found}
-use Rattle.journal_safety.specs.Safety.{AreBases}
-use Rattle.journal_safety.specs.Writings.{Writing, meant_by}
+use Rattle.crash_safety.specs.Safety.{AreBases}
+use Rattle.crash_safety.specs.Writings.{Writing, meant_by}
 use Rattle.vol_core.specs.Safety.{AreLed, IsLed}
 
 led_push : (before : List Found) (one other : Found) → AreLed (before ++ one ∷ []) → IsLed one other → AreLed ((before ++ one ∷ []) ++ other ∷ [])

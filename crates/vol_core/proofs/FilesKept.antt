@@ -7,22 +7,22 @@ use Rattle.std.proofs.lemmas.List.Elements.{All-cons, All-head, All-nil, All-tai
 use Rattle.std.specs.Prelude.{All}
 use Rattle.bucket_pool.specs.NodeBuckets.{HoldsNode, bucket_state}
 use Rattle.bucket_pool.specs.Space.{Space, emptied_all, settled_space}
-use Rattle.checkpoint_safety.specs.Kept.{HoldsOwn}
-use Rattle.checkpoint_safety.specs.Leaves.{FreshLeaf, replaced_places}
-use Rattle.core_memory.specs.Checkpoints.{AreInPlace, IsLeafFrozen, after_refused, given_up}
-use Rattle.core_memory.specs.Sealing.{settled_volume}
-use Rattle.core_memory.specs.Volumes.{IsVolume, KeepParts, Volume}
-use Rattle.core_memory.specs.declared.answer.Refusal.{Refusal}
-use Rattle.core_memory.specs.declared.answer.Refusal.TheVariants as refusals
+use Rattle.crash_safety.specs.KeptLeaves.{HoldsOwn}
+use Rattle.crash_safety.specs.CheckpointLeaves.{FreshLeaf, replaced_places}
+use Rattle.core_state.specs.Checkpoints.{AreInPlace, IsLeafFrozen, after_refused, given_up}
+use Rattle.core_state.specs.Sealing.{settled_volume}
+use Rattle.core_state.specs.Volumes.{IsVolume, KeepParts, Volume}
+use Rattle.core_state.specs.declared.answer.Refusal.{Refusal}
+use Rattle.core_state.specs.declared.answer.Refusal.TheVariants as refusals
 use Rattle.dev_model.specs.Devices.{DevicesState, now}
 use Rattle.dev_model.specs.Disk.{Image, IsCrashImage}
-use Rattle.entry_writer.specs.Writers.{settled}
+use Rattle.journal_writer.specs.Writers.{settled}
 use Rattle.image_view.specs.Found.{Found}
 use Rattle.journal_ring.specs.Rings.{IsPartPlace, RingState, part_number}
 use Rattle.key_meaning.specs.Checks.{kept_buckets}
-use Rattle.node_work.specs.Due.{root_in}
-use Rattle.node_work.specs.Placing.{fresh_places, places_of}
-use Rattle.node_writer.specs.declared.node.FrozenNode.{FrozenNode}
+use Rattle.node_writeback.specs.Due.{root_in}
+use Rattle.node_writeback.specs.Placing.{fresh_places, places_of}
+use Rattle.node_writeback.specs.declared.node.FrozenNode.{FrozenNode}
 use Rattle.vol_types.specs.LayoutLaws.{layout_found}
 use Rattle.vol_types.specs.Layouts.{IsLayout, is_layout}
 use Rattle.vol_types.specs.Limits.{bucket_blocks}

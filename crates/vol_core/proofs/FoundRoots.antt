@@ -16,16 +16,16 @@ use Rattle.birth_index.specs.Exchanges.{HaveOneNode, one_node}
 use Rattle.btree_map.specs.Sizes.{all_btrees}
 use Rattle.btree_map.specs.StandLaws.{same_btree}
 use Rattle.bucket_pool.specs.NodeBuckets.{MayHoldNode}
-use Rattle.commit_plan.specs.Dirty.{birth_at, birth_in, changed_node, changed_nodes, with_pins}
-use Rattle.core_memory.specs.Opening.{updates_in}
+use Rattle.dirty_nodes.specs.Dirty.{birth_at, birth_in, changed_node, changed_nodes, with_pins}
+use Rattle.core_state.specs.Opening.{updates_in}
 use Rattle.dev_model.specs.Disk.{Image}
 use Rattle.image_view.specs.BaseLaws.{found-trees}
 use Rattle.image_view.specs.Found.{Found, found, node_places, sets_in, updates_of}
 use Rattle.image_view.specs.Trees.{nodes_of}
 use Rattle.journal_ring.specs.declared.found.FoundEntry.{FoundEntry}
 use Rattle.key_meaning.specs.Checks.{AreNodesPlaced, IsNodePlaced, kept_buckets}
-use Rattle.node_contents.specs.Contents.{ChangesBtree, IsPinnedUpTo}
-use Rattle.node_work.specs.Due.{no_node, root_in, root_of}
+use Rattle.crash_safety.specs.Contents.{ChangesBtree, IsPinnedUpTo}
+use Rattle.node_writeback.specs.Due.{no_node, root_in, root_of}
 use Rattle.replay.specs.NodeUpdates.{ChangesNode, EachUpdate, IsBelowRoot}
 use Rattle.tree_nodes.specs.Levels.{IsNodeOf, IsTree, Level, Levels, level_of, node_at}
 use Rattle.vol_types.specs.Btrees.{btree_code}

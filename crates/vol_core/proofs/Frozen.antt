@@ -10,23 +10,23 @@ use Rattle.birth_index.specs.Births.{levels_of}
 use Rattle.btree_map.specs.Sizes.{all_btrees}
 use Rattle.btree_map.specs.Trees.{keys_in as keys_of}
 use Rattle.bucket_pool.specs.Space.{have_free, node_places, noded}
-use Rattle.checkpoint_safety.specs.Kept.{IsLeafPlanned, KeepsLeaves, leaf_set}
-use Rattle.checkpoint_safety.specs.Leaves.{FreshLeaf}
-use Rattle.checkpoint_safety.specs.Steps.{AreSameLeaves, with_fresh}
-use Rattle.core_memory.specs.Checkpoints.{IsLeafFrozen, durable_in}
-use Rattle.core_memory.specs.Volumes.{IsVolume, Volume, birth_due, changes_in, in_flight, undurable_in}
+use Rattle.crash_safety.specs.KeptLeaves.{IsLeafPlanned, KeepsLeaves, leaf_set}
+use Rattle.crash_safety.specs.CheckpointLeaves.{FreshLeaf}
+use Rattle.crash_safety.specs.LeafSteps.{AreSameLeaves, with_fresh}
+use Rattle.core_state.specs.Checkpoints.{IsLeafFrozen, durable_in}
+use Rattle.core_state.specs.Volumes.{IsVolume, Volume, birth_due, changes_in, in_flight, undurable_in}
 use Rattle.dev_model.specs.Devices.{DevicesState}
-use Rattle.entry_queue.specs.Queues.{durable_keys, first_with}
-use Rattle.entry_queue.specs.declared.changes.KeyChanges.{KeyChanges}
-use Rattle.entry_writer.specs.declared.writer.Flight.{Flight}
+use Rattle.journal_writer.specs.Queues.{durable_keys, first_with}
+use Rattle.journal_writer.specs.declared.changes.KeyChanges.{KeyChanges}
+use Rattle.journal_writer.specs.declared.writer.Flight.{Flight}
 use Rattle.image_view.specs.Found.{updates_of}
 use Rattle.node_store.specs.Plans.{HoldsAlone}
-use Rattle.node_work.specs.Due.{is_due, is_frozen, is_pinned_up_to, root_in}
-use Rattle.node_work.specs.Durable.{changes_in_flight}
-use Rattle.node_work.specs.Freezing.{fresh_leaf as fresh_node, next_birth}
-use Rattle.node_writer.specs.NodeWork.{NodeWork, first_left, with_frozen}
-use Rattle.node_writer.specs.declared.node.FrozenNode.{FrozenNode}
-use Rattle.node_writer.specs.declared.node.UnfinishedNode.{UnfinishedNode}
+use Rattle.node_writeback.specs.Due.{is_due, is_frozen, is_pinned_up_to, root_in}
+use Rattle.node_writeback.specs.Durable.{changes_in_flight}
+use Rattle.node_writeback.specs.Freezing.{fresh_leaf as fresh_node, next_birth}
+use Rattle.node_writeback.specs.NodeWork.{NodeWork, first_left, with_frozen}
+use Rattle.node_writeback.specs.declared.node.FrozenNode.{FrozenNode}
+use Rattle.node_writeback.specs.declared.node.UnfinishedNode.{UnfinishedNode}
 use Rattle.image_view.specs.Found.{Found}
 use Rattle.snap_tree.specs.ChainLaws.{same_test}
 use Rattle.vol_types.specs.KeyMapLaws.{IsKeyMap-with_updates}
@@ -41,7 +41,7 @@ use Rattle.vol_core.specs.VolumeLeaves.{fresh_leaf, fresh_leaves, leaves_in, lea
 use Rattle.vol_core.specs.CoreLaws.{CoreLaws}
 use Rattle.vol_core.proofs.NodeStages.{first_passes, freezing_is, none_left}
 use Rattle.vol_core.proofs.OtherLeaves.{NodesKnown, other_leaves_on, with_known}
-use Rattle.core_memory.specs.Volumes.{KeepParts}
+use Rattle.core_state.specs.Volumes.{KeepParts}
 
 -- What an entry in flight changes is the same for nodes as for the volume.
 flight_changes : (flight : Option Flight) → changes_in_flight (in_flight flight) ≡ changes_in flight

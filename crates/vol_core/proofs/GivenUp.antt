@@ -3,21 +3,21 @@ use Rattle.std.proofs.Common.{◌≡◌, ◌+◌, ℕ, List, [], ◌∷◌, ◌+
 use Rattle.std.proofs.lemmas.List.{append-nil}
 use Rattle.std.specs.Prelude.{IfSome}
 use Rattle.bucket_pool.specs.Space.{emptied_all, settled_space}
-use Rattle.checkpoint_safety.specs.Kept.{KeepsLeaves}
-use Rattle.checkpoint_safety.specs.Leaves.{places_of_fresh}
-use Rattle.checkpoint_safety.specs.Steps.{AreSameLeaves, given_up as given_up_leaves}
-use Rattle.core_memory.specs.Checkpoints.{IsFreezeRefused, after_refused, given_up}
-use Rattle.core_memory.specs.Volumes.{IsVolume, Volume, node_stage_of}
-use Rattle.core_memory.specs.declared.answer.Refusal.{Refusal}
-use Rattle.core_memory.specs.declared.answer.Refusal.TheVariants as refusals
+use Rattle.crash_safety.specs.KeptLeaves.{KeepsLeaves}
+use Rattle.crash_safety.specs.CheckpointLeaves.{places_of_fresh}
+use Rattle.crash_safety.specs.LeafSteps.{AreSameLeaves, given_up as given_up_leaves}
+use Rattle.core_state.specs.Checkpoints.{IsFreezeRefused, after_refused, given_up}
+use Rattle.core_state.specs.Volumes.{IsVolume, Volume, node_stage_of}
+use Rattle.core_state.specs.declared.answer.Refusal.{Refusal}
+use Rattle.core_state.specs.declared.answer.Refusal.TheVariants as refusals
 use Rattle.dev_model.specs.Devices.{DevicesState}
-use Rattle.entry_writer.specs.declared.stage.Stage.TheVariants.{Freeze}
+use Rattle.journal_writer.specs.declared.stage.Stage.TheVariants.{Freeze}
 use Rattle.image_view.specs.Found.{Found}
-use Rattle.journal_safety.specs.Writings.{Writing}
-use Rattle.node_work.specs.Placing.{fresh_places}
-use Rattle.node_writer.specs.NodeWork.{no_work}
-use Rattle.node_writer.specs.declared.node.FrozenNode.{FrozenNode}
-use Rattle.node_writer.specs.declared.node.UnfinishedNode.{UnfinishedNode}
+use Rattle.crash_safety.specs.Writings.{Writing}
+use Rattle.node_writeback.specs.Placing.{fresh_places}
+use Rattle.node_writeback.specs.NodeWork.{no_work}
+use Rattle.node_writeback.specs.declared.node.FrozenNode.{FrozenNode}
+use Rattle.node_writeback.specs.declared.node.UnfinishedNode.{UnfinishedNode}
 use Rattle.vol_types.specs.Limits.{bucket_blocks}
 use Rattle.vol_types.specs.declared.pointers.Place.{Place}
 use Rattle.vol_core.specs.Safety.{IsCoreSafe}

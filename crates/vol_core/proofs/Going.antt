@@ -6,23 +6,23 @@ use Rattle.std.proofs.lemmas.List.Elements.{All-contains, All-head}
 use Rattle.std.specs.Prelude.{All, Contains, slice_index_or}
 use Rattle.btree_map.specs.Trees.{keys_in}
 use Rattle.bucket_pool.specs.NodeBuckets.{MayHoldNode}
-use Rattle.commit_plan.specs.Ids.{id_trees}
-use Rattle.core_memory.specs.Devices.{FlushesDevice, WritesEntry, WritesNode}
-use Rattle.core_memory.specs.Events.{CommitGives, CommitNodesGives, EventGives, Fits, FlushGives, FreezeGives, HasIds, IsOfMemory, SealGives, SettleGives, Waits, WriteSetGives}
-use Rattle.core_memory.specs.States.{IsState, State, other_holder}
-use Rattle.core_memory.specs.Volumes.{IsFrozenKept, IsVolume, KeepParts, Volume}
-use Rattle.core_memory.specs.declared.answer.Answer.{Answer}
-use Rattle.core_memory.specs.declared.answer.Answer.TheVariants as answers
-use Rattle.core_memory.specs.declared.event.Event.{Event}
-use Rattle.core_memory.specs.declared.event.Event.TheVariants as events
+use Rattle.dirty_nodes.specs.Ids.{id_trees}
+use Rattle.core_state.specs.Devices.{FlushesDevice, WritesEntry, WritesNode}
+use Rattle.core_state.specs.Events.{CommitGives, CommitNodesGives, EventGives, Fits, FlushGives, FreezeGives, HasIds, IsOfMemory, SealGives, SettleGives, Waits, WriteSetGives}
+use Rattle.core_state.specs.States.{IsState, State, other_holder}
+use Rattle.core_state.specs.Volumes.{IsFrozenKept, IsVolume, KeepParts, Volume}
+use Rattle.core_state.specs.declared.answer.Answer.{Answer}
+use Rattle.core_state.specs.declared.answer.Answer.TheVariants as answers
+use Rattle.core_state.specs.declared.event.Event.{Event}
+use Rattle.core_state.specs.declared.event.Event.TheVariants as events
 use Rattle.dev_model.specs.Devices.{DevicesState, with_write_fault}
 use Rattle.dev_model.specs.FrameLaws.{go_on_by_write, go_on_here}
 use Rattle.dev_model.specs.Frames.{GoOn, after_writes}
 use Rattle.geometry.specs.LayoutFacts.{HasPlaces, has_places}
 use Rattle.geometry.specs.Layouts.{is_layout_of}
 use Rattle.journal_ring.specs.Rings.{RingState}
-use Rattle.node_writer.specs.NodeWork.{IsUnfinished, birth_left, left_nodes}
-use Rattle.node_writer.specs.declared.node.UnfinishedNode.{UnfinishedNode}
+use Rattle.node_writeback.specs.NodeWork.{IsUnfinished, birth_left, left_nodes}
+use Rattle.node_writeback.specs.declared.node.UnfinishedNode.{UnfinishedNode}
 use Rattle.replay.specs.Mending.{KeepsPast}
 use Rattle.vol_types.specs.declared.layout.Layout.{Layout}
 use Rattle.vol_types.specs.declared.pointers.Place.{Place}

@@ -8,23 +8,23 @@ use Rattle.std.specs.Ordering.{nat_cmp}
 use Rattle.std.specs.Prelude.{All, IfSome, IsSome}
 use Rattle.birth_index.specs.Births.{levels_of}
 use Rattle.birth_index.specs.Exchanges.{HaveOneNode, one_node}
-use Rattle.checkpoint_safety.specs.Leaves.{FreshLeaf}
-use Rattle.checkpoint_safety.specs.Steps.{HoldBack}
-use Rattle.core_memory.specs.HoldLaws.{pinned-each}
-use Rattle.core_memory.specs.Volumes.{IsFlightHeld, IsFrozenKept, IsVolume, Volume, in_flight, undurable_in}
-use Rattle.entry_queue.specs.Changes.{changes_btree}
-use Rattle.entry_queue.specs.Queues.{first_with, waiting_entries}
-use Rattle.entry_queue.specs.declared.changes.Pending.{Pending}
-use Rattle.entry_writer.specs.declared.writer.Flight.{Flight}
+use Rattle.crash_safety.specs.CheckpointLeaves.{FreshLeaf}
+use Rattle.crash_safety.specs.LeafSteps.{HoldBack}
+use Rattle.core_state.specs.HoldLaws.{pinned-each}
+use Rattle.core_state.specs.Volumes.{IsFlightHeld, IsFrozenKept, IsVolume, Volume, in_flight, undurable_in}
+use Rattle.journal_writer.specs.Changes.{changes_btree}
+use Rattle.journal_writer.specs.Queues.{first_with, waiting_entries}
+use Rattle.journal_writer.specs.declared.changes.Pending.{Pending}
+use Rattle.journal_writer.specs.declared.writer.Flight.{Flight}
 use Rattle.image_view.specs.Found.{Found}
-use Rattle.journal_safety.specs.Writings.{Writing}
-use Rattle.node_contents.specs.Contents.{ChangesBtree, IsFrom, IsPinnedUpTo}
-use Rattle.node_work.specs.Due.{root_in, root_of}
-use Rattle.node_work.specs.Durable.{undurable}
-use Rattle.node_work.specs.Placing.{IsFrozenLeaf}
-use Rattle.node_writer.specs.NodeWork.{NodeWork, frozen_nodes, left_nodes}
-use Rattle.node_writer.specs.declared.node.FrozenNode.{FrozenNode}
-use Rattle.node_writer.specs.declared.node.UnfinishedNode.{UnfinishedNode}
+use Rattle.crash_safety.specs.Writings.{Writing}
+use Rattle.crash_safety.specs.Contents.{ChangesBtree, IsFrom, IsPinnedUpTo}
+use Rattle.node_writeback.specs.Due.{root_in, root_of}
+use Rattle.node_writeback.specs.Durable.{undurable}
+use Rattle.node_writeback.specs.Placing.{IsFrozenLeaf}
+use Rattle.node_writeback.specs.NodeWork.{NodeWork, frozen_nodes, left_nodes}
+use Rattle.node_writeback.specs.declared.node.FrozenNode.{FrozenNode}
+use Rattle.node_writeback.specs.declared.node.UnfinishedNode.{UnfinishedNode}
 use Rattle.tree_nodes.specs.Levels.{Levels}
 use Rattle.vol_types.specs.KeyMaps.{is_update_of}
 use Rattle.vol_types.specs.Limits.{bucket_blocks}

@@ -5,18 +5,18 @@ use Rattle.std.specs.Ordering.{nat_cmp}
 use Rattle.std.specs.Prelude.{All, if◌then◌else◌}
 use Rattle.birth_index.specs.Exchanges.{HaveOneNode}
 use Rattle.btree_map.specs.Trees.{Trees, keys_in}
-use Rattle.checkpoint_safety.specs.Steps.{ArePinnedMore, PinsAsMuch}
-use Rattle.commit_plan.specs.Dirty.{changed_nodes, paths_of, with_pins}
-use Rattle.core_memory.specs.Commits.{IsCommitted}
-use Rattle.core_memory.specs.Rulings.{entry_of}
-use Rattle.core_memory.specs.Volumes.{IsVolume, Volume, changes_in}
+use Rattle.crash_safety.specs.LeafSteps.{ArePinnedMore, PinsAsMuch}
+use Rattle.dirty_nodes.specs.Dirty.{changed_nodes, paths_of, with_pins}
+use Rattle.core_state.specs.Commits.{IsCommitted}
+use Rattle.core_state.specs.Rulings.{entry_of}
+use Rattle.core_state.specs.Volumes.{IsVolume, Volume, changes_in}
 use Rattle.dev_model.specs.Devices.{DevicesState}
-use Rattle.entry_queue.specs.Changes.{LeadTo, changes_of, changes_then, no_changes}
-use Rattle.entry_queue.specs.Queues.{Queue, closed_changes, closes, follower_of, joined, waiting}
-use Rattle.entry_queue.specs.declared.changes.KeyChanges.{KeyChanges}
-use Rattle.entry_queue.specs.declared.changes.Pending.{Pending}
+use Rattle.journal_writer.specs.Changes.{LeadTo, changes_of, changes_then, no_changes}
+use Rattle.journal_writer.specs.Queues.{Queue, closed_changes, closes, follower_of, joined, waiting}
+use Rattle.journal_writer.specs.declared.changes.KeyChanges.{KeyChanges}
+use Rattle.journal_writer.specs.declared.changes.Pending.{Pending}
 use Rattle.image_view.specs.Found.{Found}
-use Rattle.node_work.specs.Due.{root_in}
+use Rattle.node_writeback.specs.Due.{root_in}
 use Rattle.tree_nodes.specs.Levels.{Levels}
 use Rattle.vol_types.specs.KeyMaps.{KeyMap, with_updates}
 use Rattle.vol_types.specs.Maps.{value_at}

@@ -1,24 +1,24 @@
 -- Inside an event nothing is lost that was durable when it began: whatever a crash leaves means one of the bases from before, and one that is no
 -- earlier than the last durable one and has no fewer commits; and it is what is told of it by what was in memory.
 use Rattle.std.proofs.Common.{◌≡◌, ◌≤◌, ℕ, length, true, false, Option, Some, None, refl, sym, ap, subst, arith}
-use Rattle.core_memory.specs.Devices.{FlushesDevice, WritesEntry, WritesNode}
-use Rattle.core_memory.specs.Events.{FlushGives, WriteGives, WriteSetGives}
-use Rattle.core_memory.specs.States.{IsState, State}
-use Rattle.core_memory.specs.Volumes.{KeepParts, Volume, node_stage_of}
-use Rattle.core_memory.specs.declared.answer.Answer.{Answer}
-use Rattle.core_memory.specs.declared.answer.Answer.TheVariants as answers
-use Rattle.core_memory.specs.declared.event.Event.{Event}
-use Rattle.core_memory.specs.declared.event.Event.TheVariants as events
+use Rattle.core_state.specs.Devices.{FlushesDevice, WritesEntry, WritesNode}
+use Rattle.core_state.specs.Events.{FlushGives, WriteGives, WriteSetGives}
+use Rattle.core_state.specs.States.{IsState, State}
+use Rattle.core_state.specs.Volumes.{KeepParts, Volume, node_stage_of}
+use Rattle.core_state.specs.declared.answer.Answer.{Answer}
+use Rattle.core_state.specs.declared.answer.Answer.TheVariants as answers
+use Rattle.core_state.specs.declared.event.Event.{Event}
+use Rattle.core_state.specs.declared.event.Event.TheVariants as events
 use Rattle.dev_model.specs.Devices.{DevicesState, now}
 use Rattle.dev_model.specs.Disk.{IsDisk}
-use Rattle.entry_writer.specs.declared.stage.Stage.TheVariants.{WriteSet}
+use Rattle.journal_writer.specs.declared.stage.Stage.TheVariants.{WriteSet}
 use Rattle.image_view.specs.Found.{Found}
-use Rattle.journal_safety.specs.Flushes.{flushes}
-use Rattle.journal_safety.specs.Safety.{IsSafe, MeansOneOf}
-use Rattle.journal_safety.specs.Standing.{AreSteady}
-use Rattle.node_writer.specs.NodeWork.{birth_left}
-use Rattle.node_writer.specs.NodeWrites.{WritesNodePart}
-use Rattle.node_writer.specs.declared.node.UnfinishedNode.{UnfinishedNode}
+use Rattle.crash_safety.specs.Flushes.{flushes}
+use Rattle.crash_safety.specs.Safety.{IsSafe, MeansOneOf}
+use Rattle.crash_safety.specs.Standing.{AreSteady}
+use Rattle.node_writeback.specs.NodeWork.{birth_left}
+use Rattle.node_writeback.specs.NodeWrites.{WritesNodePart}
+use Rattle.node_writeback.specs.declared.node.UnfinishedNode.{UnfinishedNode}
 use Rattle.replay.specs.Mending.{IsUntorn}
 use Rattle.std.specs.Prelude.{All}
 use Rattle.vol_types.specs.declared.layout.Layout.{Layout}

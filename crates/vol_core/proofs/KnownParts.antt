@@ -1,12 +1,12 @@
 -- What is known of the last durable entry, and of the one in flight, hangs on some parts of a volume alone.
 use Rattle.std.proofs.Common.{◌≡◌, ℕ, Option, Some, None, sym, ap, ◌∙◌}
-use Rattle.core_memory.specs.Volumes.{Volume}
-use Rattle.entry_queue.specs.Queues.{record_of}
-use Rattle.entry_writer.specs.declared.durable.Durable.{Durable}
-use Rattle.entry_writer.specs.declared.writer.Flight.{Flight}
+use Rattle.core_state.specs.Volumes.{Volume}
+use Rattle.journal_writer.specs.Queues.{record_of}
+use Rattle.journal_writer.specs.declared.durable.Durable.{Durable}
+use Rattle.journal_writer.specs.declared.writer.Flight.{Flight}
 use Rattle.image_view.specs.Found.{Found}
 use Rattle.journal_ring.specs.Rings.{RingState, flight_number}
-use Rattle.journal_safety.specs.Writings.{Writing}
+use Rattle.crash_safety.specs.Writings.{Writing}
 use Rattle.vol_core.specs.Entries.{FliesAs, IsKnown}
 
 -- What is known of the last durable entry hangs on these.

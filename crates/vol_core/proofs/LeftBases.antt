@@ -9,18 +9,18 @@ use Rattle.btree_map.specs.Trees.{keys_in}
 use Rattle.bucket_pool.specs.NodeBuckets.{IsHeldPast, bucket_state}
 use Rattle.bucket_pool.specs.Space.{Space}
 use Rattle.bucket_pool.specs.declared.bucket.State.TheVariants.{User}
-use Rattle.core_memory.specs.Volumes.{Volume, changes_in}
+use Rattle.core_state.specs.Volumes.{Volume, changes_in}
 use Rattle.dev_model.specs.Devices.{DevicesState, now}
 use Rattle.dev_model.specs.Disk.{Image, IsCrashImage}
-use Rattle.entry_queue.specs.Changes.{LeadTo}
-use Rattle.entry_queue.specs.Queues.{oldest, waiting}
-use Rattle.entry_writer.specs.declared.writer.Flight.{Flight}
+use Rattle.journal_writer.specs.Changes.{LeadTo}
+use Rattle.journal_writer.specs.Queues.{oldest, waiting}
+use Rattle.journal_writer.specs.declared.writer.Flight.{Flight}
 use Rattle.image_view.specs.Found.{Found, node_places}
 use Rattle.image_view.specs.UpdatedTrees.{IsOfLeaf}
 use Rattle.journal_ring.specs.declared.found.FoundEntry.{FoundEntry}
-use Rattle.journal_safety.specs.NodeWritings.{IsWritingWithNodes}
-use Rattle.journal_safety.specs.Safety.{AreBases, IsSafe, MeansOneOf}
-use Rattle.journal_safety.specs.Writings.{Writing, after, meant_by}
+use Rattle.crash_safety.specs.NodeWritings.{IsWritingWithNodes}
+use Rattle.crash_safety.specs.Safety.{AreBases, IsSafe, MeansOneOf}
+use Rattle.crash_safety.specs.Writings.{Writing, after, meant_by}
 use Rattle.key_meaning.specs.Checks.{AreNodesPlaced, is_in_bucket}
 use Rattle.record_codec.specs.declared.entries.EntryRecord.{EntryRecord}
 use Rattle.replay.specs.Mending.{IsUntorn, StandsOnAll}

@@ -2,13 +2,13 @@
 use Rattle.std.proofs.Common.{◌≡◌, ◌≤◌, ◌+◌, ℕ, zero, suc, Option, Some, None, List, [], ◌∷◌, ◌++◌, drop, length, refl, sym, ap, subst, ◌∙◌, arith}
 use Rattle.std.proofs.lemmas.List.{drop-append-le, length-append}
 use Rattle.std.specs.Prelude.{slice_index_or}
-use Rattle.core_memory.specs.Volumes.{Volume}
-use Rattle.entry_writer.specs.Writers.{passed}
-use Rattle.entry_writer.specs.declared.writer.Flight.{Flight}
+use Rattle.core_state.specs.Volumes.{Volume}
+use Rattle.journal_writer.specs.Writers.{passed}
+use Rattle.journal_writer.specs.declared.writer.Flight.{Flight}
 use Rattle.image_view.specs.Found.{Found}
 use Rattle.image_view.specs.NextEntries.{IsNext}
 use Rattle.journal_ring.specs.declared.found.FoundEntry.{FoundEntry}
-use Rattle.journal_safety.specs.Writings.{Writing}
+use Rattle.crash_safety.specs.Writings.{Writing}
 use Rattle.pin_list.specs.Pins.{smaller}
 use Rattle.vol_core.specs.Entries.{AreStarts, IsKnown}
 

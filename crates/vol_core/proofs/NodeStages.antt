@@ -3,12 +3,12 @@ use Rattle.std.proofs.Common.{◌≡◌, ℕ, Bool, true, false, cond, Option, S
 use Rattle.std.proofs.lemmas.Option.{same_Some}
 use Rattle.std.specs.List.{filter}
 use Rattle.std.specs.Prelude.{◌==◌, slice_get}
-use Rattle.core_memory.specs.Volumes.{Volume, birth_due, node_stage_by, node_stage_of}
-use Rattle.entry_writer.specs.Writers.{first_flag, flush_before}
-use Rattle.entry_writer.specs.declared.stage.Stage.{Stage}
-use Rattle.entry_writer.specs.declared.stage.Stage.TheVariants.{CommitNodes, Freeze, Rest, WriteSet}
-use Rattle.node_writer.specs.NodeWork.{birth_left, first_left}
-use Rattle.node_writer.specs.declared.node.UnfinishedNode.{UnfinishedNode}
+use Rattle.core_state.specs.Volumes.{Volume, birth_due, node_stage_by, node_stage_of}
+use Rattle.journal_writer.specs.Writers.{first_flag, flush_before}
+use Rattle.journal_writer.specs.declared.stage.Stage.{Stage}
+use Rattle.journal_writer.specs.declared.stage.Stage.TheVariants.{CommitNodes, Freeze, Rest, WriteSet}
+use Rattle.node_writeback.specs.NodeWork.{birth_left, first_left}
+use Rattle.node_writeback.specs.declared.node.UnfinishedNode.{UnfinishedNode}
 
 -- the birth of the leaf that a stage freezes
 abbrev frozen_by : Stage → Option ℕ

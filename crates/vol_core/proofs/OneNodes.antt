@@ -11,7 +11,7 @@ use Rattle.std.specs.Prelude.{option_map}
 use Rattle.birth_index.specs.Births.{BirthsDiffer, birth_of, levels_of, node_of}
 use Rattle.birth_index.specs.Exchanges.{HaveOneNode, one_node, only_name}
 use Rattle.birth_index.specs.declared.name.NodeName.{NodeName}
-use Rattle.node_work.specs.Due.{root_in, root_of}
+use Rattle.node_writeback.specs.Due.{root_in, root_of}
 use Rattle.tree_nodes.specs.Levels.{Levels, level_of}
 use Rattle.vol_types.specs.Maps.{value_at}
 use Rattle.vol_types.specs.PositionLaws.{pos_exact, pos_total}

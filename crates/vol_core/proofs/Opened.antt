@@ -7,22 +7,22 @@ use Rattle.std.specs.Ordering.{nat_cmp}
 use Rattle.std.specs.Prelude.{All, slice_get}
 use Rattle.btree_map.specs.Trees.{keys_in}
 use Rattle.bucket_pool.specs.NodeBuckets.{HoldsNode, MayHoldNode}
-use Rattle.checkpoint_safety.specs.Kept.{HoldsOwn, KeepsLeaves}
-use Rattle.core_memory.specs.Opening.{IsOpened, keys_of_buckets, opened_by}
-use Rattle.core_memory.specs.States.{State}
-use Rattle.core_memory.specs.Volumes.{Volume}
+use Rattle.crash_safety.specs.KeptLeaves.{HoldsOwn, KeepsLeaves}
+use Rattle.core_state.specs.Opening.{IsOpened, keys_of_buckets, opened_by}
+use Rattle.core_state.specs.States.{State}
+use Rattle.core_state.specs.Volumes.{Volume}
 use Rattle.dev_model.specs.Devices.{DevicesState, now}
 use Rattle.dev_model.specs.Disk.{Image, IsDisk, as_read}
-use Rattle.entry_queue.specs.Changes.{no_changes}
-use Rattle.entry_queue.specs.declared.changes.KeyChanges.{KeyChanges}
-use Rattle.entry_writer.specs.Writers.{most_devices, starts_of, with_flags}
+use Rattle.journal_writer.specs.Changes.{no_changes}
+use Rattle.journal_writer.specs.declared.changes.KeyChanges.{KeyChanges}
+use Rattle.journal_writer.specs.Writers.{most_devices, starts_of, with_flags}
 use Rattle.geometry.specs.LayoutFacts.{both}
 use Rattle.geometry.specs.Layouts.{have_room, is_layout_of}
 use Rattle.image_view.specs.Found.{Found, found, node_places}
 use Rattle.journal_ring.specs.declared.found.FoundEntry.{FoundEntry}
-use Rattle.node_contents.specs.Contents.{IsPinnedUpTo}
-use Rattle.node_work.specs.Due.{root_in}
-use Rattle.plain_reader.specs.Volumes.{last_of, no_entry}
+use Rattle.crash_safety.specs.Contents.{IsPinnedUpTo}
+use Rattle.node_writeback.specs.Due.{root_in}
+use Rattle.image_reader.specs.Volumes.{last_of, no_entry}
 use Rattle.replay.specs.Volumes.{found_in}
 use Rattle.replay.specs.declared.volume.Loaded.{Loaded}
 use Rattle.vol_types.specs.LayoutLaws.{layout_found}

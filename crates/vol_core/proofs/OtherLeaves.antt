@@ -2,11 +2,11 @@
 use Rattle.std.proofs.Common.{ℕ, List, refl}
 use Rattle.birth_index.specs.Exchanges.{HaveOneNode}
 use Rattle.bucket_pool.specs.Space.{Space}
-use Rattle.checkpoint_safety.specs.Kept.{KeepsLeaves}
-use Rattle.core_memory.specs.Volumes.{Volume}
+use Rattle.crash_safety.specs.KeptLeaves.{KeepsLeaves}
+use Rattle.core_state.specs.Volumes.{Volume}
 use Rattle.dev_model.specs.Devices.{DevicesState}
 use Rattle.image_view.specs.Found.{Found}
-use Rattle.node_writer.specs.NodeWork.{NodeWork}
+use Rattle.node_writeback.specs.NodeWork.{NodeWork}
 use Rattle.tree_nodes.specs.Levels.{Levels}
 use Rattle.vol_core.specs.Safety.{IsCoreSafe}
 use Rattle.vol_core.specs.VolumeLeaves.{leaves_in}

@@ -4,13 +4,13 @@ use Rattle.std.proofs.lemmas.Option.{none-some, same_Some}
 use Rattle.std.specs.List.{list_any}
 use Rattle.std.specs.Ordering.{nat_cmp}
 use Rattle.std.specs.Prelude.{◌==◌, slice_get}
-use Rattle.checkpoint_safety.specs.Leaves.{FreshLeaf}
-use Rattle.checkpoint_safety.specs.Steps.{PinsAsMuch, lacking}
-use Rattle.commit_plan.specs.Dirty.{with_pins}
-use Rattle.node_contents.specs.Contents.{IsPinnedUpTo}
-use Rattle.node_writer.specs.NodeWork.{NodeWork}
-use Rattle.node_writer.specs.declared.node.FrozenNode.{FrozenNode}
-use Rattle.node_writer.specs.declared.node.UnfinishedNode.{UnfinishedNode}
+use Rattle.crash_safety.specs.CheckpointLeaves.{FreshLeaf}
+use Rattle.crash_safety.specs.LeafSteps.{PinsAsMuch, lacking}
+use Rattle.dirty_nodes.specs.Dirty.{with_pins}
+use Rattle.crash_safety.specs.Contents.{IsPinnedUpTo}
+use Rattle.node_writeback.specs.NodeWork.{NodeWork}
+use Rattle.node_writeback.specs.declared.node.FrozenNode.{FrozenNode}
+use Rattle.node_writeback.specs.declared.node.UnfinishedNode.{UnfinishedNode}
 use Rattle.pin_list.specs.Pins.{smaller}
 use Rattle.vol_types.specs.Limits.{bucket_blocks}
 use Rattle.vol_types.specs.Maps.{value_at}

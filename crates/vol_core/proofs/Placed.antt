@@ -8,24 +8,24 @@ use Rattle.std.specs.Prelude.{All, IfSome}
 use Rattle.birth_index.specs.Births.{BirthsDiffer, levels_of}
 use Rattle.birth_index.specs.Exchanges.{HaveOneNode, exchanged, one_node, only_name}
 use Rattle.bucket_pool.specs.Space.{emptied_all}
-use Rattle.checkpoint_safety.specs.Kept.{KeepsLeaves}
-use Rattle.checkpoint_safety.specs.Leaves.{FreshLeaf, placed_pins, placed_roots, replaced_places}
-use Rattle.checkpoint_safety.specs.Steps.{AreSameLeaves, MayBePlaced, placed}
-use Rattle.core_memory.specs.Checkpoints.{AreInPlace}
-use Rattle.core_memory.specs.Volumes.{IsVolume, Volume, last_sealed}
+use Rattle.crash_safety.specs.KeptLeaves.{KeepsLeaves}
+use Rattle.crash_safety.specs.CheckpointLeaves.{FreshLeaf, placed_pins, placed_roots, replaced_places}
+use Rattle.crash_safety.specs.LeafSteps.{AreSameLeaves, MayBePlaced, placed}
+use Rattle.core_state.specs.Checkpoints.{AreInPlace}
+use Rattle.core_state.specs.Volumes.{IsVolume, Volume, last_sealed}
 use Rattle.dev_model.specs.Devices.{DevicesState, now}
-use Rattle.entry_queue.specs.Queues.{AreFollowed, first_of}
-use Rattle.entry_queue.specs.declared.changes.Pending.{Pending}
-use Rattle.entry_writer.specs.Writers.{first_flag}
-use Rattle.entry_writer.specs.declared.writer.Flight.{Flight}
+use Rattle.journal_writer.specs.Queues.{AreFollowed, first_of}
+use Rattle.journal_writer.specs.declared.changes.Pending.{Pending}
+use Rattle.journal_writer.specs.Writers.{first_flag}
+use Rattle.journal_writer.specs.declared.writer.Flight.{Flight}
 use Rattle.image_view.specs.Found.{Found}
-use Rattle.journal_safety.specs.Flushes.{AreSettled}
-use Rattle.journal_safety.specs.Writings.{Writing}
-use Rattle.node_work.specs.Due.{root_in, root_of}
-use Rattle.node_work.specs.Placing.{AreFrozenLeaves, IsFrozenLeaf, exchanges_of, moved_pins, places_of}
-use Rattle.node_writer.specs.NodeWork.{first_left, frozen_nodes, left_nodes, no_work}
-use Rattle.node_writer.specs.declared.node.FrozenNode.{FrozenNode}
-use Rattle.node_writer.specs.declared.node.UnfinishedNode.{UnfinishedNode}
+use Rattle.crash_safety.specs.Flushes.{AreSettled}
+use Rattle.crash_safety.specs.Writings.{Writing}
+use Rattle.node_writeback.specs.Due.{root_in, root_of}
+use Rattle.node_writeback.specs.Placing.{AreFrozenLeaves, IsFrozenLeaf, exchanges_of, moved_pins, places_of}
+use Rattle.node_writeback.specs.NodeWork.{first_left, frozen_nodes, left_nodes, no_work}
+use Rattle.node_writeback.specs.declared.node.FrozenNode.{FrozenNode}
+use Rattle.node_writeback.specs.declared.node.UnfinishedNode.{UnfinishedNode}
 use Rattle.record_codec.specs.declared.entries.EntryRecord.{EntryRecord}
 use Rattle.tree_nodes.specs.Levels.{Levels}
 use Rattle.vol_types.specs.Limits.{bucket_blocks}
@@ -41,7 +41,7 @@ use Rattle.vol_core.specs.CoreLaws.{CoreLaws}
 use Rattle.vol_core.proofs.NodeStages.{none_left, placing_is}
 use Rattle.vol_core.proofs.OneNodes.{births_differ, root_born, root_named}
 use Rattle.vol_core.proofs.OtherLeaves.{NodesKnown, other_leaves_on, with_known}
-use Rattle.core_memory.specs.Volumes.{KeepParts}
+use Rattle.core_state.specs.Volumes.{KeepParts}
 use Rattle.vol_core.proofs.PlacedRoots.{IsLeftRoot, IsPlacedRoot, pairs_map, placed_or_left, replaced_are}
 use Rattle.vol_core.proofs.Stages.{clear_is_unset, flags_clear}
 

@@ -12,9 +12,9 @@ use Rattle.birth_index.specs.Exchanges.{name_of, only_name}
 use Rattle.birth_index.specs.declared.name.Exchange.{Exchange}
 use Rattle.birth_index.specs.declared.name.NodeName.{NodeName}
 use Rattle.btree_map.specs.StandLaws.{same_btree}
-use Rattle.checkpoint_safety.specs.Leaves.{FreshLeaf, placed_pins, placed_roots, replaced_places, with_btree}
-use Rattle.node_work.specs.Placing.{exchanges_of, places_of}
-use Rattle.node_writer.specs.declared.node.FrozenNode.{FrozenNode}
+use Rattle.crash_safety.specs.CheckpointLeaves.{FreshLeaf, placed_pins, placed_roots, replaced_places, with_btree}
+use Rattle.node_writeback.specs.Placing.{exchanges_of, places_of}
+use Rattle.node_writeback.specs.declared.node.FrozenNode.{FrozenNode}
 use Rattle.tree_nodes.specs.Levels.{Levels}
 use Rattle.vol_types.specs.Btrees.{btree_code}
 use Rattle.vol_types.specs.Limits.{bucket_blocks}

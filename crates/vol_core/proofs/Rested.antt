@@ -9,22 +9,22 @@ use Rattle.std.specs.Prelude.{◌&&◌, ◌||◌, ◌==◌, nat_lt, All, Contain
 use Rattle.birth_index.specs.Births.{levels_of}
 use Rattle.birth_index.specs.NameLaws.{birth_itself}
 use Rattle.btree_map.specs.Sizes.{all_btrees}
-use Rattle.core_memory.specs.Commits.{AreIntended}
-use Rattle.core_memory.specs.Rulings.{IsFull}
-use Rattle.core_memory.specs.Sealing.{oldest_needed}
-use Rattle.core_memory.specs.Volumes.{IsVolume, Volume, birth_due, can_let_go, last_sealed, needs_entry, node_stage_by}
+use Rattle.core_state.specs.Commits.{AreIntended}
+use Rattle.core_state.specs.Rulings.{IsFull}
+use Rattle.core_state.specs.Sealing.{oldest_needed}
+use Rattle.core_state.specs.Volumes.{IsVolume, Volume, birth_due, can_let_go, last_sealed, needs_entry, node_stage_by}
 use Rattle.dev_model.specs.Devices.{DevicesState}
-use Rattle.entry_queue.specs.Queues.{blocks_with, first_of, growth, last_block, oldest}
-use Rattle.entry_queue.specs.declared.changes.Pending.{Pending}
-use Rattle.entry_writer.specs.Writers.{Writer, first_flag, flush_before, stage_by, step_of}
-use Rattle.entry_writer.specs.declared.stage.Stage.{Stage}
-use Rattle.entry_writer.specs.declared.stage.Stage.TheVariants.{CommitNodes, Freeze, Rest, Seal, Settle, WriteEntry, WriteSet}
-use Rattle.entry_writer.specs.declared.writer.Flight.{Flight}
+use Rattle.journal_writer.specs.Queues.{blocks_with, first_of, growth, last_block, oldest}
+use Rattle.journal_writer.specs.declared.changes.Pending.{Pending}
+use Rattle.journal_writer.specs.Writers.{Writer, first_flag, flush_before, stage_by, step_of}
+use Rattle.journal_writer.specs.declared.stage.Stage.{Stage}
+use Rattle.journal_writer.specs.declared.stage.Stage.TheVariants.{CommitNodes, Freeze, Rest, Seal, Settle, WriteEntry, WriteSet}
+use Rattle.journal_writer.specs.declared.writer.Flight.{Flight}
 use Rattle.image_view.specs.Found.{Found}
-use Rattle.journal_safety.specs.Writings.{Writing}
-use Rattle.node_work.specs.Due.{is_due, is_pinned_up_to, leaf_due, root_in}
-use Rattle.node_writer.specs.NodeWork.{first_left}
-use Rattle.node_writer.specs.declared.node.FrozenNode.{FrozenNode}
+use Rattle.crash_safety.specs.Writings.{Writing}
+use Rattle.node_writeback.specs.Due.{is_due, is_pinned_up_to, leaf_due, root_in}
+use Rattle.node_writeback.specs.NodeWork.{first_left}
+use Rattle.node_writeback.specs.declared.node.FrozenNode.{FrozenNode}
 use Rattle.pin_list.specs.Pins.{least_pin, smaller}
 use Rattle.tree_nodes.specs.Levels.{Levels}
 use Rattle.vol_types.specs.LayoutLaws.{layout_found}

@@ -17,35 +17,35 @@ use Rattle.birth_index.specs.Exchanges.{HaveOneNode, exchanged, one_node}
 use Rattle.birth_index.specs.NameLaws.{birth_itself, one_birth}
 use Rattle.btree_map.specs.Sizes.{all_btrees}
 use Rattle.btree_map.specs.Trees.{Trees, keys_in}
-use Rattle.commit_plan.specs.Dirty.{birth_at, birth_in, changed_node, changed_nodes, moved_pin, paths_of, with_pins}
-use Rattle.commit_plan.specs.PinLaws.{rises-moved}
-use Rattle.core_memory.specs.Checkpoints.{AreInPlace, IsLeafFrozen, after_refused, given_up, with_block}
-use Rattle.core_memory.specs.Commits.{IsCommitted}
-use Rattle.core_memory.specs.Rulings.{entry_of}
-use Rattle.core_memory.specs.Sealing.{IsFlown, next_record, oldest_needed, roots_in, settled_volume, with_writer}
-use Rattle.core_memory.specs.Volumes.{IsVolume, Volume, birth_due, halted_at, in_flight, last_sealed, needs_entry, node_stage_by, undurable_in}
-use Rattle.core_memory.specs.declared.answer.Halt.{Halt}
-use Rattle.core_memory.specs.declared.answer.Refusal.{Refusal}
-use Rattle.core_memory.specs.declared.answer.Refusal.TheVariants as refusals
+use Rattle.dirty_nodes.specs.Dirty.{birth_at, birth_in, changed_node, changed_nodes, moved_pin, paths_of, with_pins}
+use Rattle.dirty_nodes.specs.PinLaws.{rises-moved}
+use Rattle.core_state.specs.Checkpoints.{AreInPlace, IsLeafFrozen, after_refused, given_up, with_block}
+use Rattle.core_state.specs.Commits.{IsCommitted}
+use Rattle.core_state.specs.Rulings.{entry_of}
+use Rattle.core_state.specs.Sealing.{IsFlown, next_record, oldest_needed, roots_in, settled_volume, with_writer}
+use Rattle.core_state.specs.Volumes.{IsVolume, Volume, birth_due, halted_at, in_flight, last_sealed, needs_entry, node_stage_by, undurable_in}
+use Rattle.core_state.specs.declared.answer.Halt.{Halt}
+use Rattle.core_state.specs.declared.answer.Refusal.{Refusal}
+use Rattle.core_state.specs.declared.answer.Refusal.TheVariants as refusals
 use Rattle.dev_model.specs.Devices.{DevicesState}
-use Rattle.entry_queue.specs.Changes.{changes_btree, changes_of}
-use Rattle.entry_queue.specs.Queues.{Queue, blocks_with, closes, first_of, first_with, follower_of, head_length, joined, last_of, left_by, oldest, record_of, waiting_entries, with_commit, without_oldest}
-use Rattle.entry_queue.specs.declared.changes.KeyChanges.{KeyChanges}
-use Rattle.entry_queue.specs.declared.changes.Pending.{Pending}
-use Rattle.entry_writer.specs.Writers.{Writer, first_of as first_start, passed, settled_by, unsettled_by, with_entry, with_flushed, with_next_part}
-use Rattle.entry_writer.specs.declared.durable.Durable.{Durable}
-use Rattle.entry_writer.specs.declared.stage.Stage.TheVariants.{CommitNodes, WriteSet}
-use Rattle.entry_writer.specs.declared.writer.Flight.{Flight}
+use Rattle.journal_writer.specs.Changes.{changes_btree, changes_of}
+use Rattle.journal_writer.specs.Queues.{Queue, blocks_with, closes, first_of, first_with, follower_of, head_length, joined, last_of, left_by, oldest, record_of, waiting_entries, with_commit, without_oldest}
+use Rattle.journal_writer.specs.declared.changes.KeyChanges.{KeyChanges}
+use Rattle.journal_writer.specs.declared.changes.Pending.{Pending}
+use Rattle.journal_writer.specs.Writers.{Writer, first_of as first_start, passed, settled_by, unsettled_by, with_entry, with_flushed, with_next_part}
+use Rattle.journal_writer.specs.declared.durable.Durable.{Durable}
+use Rattle.journal_writer.specs.declared.stage.Stage.TheVariants.{CommitNodes, WriteSet}
+use Rattle.journal_writer.specs.declared.writer.Flight.{Flight}
 use Rattle.image_view.specs.Found.{Found, IsMirrored}
 use Rattle.journal_ring.specs.EntryBlocks.{part_count, parts_of}
 use Rattle.journal_ring.specs.declared.found.FoundEntry.{FoundEntry}
-use Rattle.journal_safety.specs.Writings.{Writing}
-use Rattle.node_work.specs.Due.{root_in, root_of}
-use Rattle.node_work.specs.Durable.{undurable}
-use Rattle.node_work.specs.Placing.{AreFrozenLeaves, exchanges_of, moved_pins}
-use Rattle.node_writer.specs.NodeWork.{birth_left, first_left, left_nodes}
-use Rattle.node_writer.specs.declared.node.FrozenNode.{FrozenNode}
-use Rattle.node_writer.specs.declared.node.UnfinishedNode.{UnfinishedNode}
+use Rattle.crash_safety.specs.Writings.{Writing}
+use Rattle.node_writeback.specs.Due.{root_in, root_of}
+use Rattle.node_writeback.specs.Durable.{undurable}
+use Rattle.node_writeback.specs.Placing.{AreFrozenLeaves, exchanges_of, moved_pins}
+use Rattle.node_writeback.specs.NodeWork.{birth_left, first_left, left_nodes}
+use Rattle.node_writeback.specs.declared.node.FrozenNode.{FrozenNode}
+use Rattle.node_writeback.specs.declared.node.UnfinishedNode.{UnfinishedNode}
 use Rattle.pin_list.specs.Pins.{smaller, with_pin}
 use Rattle.record_codec.specs.Entries.{root_length_of, update_length_of}
 use Rattle.tree_nodes.specs.Levels.{Levels, level_of}

@@ -8,13 +8,13 @@ use Rattle.std.specs.Ordering.{nat_cmp}
 use Rattle.std.specs.Prelude.{◌==◌, slice_get, slice_index_or}
 use Rattle.birth_index.specs.Exchanges.{HaveOneNode}
 use Rattle.btree_map.specs.Trees.{Trees}
-use Rattle.commit_plan.specs.Dirty.{changed_nodes, with_pins}
-use Rattle.core_memory.specs.Opening.{IsOpened, opened_by, updates_in}
-use Rattle.core_memory.specs.States.{State}
-use Rattle.core_memory.specs.Volumes.{Volume}
+use Rattle.dirty_nodes.specs.Dirty.{changed_nodes, with_pins}
+use Rattle.core_state.specs.Opening.{IsOpened, opened_by, updates_in}
+use Rattle.core_state.specs.States.{State}
+use Rattle.core_state.specs.Volumes.{Volume}
 use Rattle.dev_model.specs.Devices.{DevicesState, now}
 use Rattle.dev_model.specs.Disk.{Image, as_read}
-use Rattle.entry_writer.specs.Writers.{starts_of}
+use Rattle.journal_writer.specs.Writers.{starts_of}
 use Rattle.geometry.specs.LayoutFacts.{both}
 use Rattle.geometry.specs.Layouts.{have_room, is_layout_of}
 use Rattle.image_view.specs.BaseLaws.{found-newest}
@@ -23,7 +23,7 @@ use Rattle.journal_ring.specs.Entries.{IsWhole}
 use Rattle.journal_ring.specs.EntryLaws.{begins}
 use Rattle.journal_ring.specs.Parts.{Area, area_of}
 use Rattle.journal_ring.specs.declared.found.FoundEntry.{FoundEntry}
-use Rattle.plain_reader.specs.Volumes.{last_of, no_entry}
+use Rattle.image_reader.specs.Volumes.{last_of, no_entry}
 use Rattle.replay.specs.Volumes.{found_in}
 use Rattle.replay.specs.declared.volume.Loaded.{Loaded}
 use Rattle.sealed_block.specs.Opening.{head_in, opened}

@@ -12,37 +12,37 @@ use Rattle.birth_index.specs.Births.{levels_of}
 use Rattle.birth_index.specs.NameLaws.{birth_itself, one_birth}
 use Rattle.btree_map.specs.Sizes.{all_btrees}
 use Rattle.btree_map.specs.Trees.{IsTrees, Trees, keys_in}
-use Rattle.commit_plan.specs.Dirty.{changed_nodes, paths_of, with_pins}
-use Rattle.core_memory.specs.Checkpoints.{AreInPlace, IsLeafFrozen, after_refused, given_up, with_block}
-use Rattle.core_memory.specs.Commits.{IsCommitted}
-use Rattle.core_memory.specs.HoldLaws.{pinned-each}
-use Rattle.core_memory.specs.Rulings.{IsFull, entry_of, kept_blocks}
-use Rattle.core_memory.specs.Sealing.{IsFlown, next_record, oldest_needed, settled_volume, with_writer}
-use Rattle.core_memory.specs.Volumes.{IsFlightHeld, IsVolume, KeepParts, Volume, birth_due, can_let_go, commits_of, halted_at, in_flight, is_below, last_sealed, needed_by, needs_entry, node_stage_by, undurable_in}
-use Rattle.core_memory.specs.declared.answer.Halt.{Halt}
-use Rattle.core_memory.specs.declared.answer.Refusal.{Refusal}
-use Rattle.core_memory.specs.declared.answer.Refusal.TheVariants as refusals
+use Rattle.dirty_nodes.specs.Dirty.{changed_nodes, paths_of, with_pins}
+use Rattle.core_state.specs.Checkpoints.{AreInPlace, IsLeafFrozen, after_refused, given_up, with_block}
+use Rattle.core_state.specs.Commits.{IsCommitted}
+use Rattle.core_state.specs.HoldLaws.{pinned-each}
+use Rattle.core_state.specs.Rulings.{IsFull, entry_of, kept_blocks}
+use Rattle.core_state.specs.Sealing.{IsFlown, next_record, oldest_needed, settled_volume, with_writer}
+use Rattle.core_state.specs.Volumes.{IsFlightHeld, IsVolume, KeepParts, Volume, birth_due, can_let_go, commits_of, halted_at, in_flight, is_below, last_sealed, needed_by, needs_entry, node_stage_by, undurable_in}
+use Rattle.core_state.specs.declared.answer.Halt.{Halt}
+use Rattle.core_state.specs.declared.answer.Refusal.{Refusal}
+use Rattle.core_state.specs.declared.answer.Refusal.TheVariants as refusals
 use Rattle.dev_model.specs.Devices.{DevicesState}
-use Rattle.entry_queue.specs.Changes.{changes_of}
-use Rattle.entry_queue.specs.FirstLaws.{first-behind, waiting-behind}
-use Rattle.entry_queue.specs.Queues.{AreBehind, AreChanges, AreFollowed, Queue, blocks_with, closes, first_of, first_with, follower_of, growth, joined, last_block, last_of, left_by, oldest, with_commit, without_oldest}
-use Rattle.entry_queue.specs.declared.changes.KeyChanges.{KeyChanges}
-use Rattle.entry_queue.specs.declared.changes.Pending.{Pending}
-use Rattle.entry_queue.proofs.Joining.{last_block-joined}
-use Rattle.entry_writer.specs.Writers.{HasRoom, Writer, first_of as first_start, passed, settled, settled_by, stage_by, unsettled_by, with_entry, with_flushed, with_next_part}
-use Rattle.entry_writer.specs.declared.durable.Durable.{Durable}
-use Rattle.entry_writer.specs.declared.stage.Stage.TheVariants.{CommitNodes, Freeze, Rest, Seal, WriteSet}
-use Rattle.entry_writer.specs.declared.writer.Flight.{Flight}
+use Rattle.journal_writer.specs.Changes.{changes_of}
+use Rattle.journal_writer.specs.FirstLaws.{first-behind, waiting-behind}
+use Rattle.journal_writer.specs.Queues.{AreBehind, AreChanges, AreFollowed, Queue, blocks_with, closes, first_of, first_with, follower_of, growth, joined, last_block, last_of, left_by, oldest, with_commit, without_oldest}
+use Rattle.journal_writer.specs.declared.changes.KeyChanges.{KeyChanges}
+use Rattle.journal_writer.specs.declared.changes.Pending.{Pending}
+use Rattle.journal_writer.proofs.Joining.{last_block-joined}
+use Rattle.journal_writer.specs.Writers.{HasRoom, Writer, first_of as first_start, passed, settled, settled_by, stage_by, unsettled_by, with_entry, with_flushed, with_next_part}
+use Rattle.journal_writer.specs.declared.durable.Durable.{Durable}
+use Rattle.journal_writer.specs.declared.stage.Stage.TheVariants.{CommitNodes, Freeze, Rest, Seal, WriteSet}
+use Rattle.journal_writer.specs.declared.writer.Flight.{Flight}
 use Rattle.image_view.specs.Found.{Found}
 use Rattle.journal_ring.specs.EntryBlocks.{parts_of}
-use Rattle.journal_safety.specs.Writings.{Writing}
-use Rattle.node_work.specs.Due.{is_due, is_frozen, is_pinned_up_to, leaf_due, root_in, root_of}
-use Rattle.node_work.specs.Durable.{undurable}
-use Rattle.node_work.specs.Freezing.{fresh_leaf}
-use Rattle.node_work.specs.Placing.{IsFrozenLeaf, moved_pins}
-use Rattle.node_writer.specs.NodeWork.{NodeWork, first_left, frozen_nodes, left_nodes, with_part_of}
-use Rattle.node_writer.specs.declared.node.FrozenNode.{FrozenNode}
-use Rattle.node_writer.specs.declared.node.UnfinishedNode.{UnfinishedNode}
+use Rattle.crash_safety.specs.Writings.{Writing}
+use Rattle.node_writeback.specs.Due.{is_due, is_frozen, is_pinned_up_to, leaf_due, root_in, root_of}
+use Rattle.node_writeback.specs.Durable.{undurable}
+use Rattle.node_writeback.specs.Freezing.{fresh_leaf}
+use Rattle.node_writeback.specs.Placing.{IsFrozenLeaf, moved_pins}
+use Rattle.node_writeback.specs.NodeWork.{NodeWork, first_left, frozen_nodes, left_nodes, with_part_of}
+use Rattle.node_writeback.specs.declared.node.FrozenNode.{FrozenNode}
+use Rattle.node_writeback.specs.declared.node.UnfinishedNode.{UnfinishedNode}
 use Rattle.pin_list.proofs.Least.{some_oldest}
 use Rattle.pin_list.specs.Pins.{IsOldest, least_pin, smaller, with_pin}
 use Rattle.tree_nodes.specs.Levels.{Levels}

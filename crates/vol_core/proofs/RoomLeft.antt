@@ -2,14 +2,14 @@
 use Rattle.std.proofs.Common.{◌≡◌, ◌≤◌, ◌+◌, [], ◌∷◌, ◌++◌, drop, Option, Some, None, ap, subst, arith}
 use Rattle.std.proofs.lemmas.Option.{none-some, same_Some}
 use Rattle.std.specs.Prelude.{IfSome, slice_index_or}
-use Rattle.core_memory.specs.Rulings.{kept_blocks}
-use Rattle.core_memory.specs.Volumes.{Volume}
+use Rattle.core_state.specs.Rulings.{kept_blocks}
+use Rattle.core_state.specs.Volumes.{Volume}
 use Rattle.dev_model.specs.Devices.{DevicesState}
-use Rattle.entry_writer.specs.Writers.{passed, settled_by}
-use Rattle.entry_writer.specs.declared.writer.Flight.{Flight}
+use Rattle.journal_writer.specs.Writers.{passed, settled_by}
+use Rattle.journal_writer.specs.declared.writer.Flight.{Flight}
 use Rattle.image_view.specs.Found.{Found}
-use Rattle.journal_safety.specs.NodeWritings.{IsWritingWithNodes}
-use Rattle.journal_safety.specs.Writings.{Writing, after}
+use Rattle.crash_safety.specs.NodeWritings.{IsWritingWithNodes}
+use Rattle.crash_safety.specs.Writings.{Writing, after}
 use Rattle.record_codec.specs.declared.entries.EntryRecord.{EntryRecord}
 use Rattle.vol_types.specs.declared.layout.Layout.{Layout}
 use Rattle.vol_core.specs.Entries.{AreStarts, FliesAs, entries_with}

@@ -6,16 +6,16 @@ use Rattle.std.proofs.lemmas.List.Elements.{All-head, All-nil, All-tail}
 use Rattle.std.proofs.lemmas.Option.{get_or_from_slice_get, none-some, same_Some, slice_get_within}
 use Rattle.std.specs.Prelude.{All, slice_get, slice_index_or}
 use Rattle.btree_map.specs.Trees.{Trees}
-use Rattle.core_memory.specs.Opening.{IsOpened, opened_by}
-use Rattle.core_memory.specs.Rulings.{kept_blocks}
-use Rattle.core_memory.specs.States.{State}
+use Rattle.core_state.specs.Opening.{IsOpened, opened_by}
+use Rattle.core_state.specs.Rulings.{kept_blocks}
+use Rattle.core_state.specs.States.{State}
 use Rattle.dev_model.specs.Devices.{DevicesState, now}
 use Rattle.dev_model.specs.Disk.{as_read}
-use Rattle.entry_writer.specs.Writers.{first_of, starts_of}
+use Rattle.journal_writer.specs.Writers.{first_of, starts_of}
 use Rattle.image_view.specs.Found.{FollowOn, Found, found, node_places}
 use Rattle.journal_ring.specs.EntryBlocks.{parts_of}
 use Rattle.journal_ring.specs.declared.found.FoundEntry.{FoundEntry}
-use Rattle.plain_reader.specs.Volumes.{last_of, no_entry}
+use Rattle.image_reader.specs.Volumes.{last_of, no_entry}
 use Rattle.replay.specs.Volumes.{found_in}
 use Rattle.replay.specs.declared.volume.Loaded.{Loaded}
 use Rattle.vol_types.specs.declared.layout.Layout.{Layout}

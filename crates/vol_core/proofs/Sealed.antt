@@ -5,27 +5,27 @@ use Rattle.std.proofs.lemmas.List.Elements.{All-cons, All-head, All-map, All-nil
 use Rattle.std.specs.Prelude.{All, IfSome, slice_get}
 use Rattle.btree_map.specs.Sizes.{all_btrees}
 use Rattle.btree_map.specs.Trees.{keys_in}
-use Rattle.checkpoint_safety.specs.Kept.{KeepsLeaves}
-use Rattle.checkpoint_safety.specs.Steps.{IsNamed}
-use Rattle.core_memory.specs.Sealing.{IsFlown, next_record, oldest_needed, roots_in}
-use Rattle.core_memory.specs.Volumes.{IsVolume, Volume, changes_in, last_sealed, needs_entry}
+use Rattle.crash_safety.specs.KeptLeaves.{KeepsLeaves}
+use Rattle.crash_safety.specs.LeafSteps.{IsNamed}
+use Rattle.core_state.specs.Sealing.{IsFlown, next_record, oldest_needed, roots_in}
+use Rattle.core_state.specs.Volumes.{IsVolume, Volume, changes_in, last_sealed, needs_entry}
 use Rattle.dev_model.specs.Devices.{DevicesState, now}
 use Rattle.dev_model.specs.Disk.{as_read}
-use Rattle.entry_queue.specs.Changes.{LeadTo, no_changes}
-use Rattle.entry_queue.specs.Queues.{Queue, closed_changes, first_of, left_by, oldest, record_of, waiting, without_oldest}
-use Rattle.entry_queue.specs.declared.changes.KeyChanges.{KeyChanges}
-use Rattle.entry_queue.specs.declared.changes.Pending.{Pending}
-use Rattle.entry_writer.specs.Writers.{IsSealed, Writer, with_entry}
-use Rattle.entry_writer.specs.declared.writer.Flight.{Flight}
+use Rattle.journal_writer.specs.Changes.{LeadTo, no_changes}
+use Rattle.journal_writer.specs.Queues.{Queue, closed_changes, first_of, left_by, oldest, record_of, waiting, without_oldest}
+use Rattle.journal_writer.specs.declared.changes.KeyChanges.{KeyChanges}
+use Rattle.journal_writer.specs.declared.changes.Pending.{Pending}
+use Rattle.journal_writer.specs.Writers.{IsSealed, Writer, with_entry}
+use Rattle.journal_writer.specs.declared.writer.Flight.{Flight}
 use Rattle.image_view.specs.Found.{Found}
 use Rattle.image_view.specs.NextEntries.{IsNext}
 use Rattle.image_view.specs.UpdatedTrees.{IsOfLeaf}
 use Rattle.journal_ring.specs.EntryBlocks.{AreEntryBlocks, parts_of}
 use Rattle.journal_ring.specs.Rings.{flight_number}
 use Rattle.journal_ring.specs.declared.found.FoundEntry.{FoundEntry}
-use Rattle.journal_safety.specs.NodeWritings.{IsSafeWithNodes}
-use Rattle.journal_safety.specs.Writings.{Writing, after}
-use Rattle.node_work.specs.Due.{root_in, root_of}
+use Rattle.crash_safety.specs.NodeWritings.{IsSafeWithNodes}
+use Rattle.crash_safety.specs.Writings.{Writing, after}
+use Rattle.node_writeback.specs.Due.{root_in, root_of}
 use Rattle.pin_list.specs.Pins.{least_pin}
 use Rattle.record_codec.specs.Entries.{UpdateFits}
 use Rattle.record_codec.specs.declared.entries.EntryRecord.{EntryRecord}

@@ -2,7 +2,7 @@
 use denote.RattleType.{RattleType}
 use denote.Param.Send.{IsSend, sendable}
 use Rattle.std.proofs.Crossing.{crosses}
-use Rattle.core_memory.proofs.Sent.{Memory-send}
+use Rattle.core_state.proofs.Sent.{Memory-send}
 use Rattle.dev_model.specs.declared.devices.Devices as devices
 use Rattle.vol_core.specs.contracts.machine.Core as Core
 use Rattle.vol_core.specs.declared.opening.Opening as opening

@@ -4,21 +4,21 @@ use Rattle.std.proofs.lemmas.List.{length-append, length-drop}
 use Rattle.std.proofs.lemmas.Option.{same_Some}
 use Rattle.btree_map.specs.Trees.{keys_in}
 use Rattle.bucket_pool.specs.Space.{settled_space}
-use Rattle.checkpoint_safety.specs.Kept.{KeepsLeaves}
-use Rattle.checkpoint_safety.specs.Steps.{settled_leaves}
-use Rattle.core_memory.specs.Sealing.{settled_volume, with_writer}
-use Rattle.core_memory.specs.Volumes.{IsVolume, Volume, changes_in, needs_entry, stage_of}
+use Rattle.crash_safety.specs.KeptLeaves.{KeepsLeaves}
+use Rattle.crash_safety.specs.LeafSteps.{settled_leaves}
+use Rattle.core_state.specs.Sealing.{settled_volume, with_writer}
+use Rattle.core_state.specs.Volumes.{IsVolume, Volume, changes_in, needs_entry, stage_of}
 use Rattle.dev_model.specs.Devices.{DevicesState, now}
 use Rattle.dev_model.specs.Disk.{as_read}
-use Rattle.entry_queue.specs.Changes.{LeadTo}
-use Rattle.entry_queue.specs.Queues.{waiting}
-use Rattle.entry_writer.specs.Writers.{first_flag, passed, settled_by, stage_by}
-use Rattle.entry_writer.specs.declared.stage.Stage.TheVariants.{Settle}
-use Rattle.entry_writer.specs.declared.writer.Flight.{Flight}
+use Rattle.journal_writer.specs.Changes.{LeadTo}
+use Rattle.journal_writer.specs.Queues.{waiting}
+use Rattle.journal_writer.specs.Writers.{first_flag, passed, settled_by, stage_by}
+use Rattle.journal_writer.specs.declared.stage.Stage.TheVariants.{Settle}
+use Rattle.journal_writer.specs.declared.writer.Flight.{Flight}
 use Rattle.image_view.specs.Found.{Found}
-use Rattle.journal_safety.specs.Flushes.{AreSettled}
-use Rattle.journal_safety.specs.NodeWritings.{IsSafeWithNodes, IsWritingWithNodes}
-use Rattle.journal_safety.specs.Writings.{Writing, after}
+use Rattle.crash_safety.specs.Flushes.{AreSettled}
+use Rattle.crash_safety.specs.NodeWritings.{IsSafeWithNodes, IsWritingWithNodes}
+use Rattle.crash_safety.specs.Writings.{Writing, after}
 use Rattle.record_codec.specs.declared.entries.EntryRecord.{EntryRecord}
 use Rattle.vol_types.specs.KeyMaps.{KeyMap, with_updates}
 use Rattle.vol_types.specs.declared.keys.Update.{Update}

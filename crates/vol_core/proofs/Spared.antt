@@ -5,28 +5,28 @@ use Rattle.std.proofs.lemmas.List.Elements.{All-contains, All-head}
 use Rattle.std.specs.Prelude.{All, Contains, IfSome}
 use Rattle.bucket_pool.specs.NodeBuckets.{HoldsNode, MayHoldNode}
 use Rattle.bucket_pool.specs.Space.{Space}
-use Rattle.checkpoint_safety.specs.Kept.{HoldsOwn, IsFreshKept}
-use Rattle.checkpoint_safety.specs.Leaves.{FreshLeaf}
-use Rattle.core_memory.specs.Devices.{FlushesDevice, WritesEntry, WritesNode}
-use Rattle.core_memory.specs.Events.{WriteGives}
-use Rattle.core_memory.specs.States.{State}
-use Rattle.core_memory.specs.Volumes.{KeepParts, Volume, stage_of}
-use Rattle.core_memory.specs.declared.answer.Answer.{Answer}
-use Rattle.core_memory.specs.declared.answer.Answer.TheVariants as answers
-use Rattle.core_memory.specs.declared.event.Event.{Event}
-use Rattle.core_memory.specs.declared.event.Event.TheVariants as events
+use Rattle.crash_safety.specs.KeptLeaves.{HoldsOwn, IsFreshKept}
+use Rattle.crash_safety.specs.CheckpointLeaves.{FreshLeaf}
+use Rattle.core_state.specs.Devices.{FlushesDevice, WritesEntry, WritesNode}
+use Rattle.core_state.specs.Events.{WriteGives}
+use Rattle.core_state.specs.States.{State}
+use Rattle.core_state.specs.Volumes.{KeepParts, Volume, stage_of}
+use Rattle.core_state.specs.declared.answer.Answer.{Answer}
+use Rattle.core_state.specs.declared.answer.Answer.TheVariants as answers
+use Rattle.core_state.specs.declared.event.Event.{Event}
+use Rattle.core_state.specs.declared.event.Event.TheVariants as events
 use Rattle.dev_model.specs.CrashLaws.{goes_on_flush, left_itself, same_but_more, started}
 use Rattle.dev_model.specs.Crashes.{EachCrash, IsCrashImageBut}
 use Rattle.dev_model.specs.Devices.{DevicesState, IsFlush, now}
 use Rattle.dev_model.specs.Disk.{IsDisk}
-use Rattle.entry_writer.specs.Writes.{WritesPart}
-use Rattle.entry_writer.specs.declared.stage.Stage.TheVariants.{WriteEntry}
+use Rattle.journal_writer.specs.Writes.{WritesPart}
+use Rattle.journal_writer.specs.declared.stage.Stage.TheVariants.{WriteEntry}
 use Rattle.image_view.specs.Found.{Found}
 use Rattle.journal_ring.specs.Rings.{IsPartPlace}
 use Rattle.node_store.specs.Writes.{IsCopyOf}
-use Rattle.node_writer.specs.NodeWork.{IsUnfinished}
-use Rattle.node_writer.specs.NodeWrites.{WritesNodePart}
-use Rattle.node_writer.specs.declared.node.UnfinishedNode.{UnfinishedNode}
+use Rattle.node_writeback.specs.NodeWork.{IsUnfinished}
+use Rattle.node_writeback.specs.NodeWrites.{WritesNodePart}
+use Rattle.node_writeback.specs.declared.node.UnfinishedNode.{UnfinishedNode}
 use Rattle.vol_types.specs.Limits.{bucket_blocks}
 use Rattle.vol_types.specs.declared.layout.Layout.{Layout}
 use Rattle.vol_types.specs.declared.pointers.Place.{Place}

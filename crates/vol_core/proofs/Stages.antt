@@ -1,14 +1,14 @@
 -- What is known of an entry in flight where a part of it is to be written, or where it is to become the last durable one.
 use Rattle.std.proofs.Common.{◌≡◌, ◌≢◌, ◌⊎◌, ◌≤◌, ◌<◌, ℕ, zero, suc, Bool, true, false, cond, Option, Some, None, List, [], ◌∷◌, take, length, refl, sym, ap, ◌∙◌, ⊎_elim, arith}
-use Rattle.journal_safety.specs.Flushes.{IsSet}
+use Rattle.crash_safety.specs.Flushes.{IsSet}
 use Rattle.std.proofs.lemmas.Bool.{false≢true}
 use Rattle.std.proofs.lemmas.Bool.Decides.{eqb_tells}
 use Rattle.std.proofs.lemmas.Option.{same_Some}
 use Rattle.std.specs.Prelude.{◌==◌, slice_get}
-use Rattle.entry_writer.specs.Writers.{Writer, first_flag, flush_before, stage_by, step_of}
-use Rattle.entry_writer.specs.declared.stage.Stage.{Stage}
-use Rattle.entry_writer.specs.declared.stage.Stage.TheVariants.{Flush, Seal, Settle, WriteEntry}
-use Rattle.entry_writer.specs.declared.writer.Flight.{Flight}
+use Rattle.journal_writer.specs.Writers.{Writer, first_flag, flush_before, stage_by, step_of}
+use Rattle.journal_writer.specs.declared.stage.Stage.{Stage}
+use Rattle.journal_writer.specs.declared.stage.Stage.TheVariants.{Flush, Seal, Settle, WriteEntry}
+use Rattle.journal_writer.specs.declared.writer.Flight.{Flight}
 
 -- Where nothing is in flight, the stage is no step of an entry.
 pub resting_writes_nothing : (needed : Bool) (writer : Writer) → stage_by None needed writer ≡ WriteEntry → ⊥

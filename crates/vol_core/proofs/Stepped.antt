@@ -2,32 +2,32 @@
 use Rattle.std.proofs.Common.{◌≡◌, ℕ, List, [], Bool, true, false, Option, Some, None, Result, Ok, Err, refl, sym, ap, subst, ◌∙◌, ⊎_elim}
 use Rattle.std.proofs.lemmas.List.Elements.{All-nil}
 use Rattle.std.specs.Prelude.{All, IfSome, unwrap_or}
-use Rattle.core_memory.specs.Commits.{AreIntended}
-use Rattle.core_memory.specs.Events.{EventGives, FlushGives, IsOfMemory, Waits, WriteGives, WriteSetGives}
-use Rattle.core_memory.specs.Devices.{FlushesDevice, WritesEntry, WritesNode}
-use Rattle.core_memory.specs.HoldLaws.{needed-between}
-use Rattle.core_memory.specs.States.{IsState, State, mine, other_holder}
-use Rattle.core_memory.specs.Volumes.{node_stage_of}
-use Rattle.core_memory.specs.declared.answer.Answer.{Answer}
-use Rattle.core_memory.specs.declared.answer.Answer.TheVariants as answers
-use Rattle.core_memory.specs.declared.answer.Refusal.{Refusal}
-use Rattle.core_memory.specs.declared.event.Event.{Event}
-use Rattle.core_memory.specs.declared.event.Event.TheVariants as events
+use Rattle.core_state.specs.Commits.{AreIntended}
+use Rattle.core_state.specs.Events.{EventGives, FlushGives, IsOfMemory, Waits, WriteGives, WriteSetGives}
+use Rattle.core_state.specs.Devices.{FlushesDevice, WritesEntry, WritesNode}
+use Rattle.core_state.specs.HoldLaws.{needed-between}
+use Rattle.core_state.specs.States.{IsState, State, mine, other_holder}
+use Rattle.core_state.specs.Volumes.{node_stage_of}
+use Rattle.core_state.specs.declared.answer.Answer.{Answer}
+use Rattle.core_state.specs.declared.answer.Answer.TheVariants as answers
+use Rattle.core_state.specs.declared.answer.Refusal.{Refusal}
+use Rattle.core_state.specs.declared.event.Event.{Event}
+use Rattle.core_state.specs.declared.event.Event.TheVariants as events
 use Rattle.dev_model.specs.Devices.{DevicesState, now}
 use Rattle.dev_model.specs.Disk.{IsDisk}
-use Rattle.entry_writer.specs.Writes.{WritesPart}
-use Rattle.entry_writer.specs.declared.stage.Stage.{Stage}
-use Rattle.entry_writer.specs.declared.stage.Stage.TheVariants.{WriteSet}
+use Rattle.journal_writer.specs.Writes.{WritesPart}
+use Rattle.journal_writer.specs.declared.stage.Stage.{Stage}
+use Rattle.journal_writer.specs.declared.stage.Stage.TheVariants.{WriteSet}
 use Rattle.image_view.specs.Found.{Found}
 use Rattle.journal_ring.specs.Rings.{RingState}
-use Rattle.journal_safety.specs.Flushes.{flushes}
-use Rattle.journal_safety.specs.Parts.{IsPartWritten}
-use Rattle.journal_safety.specs.Standing.{AreSteady}
-use Rattle.node_safety.specs.NodeParts.{IsNodePartWritten}
+use Rattle.crash_safety.specs.Flushes.{flushes}
+use Rattle.crash_safety.specs.Parts.{IsPartWritten}
+use Rattle.crash_safety.specs.Standing.{AreSteady}
+use Rattle.crash_safety.specs.NodeParts.{IsNodePartWritten}
 use Rattle.node_store.specs.declared.planning.Blocked.{Blocked}
-use Rattle.node_writer.specs.NodeWork.{birth_left}
-use Rattle.node_writer.specs.NodeWrites.{WritesNodePart}
-use Rattle.node_writer.specs.declared.node.UnfinishedNode.{UnfinishedNode}
+use Rattle.node_writeback.specs.NodeWork.{birth_left}
+use Rattle.node_writeback.specs.NodeWrites.{WritesNodePart}
+use Rattle.node_writeback.specs.declared.node.UnfinishedNode.{UnfinishedNode}
 use Rattle.vol_types.specs.declared.keys.Update.{Update}
 use Rattle.vol_core.specs.Cores.{CoreState, StepGives}
 use Rattle.vol_core.specs.Entries.{IsInLeaf}
@@ -39,7 +39,7 @@ use Rattle.vol_core.proofs.Frozen.{frozen_on}
 use Rattle.vol_core.proofs.GivenUp.{unfrozen_on}
 use Rattle.vol_core.proofs.Joined.{committed_on}
 use Rattle.vol_core.proofs.NodeStages.{writing_is}
-use Rattle.core_memory.specs.Volumes.{KeepParts}
+use Rattle.core_state.specs.Volumes.{KeepParts}
 use Rattle.vol_core.proofs.Placed.{placed_on}
 use Rattle.vol_core.proofs.Sealed.{flown_on}
 use Rattle.vol_core.proofs.Settled.{settled_on}

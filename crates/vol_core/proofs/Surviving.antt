@@ -1,11 +1,11 @@
 -- What a crash leaves of a safe core.
 use Rattle.std.proofs.Common.{◌<◌, ℕ, List, Option, length, slice_index_or, sym, subst}
-use Rattle.core_memory.specs.Volumes.{Volume}
+use Rattle.core_state.specs.Volumes.{Volume}
 use Rattle.dev_model.specs.Devices.{DevicesState, now}
 use Rattle.dev_model.specs.Disk.{Image, IsCrashImage}
 use Rattle.image_view.specs.Found.{Found}
-use Rattle.journal_safety.specs.NodeWritings.{IsSafeWithNodes}
-use Rattle.journal_safety.specs.Writings.{Writing}
+use Rattle.crash_safety.specs.NodeWritings.{IsSafeWithNodes}
+use Rattle.crash_safety.specs.Writings.{Writing}
 use Rattle.replay.specs.Mending.{IsUntorn, StandsOnAll}
 use Rattle.vol_types.specs.declared.layout.Layout.{Layout}
 use Rattle.vol_core.specs.Safety.{IsCoreSafe, Survives}

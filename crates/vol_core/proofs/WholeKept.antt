@@ -4,24 +4,24 @@ use Rattle.std.proofs.Common.{◌≡◌, ◌≤◌, ◌<◌, ◌+◌, ◌%◌, �
 use Rattle.std.proofs.Math.Nat.{mod-lt}
 use Rattle.std.proofs.lemmas.Option.{same_Some}
 use Rattle.std.specs.Prelude.{IfSome, slice_index_or}
-use Rattle.core_memory.specs.States.{IsState}
-use Rattle.core_memory.specs.Volumes.{IsVolume, KeepParts, Volume, needs_entry}
-use Rattle.core_memory.specs.declared.answer.Answer.{Answer}
-use Rattle.core_memory.specs.declared.event.Event.{Event}
+use Rattle.core_state.specs.States.{IsState}
+use Rattle.core_state.specs.Volumes.{IsVolume, KeepParts, Volume, needs_entry}
+use Rattle.core_state.specs.declared.answer.Answer.{Answer}
+use Rattle.core_state.specs.declared.event.Event.{Event}
 use Rattle.dev_model.specs.Crashes.{SameBut}
 use Rattle.dev_model.specs.Devices.{DevicesState, now}
 use Rattle.dev_model.specs.Disk.{Image, IsCrashImage, block_at}
-use Rattle.entry_writer.specs.Writers.{stage_by}
-use Rattle.entry_writer.specs.declared.stage.Stage.TheVariants.{WriteEntry}
-use Rattle.entry_writer.specs.declared.writer.Flight.{Flight}
+use Rattle.journal_writer.specs.Writers.{stage_by}
+use Rattle.journal_writer.specs.declared.stage.Stage.TheVariants.{WriteEntry}
+use Rattle.journal_writer.specs.declared.writer.Flight.{Flight}
 use Rattle.image_view.specs.Bases.{AgreeAt, AgreeOnBase}
 use Rattle.image_view.specs.Found.{Found}
 use Rattle.image_view.specs.Mends.{IsPlaceOf}
 use Rattle.journal_ring.specs.EntryBlocks.{parts_of, ring_block}
 use Rattle.journal_ring.specs.Rings.{flight_number}
 use Rattle.journal_ring.specs.declared.found.FoundEntry.{FoundEntry}
-use Rattle.journal_safety.specs.NodeWritings.{IsWritingWithNodes}
-use Rattle.journal_safety.specs.Writings.{Writing}
+use Rattle.crash_safety.specs.NodeWritings.{IsWritingWithNodes}
+use Rattle.crash_safety.specs.Writings.{Writing}
 use Rattle.replay.specs.Mending.{StandsOnAll}
 use Rattle.vol_types.specs.LayoutLaws.{layout_found}
 use Rattle.vol_types.specs.declared.layout.Layout.{Layout}

@@ -3,22 +3,22 @@
 use Rattle.std.proofs.Common.{◌≡◌, ◌≤◌, ◌<◌, ◌+◌, ℕ, Bool, true, false, List, drop, length, replicate, Option, Some, None, refl, sym, ap, subst, ◌∙◌, arith}
 use Rattle.std.proofs.lemmas.List.{length-append, length-drop, length-replicate, length-set}
 use Rattle.std.specs.Prelude.{All}
-use Rattle.checkpoint_safety.specs.Kept.{KeepsLeaves}
-use Rattle.core_memory.specs.Sealing.{with_writer}
-use Rattle.core_memory.specs.Volumes.{IsVolume, Volume, halted_at, needs_entry, stage_of}
-use Rattle.core_memory.specs.declared.answer.Halt.{Halt}
+use Rattle.crash_safety.specs.KeptLeaves.{KeepsLeaves}
+use Rattle.core_state.specs.Sealing.{with_writer}
+use Rattle.core_state.specs.Volumes.{IsVolume, Volume, halted_at, needs_entry, stage_of}
+use Rattle.core_state.specs.declared.answer.Halt.{Halt}
 use Rattle.dev_model.specs.Devices.{DevicesState, now}
 use Rattle.dev_model.specs.Disk.{IsDisk}
-use Rattle.entry_writer.specs.Writers.{Writer, stage_by, unsettled_by, with_flags}
-use Rattle.entry_writer.specs.declared.stage.Stage.TheVariants.{WriteEntry}
-use Rattle.entry_writer.specs.declared.writer.Flight.{Flight}
+use Rattle.journal_writer.specs.Writers.{Writer, stage_by, unsettled_by, with_flags}
+use Rattle.journal_writer.specs.declared.stage.Stage.TheVariants.{WriteEntry}
+use Rattle.journal_writer.specs.declared.writer.Flight.{Flight}
 use Rattle.image_view.specs.Found.{Found}
-use Rattle.journal_safety.specs.Flushes.{AreFlushed, Flushes, flags_by}
-use Rattle.journal_safety.specs.Parts.{IsPartWritten, IsRingOf, standing_by}
-use Rattle.journal_safety.specs.NodeWritings.{IsSafeWithNodes}
-use Rattle.journal_safety.specs.Safety.{IsSafe}
-use Rattle.journal_safety.specs.Standing.{AreSteady}
-use Rattle.journal_safety.specs.Writings.{Writing}
+use Rattle.crash_safety.specs.Flushes.{AreFlushed, Flushes, flags_by}
+use Rattle.crash_safety.specs.Parts.{IsPartWritten, IsRingOf, standing_by}
+use Rattle.crash_safety.specs.NodeWritings.{IsSafeWithNodes}
+use Rattle.crash_safety.specs.Safety.{IsSafe}
+use Rattle.crash_safety.specs.Standing.{AreSteady}
+use Rattle.crash_safety.specs.Writings.{Writing}
 use Rattle.vol_core.specs.Entries.{AreStarts, FliesAs, entries_with}
 use Rattle.vol_core.specs.Safety.{AreUpTo, IsCoreSafe}
 use Rattle.vol_core.specs.VolumeLeaves.{leaves_in}

@@ -7,16 +7,16 @@ use Rattle.btree_map.specs.Trees.{IsTrees}
 use Rattle.bucket_pool.specs.NodeBuckets.{AreFixed, HoldsNode, MayHoldNode}
 use Rattle.bucket_pool.specs.Opening.{space_of}
 use Rattle.bucket_pool.specs.Space.{have_free, node_places}
-use Rattle.checkpoint_safety.specs.Kept.{HoldsOwn, IsLeafPlanned, KeepsLeaves}
-use Rattle.checkpoint_safety.specs.Leaves.{FreshLeaf, Leaves}
-use Rattle.checkpoint_safety.specs.Steps.{ArePinnedMore, AreSameLeaves, HoldBack, IsNamed, MayBePlaced, given_up, placed, settled_leaves, with_fresh, with_last}
-use Rattle.commit_plan.specs.Dirty.{with_pins}
+use Rattle.crash_safety.specs.KeptLeaves.{HoldsOwn, IsLeafPlanned, KeepsLeaves}
+use Rattle.crash_safety.specs.CheckpointLeaves.{FreshLeaf, Leaves}
+use Rattle.crash_safety.specs.LeafSteps.{ArePinnedMore, AreSameLeaves, HoldBack, IsNamed, MayBePlaced, given_up, placed, settled_leaves, with_fresh, with_last}
+use Rattle.dirty_nodes.specs.Dirty.{with_pins}
 use Rattle.dev_model.specs.Crashes.{IsQuiet, SameBut}
 use Rattle.dev_model.specs.Devices.{DevicesState, now}
 use Rattle.dev_model.specs.Disk.{Disk, Image, IsCrashImage, IsDisk, as_read}
-use Rattle.entry_queue.specs.Changes.{LeadTo, changes_of}
-use Rattle.entry_queue.specs.Queues.{Queue, durable_keys, empty_queue, joined, oldest, waiting, without_oldest}
-use Rattle.entry_queue.specs.declared.changes.KeyChanges.{KeyChanges}
+use Rattle.journal_writer.specs.Changes.{LeadTo, changes_of}
+use Rattle.journal_writer.specs.Queues.{Queue, durable_keys, empty_queue, joined, oldest, waiting, without_oldest}
+use Rattle.journal_writer.specs.declared.changes.KeyChanges.{KeyChanges}
 use Rattle.image_view.specs.Bases.{AgreeOnBase}
 use Rattle.image_view.specs.Found.{Found, IsInOrder, found, node_places as places_found}
 use Rattle.image_view.specs.Mends.{IsPlaceOf}
@@ -28,18 +28,18 @@ use Rattle.journal_ring.specs.EntryBlocks.{parts_of}
 use Rattle.journal_ring.specs.Parts.{Area, area_of}
 use Rattle.journal_ring.specs.Rings.{RingState}
 use Rattle.journal_ring.specs.declared.found.FoundEntry.{FoundEntry}
-use Rattle.journal_safety.specs.Flushes.{AreFlushed, AreSettled, Flushes, IsSet, flags_by, with_flags}
-use Rattle.journal_safety.specs.NodeWritings.{IsSafeWithNodes}
-use Rattle.journal_safety.specs.Parts.{IsPartWritten, IsRingOf, standing_by}
-use Rattle.journal_safety.specs.Safety.{IsJournalSafe}
-use Rattle.journal_safety.specs.Standing.{AreSteady}
-use Rattle.journal_safety.specs.Writings.{Writing, after}
+use Rattle.crash_safety.specs.Flushes.{AreFlushed, AreSettled, Flushes, IsSet, flags_by, with_flags}
+use Rattle.crash_safety.specs.NodeWritings.{IsSafeWithNodes}
+use Rattle.crash_safety.specs.Parts.{IsPartWritten, IsRingOf, standing_by}
+use Rattle.crash_safety.specs.Safety.{IsJournalSafe}
+use Rattle.crash_safety.specs.Standing.{AreSteady}
+use Rattle.crash_safety.specs.Writings.{Writing, after}
 use Rattle.key_meaning.specs.Checks.{AreNodesPlaced}
-use Rattle.node_contents.specs.Contents.{ChangesBtree, IsPinnedUpTo}
+use Rattle.crash_safety.specs.Contents.{ChangesBtree, IsPinnedUpTo}
 use Rattle.node_mem.specs.Nodes.{with_keys}
-use Rattle.node_safety.specs.NodeParts.{IsNodePartWritten}
-use Rattle.node_work.specs.Placing.{AreFrozenLeaves, exchanges_of, moved_pins}
-use Rattle.node_writer.specs.declared.node.FrozenNode.{FrozenNode}
+use Rattle.crash_safety.specs.NodeParts.{IsNodePartWritten}
+use Rattle.node_writeback.specs.Placing.{AreFrozenLeaves, exchanges_of, moved_pins}
+use Rattle.node_writeback.specs.declared.node.FrozenNode.{FrozenNode}
 use Rattle.pin_list.specs.Pins.{smaller}
 use Rattle.replay.specs.Mending.{HasMended, StandsOnAll}
 use Rattle.replay.specs.NodeUpdates.{ChangesNode, EachUpdate, IsBelowRoot}

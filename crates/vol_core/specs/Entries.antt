@@ -1,15 +1,15 @@
 -- The entries of the journal as they are known in memory: those that the last durable one needs, the one that is written, and those that
 -- wait.
 use Rattle.std.specs.Prelude.{◌≡◌, ◌≤◌, ◌<◌, ◌+◌, ℕ, Option, Some, None, List, [], ◌∷◌, ◌++◌, All, length, ⊤}
-use Rattle.core_memory.specs.Volumes.{Volume}
-use Rattle.entry_queue.specs.Queues.{record_of}
-use Rattle.entry_queue.specs.declared.changes.KeyChanges.{KeyChanges}
-use Rattle.entry_writer.specs.declared.writer.Flight.{Flight}
+use Rattle.core_state.specs.Volumes.{Volume}
+use Rattle.journal_writer.specs.Queues.{record_of}
+use Rattle.journal_writer.specs.declared.changes.KeyChanges.{KeyChanges}
+use Rattle.journal_writer.specs.declared.writer.Flight.{Flight}
 use Rattle.image_view.specs.Found.{Found}
 use Rattle.image_view.specs.UpdatedTrees.{IsOfLeaf}
 use Rattle.journal_ring.specs.Rings.{flight_number}
 use Rattle.journal_ring.specs.declared.found.FoundEntry.{FoundEntry}
-use Rattle.journal_safety.specs.Writings.{Writing}
+use Rattle.crash_safety.specs.Writings.{Writing}
 use Rattle.replay.specs.NodeUpdates.{EachUpdate, IsBelowRoot}
 use Rattle.vol_types.specs.KeyMaps.{with_updates}
 use Rattle.vol_types.specs.declared.keys.Update.{Update}

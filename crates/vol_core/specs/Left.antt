@@ -2,14 +2,14 @@
 -- with the blocks of files as they were when the session began.
 use Rattle.std.specs.Prelude.{◌≡◌, ◌≢◌, ◌⊎◌, ◌/◌, ◌<◌, ◌≤◌, ℕ, Option, Some, None, Ok, ◌++◌, All, length, slice_index_or}
 use Rattle.btree_map.specs.Trees.{keys_in}
-use Rattle.core_memory.specs.Volumes.{Volume, changes_in}
-use Rattle.core_memory.specs.declared.answer.Answer.{Answer}
-use Rattle.core_memory.specs.declared.answer.Answer.TheVariants.{DeviceFault}
+use Rattle.core_state.specs.Volumes.{Volume, changes_in}
+use Rattle.core_state.specs.declared.answer.Answer.{Answer}
+use Rattle.core_state.specs.declared.answer.Answer.TheVariants.{DeviceFault}
 use Rattle.dev_model.specs.Devices.{DevicesState, now}
 use Rattle.dev_model.specs.Disk.{Image, IsCrashImage, as_read, block_at}
-use Rattle.entry_queue.specs.Changes.{LeadTo}
-use Rattle.entry_queue.specs.Queues.{waiting}
-use Rattle.entry_writer.specs.declared.writer.Flight.{Flight}
+use Rattle.journal_writer.specs.Changes.{LeadTo}
+use Rattle.journal_writer.specs.Queues.{waiting}
+use Rattle.journal_writer.specs.declared.writer.Flight.{Flight}
 use Rattle.image_view.specs.Found.{Found, IsInOrder, found, node_places}
 use Rattle.image_view.specs.UpdatedTrees.{IsOfLeaf}
 use Rattle.key_meaning.specs.Checks.{AreNodesPlaced, IsSound, count_in_bucket, live_blocks}

@@ -2,18 +2,18 @@
 -- every event keeps of the ring, from which that follows.
 use Rattle.std.specs.Prelude.{◌≡◌, ℕ, ◌+◌, ◌-◌, ◌≤◌, ◌==◌, if◌then◌else◌, ⊤, Option, Some, None, List, [], ◌∷◌, length, slice_index_or}
 use Rattle.std.specs.Ordering.{nat_cmp}
-use Rattle.core_memory.specs.Commits.{AreIntended}
-use Rattle.core_memory.specs.Rulings.{IsFull}
-use Rattle.core_memory.specs.Sealing.{oldest_needed}
-use Rattle.core_memory.specs.Volumes.{Volume, node_stage_of, stage_of}
+use Rattle.core_state.specs.Commits.{AreIntended}
+use Rattle.core_state.specs.Rulings.{IsFull}
+use Rattle.core_state.specs.Sealing.{oldest_needed}
+use Rattle.core_state.specs.Volumes.{Volume, node_stage_of, stage_of}
 use Rattle.dev_model.specs.Devices.{DevicesState, now}
-use Rattle.entry_queue.specs.Queues.{Queue, first_of, last_of, oldest}
-use Rattle.entry_queue.specs.declared.changes.Pending.{Pending}
-use Rattle.entry_writer.specs.Writers.{first_of as first_start}
-use Rattle.entry_writer.specs.declared.stage.Stage.TheVariants.{Rest}
-use Rattle.entry_writer.specs.declared.writer.Flight.{Flight}
+use Rattle.journal_writer.specs.Queues.{Queue, first_of, last_of, oldest}
+use Rattle.journal_writer.specs.declared.changes.Pending.{Pending}
+use Rattle.journal_writer.specs.Writers.{first_of as first_start}
+use Rattle.journal_writer.specs.declared.stage.Stage.TheVariants.{Rest}
+use Rattle.journal_writer.specs.declared.writer.Flight.{Flight}
 use Rattle.image_view.specs.Found.{Found}
-use Rattle.node_work.specs.Due.{root_in}
+use Rattle.node_writeback.specs.Due.{root_in}
 use Rattle.tree_nodes.specs.Levels.{Levels}
 use Rattle.vol_types.specs.Maps.{IsMap, value_at}
 use Rattle.vol_types.specs.declared.keys.Update.{Update}

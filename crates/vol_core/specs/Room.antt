@@ -1,17 +1,17 @@
 -- Room in the ring of the journal: how much of it what was found leaves free, and what every event keeps of that, so that the next entry finds room.
 use Rattle.std.specs.Prelude.{◌≡◌, ◌⊎◌, ℕ, ◌+◌, ◌<◌, ◌≤◌, ◌==◌, ◌||◌, not, ⊤, Bool, true, Some, None, List, [], ◌∷◌, All, length, slice_index_or}
 use Rattle.std.specs.Ordering.{nat_cmp}
-use Rattle.core_memory.specs.Rulings.{kept_blocks}
-use Rattle.core_memory.specs.Sealing.{next_record}
-use Rattle.core_memory.specs.Volumes.{Volume, commits_of}
+use Rattle.core_state.specs.Rulings.{kept_blocks}
+use Rattle.core_state.specs.Sealing.{next_record}
+use Rattle.core_state.specs.Volumes.{Volume, commits_of}
 use Rattle.dev_model.specs.Devices.{DevicesState, now}
-use Rattle.entry_queue.specs.Queues.{last_block, oldest}
-use Rattle.entry_writer.specs.Writers.{HasRoom, settled}
-use Rattle.entry_writer.specs.declared.durable.Durable.{Durable}
+use Rattle.journal_writer.specs.Queues.{last_block, oldest}
+use Rattle.journal_writer.specs.Writers.{HasRoom, settled}
+use Rattle.journal_writer.specs.declared.durable.Durable.{Durable}
 use Rattle.image_view.specs.Found.{Found}
 use Rattle.journal_ring.specs.EntryBlocks.{parts_of}
-use Rattle.node_writer.specs.NodeWork.{frozen_nodes}
-use Rattle.node_writer.specs.declared.node.FrozenNode.{FrozenNode}
+use Rattle.node_writeback.specs.NodeWork.{frozen_nodes}
+use Rattle.node_writeback.specs.declared.node.FrozenNode.{FrozenNode}
 use Rattle.vol_types.specs.Maps.{value_at}
 use Rattle.vol_core.specs.Safety.{MayBegin}
 

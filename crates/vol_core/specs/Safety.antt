@@ -3,19 +3,19 @@
 use Rattle.std.specs.Prelude.{◌≡◌, ◌<◌, ◌≤◌, ◌+◌, ℕ, Option, Some, Ok, List, [], ◌∷◌, ◌++◌, All, length, slice_get, slice_index_or, ⊤}
 use Rattle.birth_index.specs.Exchanges.{HaveOneNode}
 use Rattle.btree_map.specs.Trees.{keys_in}
-use Rattle.checkpoint_safety.specs.Kept.{KeepsLeaves}
-use Rattle.core_memory.specs.Volumes.{Volume, changes_in}
+use Rattle.crash_safety.specs.KeptLeaves.{KeepsLeaves}
+use Rattle.core_state.specs.Volumes.{Volume, changes_in}
 use Rattle.dev_model.specs.Devices.{DevicesState, now}
 use Rattle.dev_model.specs.Disk.{Disk, Image, IsCrashImage}
-use Rattle.entry_queue.specs.Changes.{LeadTo}
-use Rattle.entry_queue.specs.Queues.{waiting}
+use Rattle.journal_writer.specs.Changes.{LeadTo}
+use Rattle.journal_writer.specs.Queues.{waiting}
 use Rattle.image_view.specs.Found.{Found, found}
 use Rattle.image_view.specs.UpdatedTrees.{IsOfLeaf}
-use Rattle.journal_safety.specs.Flushes.{AreFlushed}
-use Rattle.journal_safety.specs.NodeWritings.{IsSafeWithNodes}
-use Rattle.journal_safety.specs.Safety.{MeansOneOf}
-use Rattle.journal_safety.specs.Writings.{Writing, after}
-use Rattle.plain_reader.specs.Volumes.{no_entry}
+use Rattle.crash_safety.specs.Flushes.{AreFlushed}
+use Rattle.crash_safety.specs.NodeWritings.{IsSafeWithNodes}
+use Rattle.crash_safety.specs.Safety.{MeansOneOf}
+use Rattle.crash_safety.specs.Writings.{Writing, after}
+use Rattle.image_reader.specs.Volumes.{no_entry}
 use Rattle.vol_types.specs.KeyMaps.{key_map, with_updates}
 use Rattle.vol_types.specs.declared.pointers.NodePtr.{NodePtr}
 use Rattle.replay.specs.Mending.{IsReady, IsUntorn, StandsOnAll}

@@ -1,12 +1,12 @@
 -- The leaves of an open volume, as what is kept of leaves says of them: the roots of btrees, and those that are frozen.
 use Rattle.std.specs.Prelude.{ℕ, Option, Some, None, List, [], ◌∷◌, ◌++◌, map}
 use Rattle.std.specs.Ordering.{nat_cmp}
-use Rattle.checkpoint_safety.specs.Leaves.{FreshLeaf, Leaves}
-use Rattle.core_memory.specs.Volumes.{Volume}
-use Rattle.node_work.specs.Due.{root_in}
-use Rattle.node_writer.specs.NodeWork.{NodeWork}
-use Rattle.node_writer.specs.declared.node.FrozenNode.{FrozenNode}
-use Rattle.node_writer.specs.declared.node.UnfinishedNode.{UnfinishedNode}
+use Rattle.crash_safety.specs.CheckpointLeaves.{FreshLeaf, Leaves}
+use Rattle.core_state.specs.Volumes.{Volume}
+use Rattle.node_writeback.specs.Due.{root_in}
+use Rattle.node_writeback.specs.NodeWork.{NodeWork}
+use Rattle.node_writeback.specs.declared.node.FrozenNode.{FrozenNode}
+use Rattle.node_writeback.specs.declared.node.UnfinishedNode.{UnfinishedNode}
 use Rattle.vol_types.specs.Limits.{bucket_blocks}
 use Rattle.vol_types.specs.Maps.{value_at}
 

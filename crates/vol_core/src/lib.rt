@@ -12,7 +12,7 @@ mod laws;
 mod machine;
 mod opening;
 
-pub use core_memory::{
+pub use core_state::{
     Actor, Answer, Durable, Event, Failure, Halt, Memory, NoSpace, Refusal, Stage, Work,
 };
 pub use machine::{Core, Unopened};

@@ -1,7 +1,7 @@
 ghost use Rattle.std.specs.Prelude.{◌≡◌, ◌≢◌, ◌↔◌, ◌<◌, ℕ, true, length, IfErr, IfOk, IfSome, IsTrue};
-ghost use Rattle.core_memory.specs.Events.{Fits};
-ghost use Rattle.core_memory.specs.Opening.{IsOpened};
-ghost use Rattle.core_memory.specs.States.{mine};
+ghost use Rattle.core_state.specs.Events.{Fits};
+ghost use Rattle.core_state.specs.Opening.{IsOpened};
+ghost use Rattle.core_state.specs.States.{mine};
 ghost use Rattle.geometry.specs.Layouts.{is_layout_of};
 ghost use Rattle.image_view.specs.Found.{node_places};
 ghost use Rattle.replay.specs.Mending.{KeepsPast};
@@ -17,9 +17,9 @@ ghost use Rattle.vol_types.specs.Layouts.{is_layout};
 
 use crate::laws::{found_volumes_have_laws, open_volumes_have_laws};
 use crate::opening::Opening;
-use core_memory::{Answer, Event, Memory, node_places};
+use core_state::{Answer, Event, Memory, node_places};
 use dev_model::Devices;
-use journal_safety::entries_with_new_nodes_are_written_safely;
+use crash_safety::entries_with_new_nodes_are_written_safely;
 use replay::Loaded;
 use std::alloc::{AllocError, Global};
 use std::marker::{Model, PhantomData};

@@ -7,9 +7,9 @@ use Rattle.std.proofs.lemmas.List.{drop_more}
 use Rattle.std.proofs.lemmas.Option.{same_Some}
 use Rattle.std.specs.Map.{values_of}
 use Rattle.image_view.specs.Trees.{BtreeRead, joined, no_btree}
-use Rattle.plain_reader.specs.Volumes.{btree_in, found_of}
-use Rattle.plain_reader.specs.declared.found.FoundBtree.{FoundBtree}
-use Rattle.plain_reader.specs.declared.found.FoundVolume.{FoundVolume}
+use Rattle.image_reader.specs.Volumes.{btree_in, found_of}
+use Rattle.image_reader.specs.declared.found.FoundBtree.{FoundBtree}
+use Rattle.image_reader.specs.declared.found.FoundVolume.{FoundVolume}
 use Rattle.vol_types.specs.Btrees.{btree_code}
 use Rattle.vol_types.specs.KeyMaps.{entries_of}
 use Rattle.vol_types.specs.declared.pointers.NodePtr.{NodePtr}

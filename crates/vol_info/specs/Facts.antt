@@ -9,8 +9,8 @@ use Rattle.bucket_pool.specs.declared.bucket.Bucket.{Bucket}
 use Rattle.image_view.specs.Found.{Found, node_places}
 use Rattle.image_view.specs.Trees.{TreesRead, all_btrees}
 use Rattle.journal_ring.specs.declared.found.FoundEntry.{FoundEntry}
-use Rattle.plain_reader.specs.Volumes.{no_entry}
-use Rattle.plain_reader.specs.declared.found.FoundBtree.{FoundBtree}
+use Rattle.image_reader.specs.Volumes.{no_entry}
+use Rattle.image_reader.specs.declared.found.FoundBtree.{FoundBtree}
 use Rattle.tree_nodes.specs.Levels.{Levels}
 use Rattle.vol_types.specs.Btrees.{btree_code}
 use Rattle.vol_types.specs.KeyMaps.{entries_of, keys_in}

@@ -6,7 +6,7 @@ use Rattle.geometry.specs.Faults.{SomeFailed}
 use Rattle.image_view.specs.Found.{Found, found}
 use Rattle.image_view.specs.declared.fault.MountFault.{MountFault}
 use Rattle.image_view.specs.declared.fault.MountFault.TheVariants.{DeviceFault, NoMemory}
-use Rattle.plain_reader.specs.Answers.{IsFront, NodesAgree}
+use Rattle.image_reader.specs.Answers.{IsFront, NodesAgree}
 use Rattle.vol_info.specs.Facts.{facts_of}
 use Rattle.vol_info.specs.declared.facts.Facts.{Facts}
 

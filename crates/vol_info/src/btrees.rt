@@ -2,12 +2,12 @@ ghost use Rattle.std.specs.Prelude.{◌≡◌, ◌++◌, IfOk, OnOk, map};
 ghost use Rattle.std.specs.List.{flat_map};
 ghost use Rattle.std.specs.Map.{values_of};
 ghost use Rattle.image_view.specs.Trees.{all_btrees};
-ghost use Rattle.plain_reader.specs.Volumes.{found_of};
+ghost use Rattle.image_reader.specs.Volumes.{found_of};
 ghost use Rattle.vol_types.specs.KeyMaps.{entries_of};
 ghost use Rattle.vol_info.specs.Facts.{btree_facts, levels_in};
 
 use crate::facts::BtreeFacts;
-use plain_reader::FoundVolume;
+use image_reader::FoundVolume;
 use std::alloc::{AllocError, Global};
 use vol_types::{Btree, Duplicate, Listing, NodePtr, Pos, Value};
 

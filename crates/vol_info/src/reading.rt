@@ -5,9 +5,9 @@ ghost use Rattle.dev_model.specs.Frames.{AreOnlyRead};
 ghost use Rattle.geometry.specs.Faults.{DeviceFailed, SomeFailed};
 ghost use Rattle.image_view.specs.Found.{found};
 ghost use Rattle.image_view.specs.declared.fault.MountFault.{MountFault as AFault};
-ghost use Rattle.plain_reader.specs.Answers.{IsEarly};
-ghost use Rattle.plain_reader.specs.Faults.{failed_mount_device};
-ghost use Rattle.plain_reader.specs.Volumes.{found_of, last_of};
+ghost use Rattle.image_reader.specs.Answers.{IsEarly};
+ghost use Rattle.image_reader.specs.Faults.{failed_mount_device};
+ghost use Rattle.image_reader.specs.Volumes.{found_of, last_of};
 ghost use Rattle.vol_types.specs.Layouts.{is_layout};
 ghost use Rattle.vol_info.specs.Facts.{facts_of, first_of};
 ghost use Rattle.vol_info.specs.Readings.{AreFacts, IsFaultOf};
@@ -18,7 +18,7 @@ use crate::space::facts_of_devices;
 use dev_model::Devices;
 use image_view::MountFault;
 use journal_ring::FoundEntry;
-use plain_reader::{FoundVolume, read_plain};
+use image_reader::{FoundVolume, read_plain};
 use std::alloc::{AllocError, Global};
 
 /// What is told of the volume in the image that the devices hold, or the first fault of that. It reads what `read_plain` does, writes

@@ -3,7 +3,7 @@ ghost use Rattle.std.specs.List.{flat_map, range_with_len};
 ghost use Rattle.std.specs.Option.{option_map_or};
 ghost use Rattle.bucket_pool.specs.NodeBuckets.{AreFixed};
 ghost use Rattle.bucket_pool.specs.Given.{is_used_state};
-ghost use Rattle.plain_reader.specs.Volumes.{found_of};
+ghost use Rattle.image_reader.specs.Volumes.{found_of};
 ghost use Rattle.vol_types.specs.KeyMaps.{keys_in};
 ghost use Rattle.vol_types.specs.Layouts.{is_layout};
 ghost use Rattle.vol_types.specs.declared.pointers.NodePtr.{NodePtr as ANode};
@@ -12,7 +12,7 @@ ghost use Rattle.vol_info.specs.Facts.{device_facts, is_used, places_in, space_i
 use crate::btrees::{entries_of, nodes_of};
 use crate::facts::DeviceFacts;
 use bucket_pool::{Pool, State, nodes_keep_their_buckets};
-use plain_reader::{FoundBtree, FoundVolume};
+use image_reader::{FoundBtree, FoundVolume};
 use std::alloc::{AllocError, Global};
 use vol_types::{
     BUCKET_BLOCKS, Btree, Duplicate, Key, Keys, Layout, Listing, NodePtr, Places, Pos, Value,

@@ -3,7 +3,7 @@ ghost use Rattle.std.specs.List.{flat_map};
 ghost use Rattle.vol_info.specs.Lines.{btree_line, btree_name, copies_text, device_line, facts_lines, journal_line, session_line, sizes_text, volume_line};
 
 use crate::facts::{BtreeFacts, DeviceFacts, Facts, JournalFacts};
-use command_words::id_text;
+use command_line::id_text;
 use std::alloc::{AllocError, Global};
 use vol_types::{Btree, Bytes, Layout};
 

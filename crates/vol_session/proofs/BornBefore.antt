@@ -10,12 +10,12 @@ use Rattle.birth_index.specs.Exchanges.{AreApart, AreExchanges, IsExchange, exch
 use Rattle.birth_index.specs.NameLaws.{names_apart, one_name, same_name}
 use Rattle.birth_index.specs.declared.name.Exchange.{Exchange}
 use Rattle.birth_index.specs.declared.name.NodeName.{NodeName}
-use Rattle.core_memory.specs.Volumes.{IsFrozenKept, IsWorkKept, Volume}
-use Rattle.node_work.specs.Freezing.{next_birth}
-use Rattle.node_work.specs.Placing.{AreFrozenLeaves, exchange_of, exchanges_of}
-use Rattle.node_writer.specs.NodeWork.{frozen_nodes, left_nodes}
-use Rattle.node_writer.specs.declared.node.FrozenNode.{FrozenNode}
-use Rattle.node_writer.specs.declared.node.UnfinishedNode.{UnfinishedNode}
+use Rattle.core_state.specs.Volumes.{IsFrozenKept, IsWorkKept, Volume}
+use Rattle.node_writeback.specs.Freezing.{next_birth}
+use Rattle.node_writeback.specs.Placing.{AreFrozenLeaves, exchange_of, exchanges_of}
+use Rattle.node_writeback.specs.NodeWork.{frozen_nodes, left_nodes}
+use Rattle.node_writeback.specs.declared.node.FrozenNode.{FrozenNode}
+use Rattle.node_writeback.specs.declared.node.UnfinishedNode.{UnfinishedNode}
 use Rattle.tree_nodes.specs.Levels.{Levels}
 use Rattle.vol_types.specs.declared.pointers.NodePtr.{NodePtr}
 use Rattle.vol_session.specs.Numbers.{AreBornBefore}

@@ -6,22 +6,22 @@ use Rattle.std.proofs.lemmas.Option.{same_Some, slice_get-get_or, slice_get_with
 use Rattle.std.specs.Prelude.{All, slice_get}
 use Rattle.btree_map.specs.KeyLaws.{key_map-trees}
 use Rattle.btree_map.specs.Trees.{keys_in}
-use Rattle.core_memory.specs.Commits.{IsCommitted}
-use Rattle.core_memory.specs.Events.{CommitGives, IsMade, intended_by}
-use Rattle.core_memory.specs.Opening.{IsOpened, opened_by}
-use Rattle.core_memory.specs.States.{State}
-use Rattle.core_memory.specs.declared.answer.Answer.{Answer}
-use Rattle.core_memory.specs.declared.answer.Answer.TheVariants as answers
-use Rattle.core_memory.specs.Volumes.{IsVolume, KeepParts, Volume, are_durable, changes_in}
+use Rattle.core_state.specs.Commits.{IsCommitted}
+use Rattle.core_state.specs.Events.{CommitGives, IsMade, intended_by}
+use Rattle.core_state.specs.Opening.{IsOpened, opened_by}
+use Rattle.core_state.specs.States.{State}
+use Rattle.core_state.specs.declared.answer.Answer.{Answer}
+use Rattle.core_state.specs.declared.answer.Answer.TheVariants as answers
+use Rattle.core_state.specs.Volumes.{IsVolume, KeepParts, Volume, are_durable, changes_in}
 use Rattle.dev_model.specs.Devices.{DevicesState, now}
 use Rattle.dev_model.specs.Disk.{as_read}
 use Rattle.dev_model.specs.FrameLaws.{go_on_here, go_on_then}
 use Rattle.dev_model.specs.Frames.{GoOn}
-use Rattle.entry_queue.specs.Changes.{LeadTo, changes_of}
-use Rattle.entry_queue.specs.Queues.{IsQueue, Queue, joined, oldest, waiting}
-use Rattle.entry_queue.specs.declared.changes.KeyChanges.{KeyChanges}
-use Rattle.entry_writer.specs.Writers.{Writer}
-use Rattle.entry_writer.specs.declared.writer.Flight.{Flight}
+use Rattle.journal_writer.specs.Changes.{LeadTo, changes_of}
+use Rattle.journal_writer.specs.Queues.{IsQueue, Queue, joined, oldest, waiting}
+use Rattle.journal_writer.specs.declared.changes.KeyChanges.{KeyChanges}
+use Rattle.journal_writer.specs.Writers.{Writer}
+use Rattle.journal_writer.specs.declared.writer.Flight.{Flight}
 use Rattle.forest_ops.specs.History.{History, IsLegalEntry, after_all, commits as is_commit_of, is_done}
 use Rattle.forest_ops.specs.HistoryLaws.{EachEntry-none, EachEntry-push, IsLegal-none, IsLegal-push}
 use Rattle.forest_ops.specs.Steps.{answer_of}
@@ -36,12 +36,12 @@ use Rattle.image_view.specs.Found.{Found, node_places, read_in}
 use Rattle.journal_ring.specs.declared.found.FoundEntry.{FoundEntry}
 use Rattle.key_meaning.specs.Forest.{Read, forest_in}
 use Rattle.plain_forest.specs.Forest.{Forest}
-use Rattle.plain_reader.specs.Volumes.{last_of, no_entry}
+use Rattle.image_reader.specs.Volumes.{last_of, no_entry}
 use Rattle.replay.specs.Mending.{KeepsPast}
 use Rattle.replay.specs.Volumes.{found_in, trees_read}
 use Rattle.replay.specs.declared.volume.Loaded.{Loaded}
-use Rattle.run_history.specs.Acknowledged.{synced_count}
-use Rattle.run_history.specs.declared.acks.Ack.{Ack}
+use Rattle.forest_ops.specs.Acknowledged.{synced_count}
+use Rattle.forest_ops.specs.declared.acks.Ack.{Ack}
 use Rattle.vol_core.specs.Left.{KeepsLeft}
 use Rattle.vol_core.specs.Rested.{DoCommitsRise}
 use Rattle.vol_core.specs.Safety.{MayBegin}

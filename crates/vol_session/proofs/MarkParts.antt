@@ -2,15 +2,15 @@
 use Rattle.std.proofs.Common.{◌≡◌, ◌≤◌, ◌+◌, ℕ, Bool, true, false, cond, Option, Some, None, List, [], ◌∷◌, ◌++◌, length, refl, sym, ap, subst, ◌∙◌, arith}
 use Rattle.std.proofs.lemmas.List.{length-append, map-append}
 use Rattle.std.specs.Prelude.{⊤, slice_get}
-use Rattle.core_memory.specs.Volumes.{changes_in, in_flight}
-use Rattle.entry_queue.specs.ChangeLaws.{all_made-append}
-use Rattle.entry_queue.specs.Changes.{LeadTo, all_made, changes_of}
-use Rattle.entry_queue.specs.Queues.{Queue, closed_changes, closes, first_of, follower_of, joined, left_by, oldest, waiting, waiting_entries, with_commit, without_oldest}
-use Rattle.entry_queue.specs.declared.changes.KeyChanges.{KeyChanges}
-use Rattle.entry_queue.specs.declared.changes.Pending.{Pending}
-use Rattle.entry_writer.specs.Writers.{Writer, settled_by}
-use Rattle.entry_writer.specs.declared.writer.Flight.{Flight}
-use Rattle.node_work.specs.Durable.{undurable}
+use Rattle.core_state.specs.Volumes.{changes_in, in_flight}
+use Rattle.journal_writer.specs.ChangeLaws.{all_made-append}
+use Rattle.journal_writer.specs.Changes.{LeadTo, all_made, changes_of}
+use Rattle.journal_writer.specs.Queues.{Queue, closed_changes, closes, first_of, follower_of, joined, left_by, oldest, waiting, waiting_entries, with_commit, without_oldest}
+use Rattle.journal_writer.specs.declared.changes.KeyChanges.{KeyChanges}
+use Rattle.journal_writer.specs.declared.changes.Pending.{Pending}
+use Rattle.journal_writer.specs.Writers.{Writer, settled_by}
+use Rattle.journal_writer.specs.declared.writer.Flight.{Flight}
+use Rattle.node_writeback.specs.Durable.{undurable}
 use Rattle.vol_session.specs.Marks.{AreMarked, IsMarkAt}
 use Rattle.vol_types.specs.KeyMapLaws.{IsKeyMap-with_updates, with_updates-append}
 use Rattle.vol_types.specs.KeyMaps.{IsKeyMap, KeyMap, with_updates}

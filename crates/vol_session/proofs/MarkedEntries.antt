@@ -2,9 +2,9 @@
 use Rattle.std.proofs.Common.{◌≡◌, ◌-◌, ℕ, zero, suc, List, [], ◌∷◌, ◌++◌, Some, length, refl}
 use Rattle.std.proofs.lemmas.Option.{none-some as none_some}
 use Rattle.std.specs.Prelude.{slice_get}
-use Rattle.entry_queue.specs.Changes.{all_made}
-use Rattle.entry_queue.specs.Queues.{closed_changes}
-use Rattle.entry_queue.specs.declared.changes.Pending.{Pending}
+use Rattle.journal_writer.specs.Changes.{all_made}
+use Rattle.journal_writer.specs.Queues.{closed_changes}
+use Rattle.journal_writer.specs.declared.changes.Pending.{Pending}
 use Rattle.vol_session.specs.Marks.{AreMarked, IsMarkAt}
 use Rattle.vol_types.specs.KeyMaps.{KeyMap, with_updates}
 

@@ -1,12 +1,12 @@
 -- The marks stand as they did, and commits don't fall, whatever an event does that commits nothing.
 use Rattle.std.proofs.Common.{◌≡◌, ◌≤◌, ℕ, Option, Some, None, List, [], ◌∷◌, refl, sym, ap, subst, ◌∙◌, ⊎_elim, arith}
 use Rattle.btree_map.specs.Trees.{keys_in}
-use Rattle.core_memory.specs.Sealing.{IsFlown, oldest_needed, settled_volume}
-use Rattle.core_memory.specs.Volumes.{Volume, commits_of}
-use Rattle.entry_queue.specs.Queues.{AreFollowed, Queue, first_of, left_by, oldest, without_oldest}
-use Rattle.entry_queue.specs.declared.changes.Pending.{Pending}
-use Rattle.entry_writer.specs.Writers.{Writer, settled_by}
-use Rattle.entry_writer.specs.declared.writer.Flight.{Flight}
+use Rattle.core_state.specs.Sealing.{IsFlown, oldest_needed, settled_volume}
+use Rattle.core_state.specs.Volumes.{Volume, commits_of}
+use Rattle.journal_writer.specs.Queues.{AreFollowed, Queue, first_of, left_by, oldest, without_oldest}
+use Rattle.journal_writer.specs.declared.changes.Pending.{Pending}
+use Rattle.journal_writer.specs.Writers.{Writer, settled_by}
+use Rattle.journal_writer.specs.declared.writer.Flight.{Flight}
 use Rattle.image_view.specs.Found.{Found}
 use Rattle.vol_core.specs.Rested.{DoCommitsRise}
 use Rattle.vol_session.specs.Marks.{IsAtMarks, commits_found}

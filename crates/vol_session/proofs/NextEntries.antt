@@ -22,8 +22,8 @@ use Rattle.forest_ops.specs.declared.operation.Op.TheVariants as ops
 use Rattle.forest_ops.specs.declared.operation.Reply.{Reply}
 use Rattle.forest_ops.specs.declared.operation.Reply.TheVariants as replies
 use Rattle.fs_plan.specs.Plans.{is_planned}
-use Rattle.run_history.specs.Acknowledged.{AreAcks, RiseWithin, synced_count}
-use Rattle.run_history.specs.declared.acks.Ack.{Ack}
+use Rattle.forest_ops.specs.Acknowledged.{AreAcks, RiseWithin, synced_count}
+use Rattle.forest_ops.specs.declared.acks.Ack.{Ack}
 use Rattle.vol_session.specs.Sessions.{IsExact}
 
 -- ---- replies

@@ -3,28 +3,28 @@ use Rattle.std.proofs.Common.{◌≡◌, ◌+◌, ◌*◌, ◌≤◌, ℕ, zero,
 use Rattle.std.specs.Prelude.{◌≢◌, ◌==◌, ◌||◌, IfSome, slice_index_or}
 use Rattle.std.proofs.lemmas.Bool.Decides.{eqb_tells}
 use Rattle.std.proofs.lemmas.List.{length-append}
-use Rattle.core_memory.specs.Checkpoints.{AreInPlace, IsFreezeRefused, IsLeafFrozen, after_refused, given_up}
-use Rattle.core_memory.specs.Commits.{IsCommitted}
-use Rattle.core_memory.specs.Sealing.{IsFlown, next_record, settled_volume, with_writer}
-use Rattle.core_memory.specs.Volumes.{IsVolume, KeepParts, Volume, needs_entry, node_stage_by, stage_of, undurable_in}
-use Rattle.core_memory.specs.declared.answer.Halt.{Halt}
-use Rattle.core_memory.specs.declared.answer.Refusal.{Refusal}
-use Rattle.core_memory.specs.declared.answer.Refusal.TheVariants as refusals
+use Rattle.core_state.specs.Checkpoints.{AreInPlace, IsFreezeRefused, IsLeafFrozen, after_refused, given_up}
+use Rattle.core_state.specs.Commits.{IsCommitted}
+use Rattle.core_state.specs.Sealing.{IsFlown, next_record, settled_volume, with_writer}
+use Rattle.core_state.specs.Volumes.{IsVolume, KeepParts, Volume, needs_entry, node_stage_by, stage_of, undurable_in}
+use Rattle.core_state.specs.declared.answer.Halt.{Halt}
+use Rattle.core_state.specs.declared.answer.Refusal.{Refusal}
+use Rattle.core_state.specs.declared.answer.Refusal.TheVariants as refusals
 use Rattle.btree_map.specs.Trees.{keys_in}
-use Rattle.entry_queue.specs.Changes.{changes_of}
-use Rattle.entry_queue.specs.Queues.{AreFollowed, Queue, blocks_with, closes, first_of, first_with, follower_of, left_by, oldest, with_commit, without_oldest}
-use Rattle.entry_queue.specs.declared.changes.KeyChanges.{KeyChanges}
-use Rattle.entry_queue.specs.declared.changes.Pending.{Pending}
-use Rattle.entry_writer.specs.Writers.{Writer, first_flag, flush_before, settled, settled_by, stage_by, unsettled_by, with_flags, with_flushed}
-use Rattle.entry_writer.specs.declared.stage.Stage.{Stage}
-use Rattle.entry_writer.specs.declared.stage.Stage.TheVariants.{CommitNodes, Freeze, Rest, Settle, WriteEntry, WriteSet}
-use Rattle.entry_writer.specs.declared.writer.Flight.{Flight}
+use Rattle.journal_writer.specs.Changes.{changes_of}
+use Rattle.journal_writer.specs.Queues.{AreFollowed, Queue, blocks_with, closes, first_of, first_with, follower_of, left_by, oldest, with_commit, without_oldest}
+use Rattle.journal_writer.specs.declared.changes.KeyChanges.{KeyChanges}
+use Rattle.journal_writer.specs.declared.changes.Pending.{Pending}
+use Rattle.journal_writer.specs.Writers.{Writer, first_flag, flush_before, settled, settled_by, stage_by, unsettled_by, with_flags, with_flushed}
+use Rattle.journal_writer.specs.declared.stage.Stage.{Stage}
+use Rattle.journal_writer.specs.declared.stage.Stage.TheVariants.{CommitNodes, Freeze, Rest, Settle, WriteEntry, WriteSet}
+use Rattle.journal_writer.specs.declared.writer.Flight.{Flight}
 use Rattle.image_view.specs.Found.{Found}
 use Rattle.journal_ring.specs.EntryBlocks.{parts_of}
-use Rattle.node_work.specs.Freezing.{next_birth}
-use Rattle.node_writer.specs.NodeWork.{NodeWork, birth_left, first_left, frozen_nodes, left_nodes, with_frozen, with_part_of}
-use Rattle.node_writer.specs.declared.node.FrozenNode.{FrozenNode}
-use Rattle.node_writer.specs.declared.node.UnfinishedNode.{UnfinishedNode}
+use Rattle.node_writeback.specs.Freezing.{next_birth}
+use Rattle.node_writeback.specs.NodeWork.{NodeWork, birth_left, first_left, frozen_nodes, left_nodes, with_frozen, with_part_of}
+use Rattle.node_writeback.specs.declared.node.FrozenNode.{FrozenNode}
+use Rattle.node_writeback.specs.declared.node.UnfinishedNode.{UnfinishedNode}
 use Rattle.std.specs.Ordering.{nat_cmp}
 use Rattle.tree_nodes.specs.Levels.{Levels}
 use Rattle.bucket_pool.specs.Space.{Space, noded}

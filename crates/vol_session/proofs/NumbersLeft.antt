@@ -6,21 +6,21 @@ use Rattle.std.proofs.lemmas.Bool.{ltb-false}
 use Rattle.std.proofs.lemmas.List.Elements.{All-head}
 use Rattle.std.proofs.lemmas.List.Sums.{sum_by-cons}
 use Rattle.btree_map.specs.Trees.{IsTrees, Trees}
-use Rattle.core_memory.specs.Checkpoints.{HasPlacingNumbers}
-use Rattle.core_memory.specs.Commits.{AreIntended}
-use Rattle.core_memory.specs.Rulings.{HasCommitNumbers}
-use Rattle.core_memory.specs.Sealing.{HasEntryNumbers, next_record, roots_in}
-use Rattle.core_memory.specs.Volumes.{IsVolume, KeepParts, Volume, commits_of}
+use Rattle.core_state.specs.Checkpoints.{HasPlacingNumbers}
+use Rattle.core_state.specs.Commits.{AreIntended}
+use Rattle.core_state.specs.Rulings.{HasCommitNumbers}
+use Rattle.core_state.specs.Sealing.{HasEntryNumbers, next_record, roots_in}
+use Rattle.core_state.specs.Volumes.{IsVolume, KeepParts, Volume, commits_of}
 use Rattle.dev_model.specs.Devices.{DevicesState}
-use Rattle.entry_queue.specs.Queues.{AreChanges, AreFollowed, HasNumbers, IsQueue, Queue, blocks_with, closes, first_of, follower_of, growth, last_block, oldest}
-use Rattle.entry_queue.specs.declared.changes.Pending.{Pending}
-use Rattle.entry_writer.specs.Writers.{HasBlockNumbers}
+use Rattle.journal_writer.specs.Queues.{AreChanges, AreFollowed, HasNumbers, IsQueue, Queue, blocks_with, closes, first_of, follower_of, growth, last_block, oldest}
+use Rattle.journal_writer.specs.declared.changes.Pending.{Pending}
+use Rattle.journal_writer.specs.Writers.{HasBlockNumbers}
 use Rattle.forest_ops.specs.History.{History, after_entry, commit_count, commits_of as commits_in, is_commit}
 use Rattle.image_view.specs.Found.{Found}
 use Rattle.plain_forest.specs.Forest.{Forest}
 use Rattle.journal_ring.specs.EntryBlocks.{parts_of}
-use Rattle.node_work.specs.Due.{no_node, root_of}
-use Rattle.node_work.specs.Freezing.{HasBirth, next_birth}
+use Rattle.node_writeback.specs.Due.{no_node, root_of}
+use Rattle.node_writeback.specs.Freezing.{HasBirth, next_birth}
 use Rattle.record_codec.specs.Entries.{root_length_of, update_length_of}
 use Rattle.tree_nodes.specs.Levels.{IsNodeOf, IsTree, Level, Levels, level_of}
 use Rattle.vol_types.specs.Btrees.{btree_code}

@@ -1,27 +1,27 @@
 -- The numbers that a session draws rise no faster than its commits and the moments that pass: at its opening, over each event that commits nothing, and over a commit.
 use Rattle.std.proofs.Common.{◌≡◌, ◌+◌, ◌-◌, ◌^◌, ◌<◌, ◌≤◌, ℕ, true, false, Option, Some, None, List, [], ◌∷◌, ◌++◌, length, refl, sym, ap, subst, ⊎_elim, arith}
 use Rattle.std.specs.Prelude.{All, IfSome, slice_index_or}
-use Rattle.core_memory.specs.Devices.{FlushesDevice, WritesNode}
-use Rattle.core_memory.specs.Events.{CommitNodesGives, FlushGives, FreezeGives, SealGives, SettleGives, WriteGives, WriteSetGives}
-use Rattle.core_memory.specs.Opening.{opened_by}
-use Rattle.core_memory.specs.States.{State, other_holder}
-use Rattle.core_memory.specs.Volumes.{IsVolume, KeepParts, Volume}
-use Rattle.core_memory.specs.declared.answer.Answer.{Answer}
-use Rattle.core_memory.specs.declared.answer.Answer.TheVariants as answers
-use Rattle.core_memory.specs.declared.answer.Halt.{Halt}
-use Rattle.core_memory.specs.declared.event.Event.{Event}
-use Rattle.core_memory.specs.declared.event.Event.TheVariants as events
+use Rattle.core_state.specs.Devices.{FlushesDevice, WritesNode}
+use Rattle.core_state.specs.Events.{CommitNodesGives, FlushGives, FreezeGives, SealGives, SettleGives, WriteGives, WriteSetGives}
+use Rattle.core_state.specs.Opening.{opened_by}
+use Rattle.core_state.specs.States.{State, other_holder}
+use Rattle.core_state.specs.Volumes.{IsVolume, KeepParts, Volume}
+use Rattle.core_state.specs.declared.answer.Answer.{Answer}
+use Rattle.core_state.specs.declared.answer.Answer.TheVariants as answers
+use Rattle.core_state.specs.declared.answer.Halt.{Halt}
+use Rattle.core_state.specs.declared.event.Event.{Event}
+use Rattle.core_state.specs.declared.event.Event.TheVariants as events
 use Rattle.btree_map.specs.Trees.{Trees}
 use Rattle.dev_model.specs.Devices.{DevicesState}
 use Rattle.dev_model.specs.Frames.{GoOn}
-use Rattle.entry_writer.specs.Writers.{unsettled_by, with_flags, with_next_part}
+use Rattle.journal_writer.specs.Writers.{unsettled_by, with_flags, with_next_part}
 use Rattle.image_view.specs.Found.{Found}
 use Rattle.journal_ring.specs.declared.found.FoundEntry.{FoundEntry}
-use Rattle.node_work.specs.Freezing.{next_birth}
-use Rattle.node_work.specs.Placing.{IsFrozenLeaf}
-use Rattle.node_writer.specs.NodeWork.{IsUnfinished, frozen_nodes, left_nodes}
-use Rattle.node_writer.specs.declared.node.FrozenNode.{FrozenNode}
-use Rattle.node_writer.specs.declared.node.UnfinishedNode.{UnfinishedNode}
+use Rattle.node_writeback.specs.Freezing.{next_birth}
+use Rattle.node_writeback.specs.Placing.{IsFrozenLeaf}
+use Rattle.node_writeback.specs.NodeWork.{IsUnfinished, frozen_nodes, left_nodes}
+use Rattle.node_writeback.specs.declared.node.FrozenNode.{FrozenNode}
+use Rattle.node_writeback.specs.declared.node.UnfinishedNode.{UnfinishedNode}
 use Rattle.birth_index.specs.Births.{birth_of}
 use Rattle.std.proofs.lemmas.List.Elements.{All-head, All-tail}
 use Rattle.tree_nodes.specs.Levels.{Levels}

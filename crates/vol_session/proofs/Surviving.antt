@@ -7,7 +7,7 @@ use Rattle.std.proofs.lemmas.Option.{slice_get_within}
 use Rattle.std.specs.Prelude.{All, Ok, slice_index_or}
 use Rattle.btree_map.specs.KeyLaws.{key_map-trees}
 use Rattle.btree_map.specs.Trees.{IsTrees, keys_in}
-use Rattle.core_memory.specs.Volumes.{Volume}
+use Rattle.core_state.specs.Volumes.{Volume}
 use Rattle.dev_model.specs.Devices.{DevicesState}
 use Rattle.dev_model.specs.Disk.{Disk, Image, IsCrashImage}
 use Rattle.forest_ops.specs.History.{History, after_all, commit_count, commits_of, is_commit}
@@ -18,8 +18,8 @@ use Rattle.key_meaning.specs.Checks.{AreNodesPlaced, IsSound}
 use Rattle.plain_forest.specs.Forest.{Forest}
 use Rattle.replay.specs.Mending.{IsUntorn, KeepsPast, StandsOnAll}
 use Rattle.replay.specs.Volumes.{trees_read}
-use Rattle.run_history.specs.Acknowledged.{acknowledged}
-use Rattle.run_history.specs.declared.acks.Ack.{Ack}
+use Rattle.forest_ops.specs.Acknowledged.{acknowledged}
+use Rattle.forest_ops.specs.declared.acks.Ack.{Ack}
 use Rattle.vol_core.specs.Left.{IsLeft, KeepsLeft}
 use Rattle.vol_types.specs.KeyMaps.{IsKeyMap, KeyMap}
 use Rattle.vol_types.specs.declared.layout.Layout.{Layout}

@@ -3,8 +3,8 @@ use Rattle.std.proofs.Common.{◌≡◌, ◌≤◌, ◌<◌, ◌+◌, ℕ, Bool,
 use Rattle.std.proofs.lemmas.Bool.{leb-true}
 use Rattle.std.proofs.lemmas.List.Elements.{All-head, All-tail}
 use Rattle.std.specs.Prelude.{All, nat_le}
-use Rattle.run_history.specs.Acknowledged.{acknowledged}
-use Rattle.run_history.specs.declared.acks.Ack.{Ack}
+use Rattle.forest_ops.specs.Acknowledged.{acknowledged}
+use Rattle.forest_ops.specs.declared.acks.Ack.{Ack}
 
 -- No more was acknowledged than is durable, where no acknowledgement says more.
 pub acknowledged_durable : (first durable : ℕ) (acks : List Ack) (moment : ℕ) → first ≤ durable → All (λ (ack : Ack). first + ack.commits ≤ durable) acks → first + acknowledged acks moment ≤ durable

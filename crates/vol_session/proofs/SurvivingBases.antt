@@ -1,14 +1,14 @@
 -- What a crash may leave by what was in memory has the keys after some commit, and no fewer commits than were durable.
 use Rattle.std.proofs.Common.{◌≡◌, ◌≤◌, ◌⊎◌, ⊎_elim, ◌∷◌, ◌++◌, ℕ, List, Option, Some, sym, subst, ◌∙◌, arith}
 use Rattle.btree_map.specs.Trees.{keys_in}
-use Rattle.core_memory.specs.Volumes.{Volume, changes_in, in_flight}
-use Rattle.entry_queue.specs.ChangeLaws.{undone-leads}
-use Rattle.entry_queue.specs.Changes.{LeadTo}
-use Rattle.entry_queue.specs.Queues.{waiting}
-use Rattle.entry_queue.specs.declared.changes.KeyChanges.{KeyChanges}
-use Rattle.entry_writer.specs.declared.writer.Flight.{Flight}
+use Rattle.core_state.specs.Volumes.{Volume, changes_in, in_flight}
+use Rattle.journal_writer.specs.ChangeLaws.{undone-leads}
+use Rattle.journal_writer.specs.Changes.{LeadTo}
+use Rattle.journal_writer.specs.Queues.{waiting}
+use Rattle.journal_writer.specs.declared.changes.KeyChanges.{KeyChanges}
+use Rattle.journal_writer.specs.declared.writer.Flight.{Flight}
 use Rattle.image_view.specs.Found.{Found}
-use Rattle.node_work.specs.Durable.{undurable}
+use Rattle.node_writeback.specs.Durable.{undurable}
 use Rattle.vol_core.specs.Left.{IsDurableBase, IsFlightBase}
 use Rattle.vol_types.specs.KeyMapLaws.{IsKeyMap-with_updates}
 use Rattle.vol_types.specs.KeyMaps.{IsKeyMap, KeyMap, with_updates}

@@ -4,23 +4,23 @@ use Rattle.std.specs.Prelude.{◌≢◌, ◌==◌, IfSome, replicate, slice_inde
 use Rattle.std.proofs.lemmas.Bool.{cases_eq, cases_lt, false≢true}
 use Rattle.std.proofs.lemmas.Bool.Decides.{eqb_tells}
 use Rattle.std.proofs.lemmas.List.{get_or-append_right, get_or-drop, get_or-replicate, get_or-set_other, get_or-set_same, get_or_past, length-append, length-drop, length-replicate, length-set}
-use Rattle.core_memory.specs.Events.{CommitGives, CommitNodesGives, FlushGives, FreezeGives, IsMade, SealGives, SettleGives, Waits, WriteGives, WriteSetGives}
-use Rattle.core_memory.specs.Checkpoints.{after_refused}
-use Rattle.core_memory.specs.Sealing.{IsFlown, next_record, settled_volume, with_writer}
-use Rattle.core_memory.specs.States.{State, other_holder}
-use Rattle.core_memory.specs.Volumes.{IsVolume, Volume, needs_entry, stage_of}
-use Rattle.core_memory.specs.Opening.{IsVolumeOpened}
-use Rattle.core_memory.specs.declared.answer.Answer.{Answer}
-use Rattle.core_memory.specs.declared.answer.Answer.TheVariants as answers
-use Rattle.core_memory.specs.declared.answer.Refusal.{Refusal}
-use Rattle.core_memory.specs.declared.answer.Refusal.TheVariants as refusals
-use Rattle.core_memory.specs.declared.event.Event.{Event}
-use Rattle.core_memory.specs.declared.event.Event.TheVariants as events
+use Rattle.core_state.specs.Events.{CommitGives, CommitNodesGives, FlushGives, FreezeGives, IsMade, SealGives, SettleGives, Waits, WriteGives, WriteSetGives}
+use Rattle.core_state.specs.Checkpoints.{after_refused}
+use Rattle.core_state.specs.Sealing.{IsFlown, next_record, settled_volume, with_writer}
+use Rattle.core_state.specs.States.{State, other_holder}
+use Rattle.core_state.specs.Volumes.{IsVolume, Volume, needs_entry, stage_of}
+use Rattle.core_state.specs.Opening.{IsVolumeOpened}
+use Rattle.core_state.specs.declared.answer.Answer.{Answer}
+use Rattle.core_state.specs.declared.answer.Answer.TheVariants as answers
+use Rattle.core_state.specs.declared.answer.Refusal.{Refusal}
+use Rattle.core_state.specs.declared.answer.Refusal.TheVariants as refusals
+use Rattle.core_state.specs.declared.event.Event.{Event}
+use Rattle.core_state.specs.declared.event.Event.TheVariants as events
 use Rattle.dev_model.specs.Devices.{DevicesState}
-use Rattle.entry_queue.specs.Queues.{without_oldest}
-use Rattle.entry_writer.specs.Writers.{Writer, first_flag, flush_before, most_devices, settled_by, stage_by, step_of, unsettled_by, with_flags, with_flushed, with_next_part}
-use Rattle.entry_writer.specs.declared.stage.Stage.TheVariants.{Rest, Seal, Settle, WriteEntry}
-use Rattle.entry_writer.specs.declared.writer.Flight.{Flight}
+use Rattle.journal_writer.specs.Queues.{without_oldest}
+use Rattle.journal_writer.specs.Writers.{Writer, first_flag, flush_before, most_devices, settled_by, stage_by, step_of, unsettled_by, with_flags, with_flushed, with_next_part}
+use Rattle.journal_writer.specs.declared.stage.Stage.TheVariants.{Rest, Seal, Settle, WriteEntry}
+use Rattle.journal_writer.specs.declared.writer.Flight.{Flight}
 use Rattle.btree_map.specs.Trees.{Trees}
 use Rattle.journal_ring.specs.EntryBlocks.{parts_of}
 use Rattle.journal_ring.specs.declared.found.FoundEntry.{FoundEntry}

@@ -1,5 +1,10 @@
+pub mod Left
 pub mod Marks
-pub mod Writing
 pub mod Numbers
-pub mod Survivors
+pub mod Rounds
+pub mod RunLaws
+pub mod Runs
 pub mod Sessions
+pub mod Survivors
+pub mod Writeback
+pub mod Writing

@@ -1,12 +1,12 @@
 -- The key map after each commit of a session, and where the entries that aren't durable stand among them.
 use Rattle.std.specs.Prelude.{◌≡◌, ℕ, ◌+◌, ◌-◌, ◌≤◌, ⊤, Some, List, [], ◌∷◌, ◌++◌, length, slice_get}
 use Rattle.btree_map.specs.Trees.{keys_in}
-use Rattle.core_memory.specs.Volumes.{Volume, changes_in, commits_of, undurable_in}
+use Rattle.core_state.specs.Volumes.{Volume, changes_in, commits_of, undurable_in}
 use Rattle.dev_model.specs.Devices.{DevicesState, now}
 use Rattle.dev_model.specs.Disk.{as_read}
-use Rattle.entry_queue.specs.Changes.{LeadTo}
-use Rattle.entry_queue.specs.Queues.{waiting}
-use Rattle.entry_queue.specs.declared.changes.Pending.{Pending}
+use Rattle.journal_writer.specs.Changes.{LeadTo}
+use Rattle.journal_writer.specs.Queues.{waiting}
+use Rattle.journal_writer.specs.declared.changes.Pending.{Pending}
 use Rattle.forest_ops.specs.History.{History, after_commits}
 use Rattle.image_view.specs.Found.{Found, node_places, read_in}
 use Rattle.key_meaning.specs.Checks.{IsSound}

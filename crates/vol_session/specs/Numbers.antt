@@ -3,20 +3,20 @@
 use Rattle.std.specs.Prelude.{◌≡◌, ℕ, ◌+◌, ◌-◌, ◌*◌, ◌^◌, ◌<◌, ◌≤◌, ◌||◌, ◌==◌, false, true, if◌then◌else◌, Option, Some, None, List, length, slice_index_or}
 use Rattle.birth_index.specs.Births.{birth_of}
 use Rattle.birth_index.specs.declared.name.NodeName.{NodeName}
-use Rattle.core_memory.specs.Checkpoints.{HasPlacingNumbers}
-use Rattle.core_memory.specs.Commits.{AreIntended}
-use Rattle.core_memory.specs.Rulings.{HasCommitNumbers}
-use Rattle.core_memory.specs.Sealing.{HasEntryNumbers, next_record}
-use Rattle.core_memory.specs.Volumes.{Volume}
+use Rattle.core_state.specs.Checkpoints.{HasPlacingNumbers}
+use Rattle.core_state.specs.Commits.{AreIntended}
+use Rattle.core_state.specs.Rulings.{HasCommitNumbers}
+use Rattle.core_state.specs.Sealing.{HasEntryNumbers, next_record}
+use Rattle.core_state.specs.Volumes.{Volume}
 use Rattle.dev_model.specs.Devices.{DevicesState}
-use Rattle.entry_queue.specs.Queues.{oldest}
-use Rattle.entry_writer.specs.Writers.{HasBlockNumbers, Writer}
-use Rattle.entry_writer.specs.declared.writer.Flight.{Flight}
+use Rattle.journal_writer.specs.Queues.{oldest}
+use Rattle.journal_writer.specs.Writers.{HasBlockNumbers, Writer}
+use Rattle.journal_writer.specs.declared.writer.Flight.{Flight}
 use Rattle.image_view.specs.Found.{Found}
 use Rattle.journal_ring.specs.EntryBlocks.{parts_of}
-use Rattle.node_work.specs.Freezing.{HasBirth, next_birth}
-use Rattle.node_writer.specs.NodeWork.{frozen_nodes}
-use Rattle.node_writer.specs.declared.node.UnfinishedNode.{UnfinishedNode}
+use Rattle.node_writeback.specs.Freezing.{HasBirth, next_birth}
+use Rattle.node_writeback.specs.NodeWork.{frozen_nodes}
+use Rattle.node_writeback.specs.declared.node.UnfinishedNode.{UnfinishedNode}
 use Rattle.tree_nodes.specs.Levels.{Levels}
 use Rattle.vol_types.specs.declared.keys.Update.{Update}
 use Rattle.vol_session.specs.Marks.{commits_found}

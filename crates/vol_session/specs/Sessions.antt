@@ -1,18 +1,18 @@
 -- A session over an open volume: its history and its acknowledgements beside the core, and what its type keeps of them.
 use Rattle.std.specs.Prelude.{◌≡◌, ◌⊎◌, ℕ, ◌+◌, ◌≤◌, true, List, All, ⊤}
 use Rattle.btree_map.specs.Trees.{keys_in}
-use Rattle.core_memory.specs.Actors.{noted}
-use Rattle.core_memory.specs.Events.{intended_by}
-use Rattle.core_memory.specs.Rulings.{IsRefused}
-use Rattle.core_memory.specs.States.{State, mine, with_mine}
-use Rattle.core_memory.specs.declared.answer.Answer.{Answer}
-use Rattle.core_memory.specs.declared.answer.Answer.TheVariants.{NoMemory, Refused}
-use Rattle.core_memory.specs.Volumes.{Volume, commits_of}
-use Rattle.core_memory.specs.declared.event.Event.{Event}
-use Rattle.core_memory.specs.declared.event.Event.TheVariants as events
+use Rattle.core_state.specs.Actors.{noted}
+use Rattle.core_state.specs.Events.{intended_by}
+use Rattle.core_state.specs.Rulings.{IsRefused}
+use Rattle.core_state.specs.States.{State, mine, with_mine}
+use Rattle.core_state.specs.declared.answer.Answer.{Answer}
+use Rattle.core_state.specs.declared.answer.Answer.TheVariants.{NoMemory, Refused}
+use Rattle.core_state.specs.Volumes.{Volume, commits_of}
+use Rattle.core_state.specs.declared.event.Event.{Event}
+use Rattle.core_state.specs.declared.event.Event.TheVariants as events
 use Rattle.dev_model.specs.Devices.{DevicesState}
 use Rattle.dev_model.specs.Frames.{GoOn}
-use Rattle.entry_queue.specs.Queues.{oldest}
+use Rattle.journal_writer.specs.Queues.{oldest}
 use Rattle.forest_ops.specs.Classes.{class_of, is_changing, may_fail}
 use Rattle.forest_ops.specs.History.{EachEntry, History, IsLegal, after_all, commit_count, is_done}
 use Rattle.forest_ops.specs.Steps.{answer_of}
@@ -27,8 +27,8 @@ use Rattle.key_meaning.specs.Forest.{Read, forest_in}
 use Rattle.key_meaning.specs.Tidy.{IsTidy}
 use Rattle.plain_forest.specs.Forest.{Forest}
 use Rattle.replay.specs.Mending.{KeepsPast}
-use Rattle.run_history.specs.Acknowledged.{AreAcks}
-use Rattle.run_history.specs.declared.acks.Ack.{Ack}
+use Rattle.forest_ops.specs.Acknowledged.{AreAcks}
+use Rattle.forest_ops.specs.declared.acks.Ack.{Ack}
 use Rattle.vol_core.specs.Cores.{CoreState}
 use Rattle.vol_core.specs.Rested.{DoCommitsRise}
 use Rattle.vol_session.specs.Marks.{AreGoodMarks, IsAtMarks, commits_found, forest_found}

@@ -7,8 +7,8 @@ use Rattle.image_view.specs.Found.{Found, IsInOrder, found, read_in}
 use Rattle.key_meaning.specs.Forest.{forest_in}
 use Rattle.key_meaning.specs.Tidy.{IsTidy}
 use Rattle.replay.specs.Mending.{IsUntorn, StandsOnAll}
-use Rattle.run_history.specs.Acknowledged.{acknowledged}
-use Rattle.run_history.specs.declared.acks.Ack.{Ack}
+use Rattle.forest_ops.specs.Acknowledged.{acknowledged}
+use Rattle.forest_ops.specs.declared.acks.Ack.{Ack}
 use Rattle.vol_core.specs.Left.{AreLeaves, IsSoundFound}
 use Rattle.vol_core.specs.Room.{LeavesRoom}
 use Rattle.vol_core.specs.Safety.{MayBegin}

@@ -1,7 +1,7 @@
 -- What a session keeps of the entry in flight, and of the devices that are to be flushed: what the journal needs next can be done.
 use Rattle.std.specs.Prelude.{◌≡◌, ℕ, ◌<◌, ◌≤◌, Bool, true, false, IfSome, List, length, slice_index_or}
-use Rattle.core_memory.specs.Volumes.{Volume}
-use Rattle.entry_writer.specs.Writers.{most_devices}
+use Rattle.core_state.specs.Volumes.{Volume}
+use Rattle.journal_writer.specs.Writers.{most_devices}
 use Rattle.journal_ring.specs.Rings.{RingState}
 
 -- The entry in flight has blocks, of which no more are written than there are.

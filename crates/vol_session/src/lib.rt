@@ -1,10 +1,22 @@
-//! A session over an open volume: its history and what it acknowledged, beside the core.
+//! A session over an open volume: its history and what it acknowledged, beside the core; the works on what is durable; and what a run
+//! leaves of a volume.
 //!
 //! The type keeps what a session promises. Where the devices tell what they hold, and it began with a volume that is sound and tidy, its history is
 //! legal from the forest that was found then; the keys in memory mean the forest after it; and whatever a crash has left at a moment since
 //! mounts as the volume after a prefix of its commits, with all that was acknowledged by then, as far as no torn block opens by chance.
+//!
+//! Two works are driven by client 0: a sync, which makes all commits durable, and a checkpoint, which writes nodes anew so that the journal
+//! can let its entries go. What a run leaves, from the first read of its devices on, are laws over what a session keeps, over the opening of
+//! a volume, and over format.
 #![tactic(auto)]
 
+mod rounds;
+mod run_laws;
 mod session;
+mod stop;
+mod writeback;
 
+pub use run_laws::{fresh_volumes_may_run, runs_are_safe};
 pub use session::{Session, Uncommitted};
+pub use stop::Stop;
+pub use writeback::{checkpoint, sync_all};

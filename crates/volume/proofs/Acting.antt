@@ -4,18 +4,18 @@ use Rattle.std.specs.Prelude.{IsSome, unwrap_or}
 use Rattle.std.proofs.lemmas.Bool.{true≢false}
 use Rattle.std.proofs.lemmas.List.{get_or-set_same}
 use Rattle.btree_map.specs.Trees.{keys_in}
-use Rattle.commit_plan.specs.Ids.{id_trees}
-use Rattle.core_memory.specs.Actors.{begun, committed, ended, holds, idle_actor, noted, with_ids, with_intent, with_look}
-use Rattle.core_memory.specs.Commits.{AreIntended}
-use Rattle.core_memory.specs.Events.{EventGives, Fits, HasIds, IsMade, Waits, intended_by}
-use Rattle.core_memory.specs.Rulings.{IsRefused}
-use Rattle.core_memory.specs.States.{IsState, State, actor_count, mine, other_holder, with_mine}
-use Rattle.core_memory.specs.Volumes.{Volume, commits_of}
-use Rattle.core_memory.specs.declared.actor.Actor.{Actor}
-use Rattle.core_memory.specs.declared.answer.Answer.{Answer}
-use Rattle.core_memory.specs.declared.answer.Answer.TheVariants as answers
-use Rattle.core_memory.specs.declared.answer.Refusal.{Refusal}
-use Rattle.core_memory.specs.declared.event.Event.TheVariants as events
+use Rattle.dirty_nodes.specs.Ids.{id_trees}
+use Rattle.core_state.specs.Actors.{begun, committed, ended, holds, idle_actor, noted, with_ids, with_intent, with_look}
+use Rattle.core_state.specs.Commits.{AreIntended}
+use Rattle.core_state.specs.Events.{EventGives, Fits, HasIds, IsMade, Waits, intended_by}
+use Rattle.core_state.specs.Rulings.{IsRefused}
+use Rattle.core_state.specs.States.{IsState, State, actor_count, mine, other_holder, with_mine}
+use Rattle.core_state.specs.Volumes.{Volume, commits_of}
+use Rattle.core_state.specs.declared.actor.Actor.{Actor}
+use Rattle.core_state.specs.declared.answer.Answer.{Answer}
+use Rattle.core_state.specs.declared.answer.Answer.TheVariants as answers
+use Rattle.core_state.specs.declared.answer.Refusal.{Refusal}
+use Rattle.core_state.specs.declared.event.Event.TheVariants as events
 use Rattle.forest_ops.specs.declared.operation.Op.{Op}
 use Rattle.forest_ops.specs.Steps.{answer_of as reply_of}
 use Rattle.forest_ops.specs.declared.operation.Reply.{Reply}
@@ -31,7 +31,7 @@ use Rattle.vol_types.specs.declared.keys.Update.{Update}
 use Rattle.vol_types.specs.declared.layout.Layout.{Layout}
 use Rattle.vol_types.specs.declared.pointers.Place.{Place}
 use Rattle.vol_types.specs.declared.queries.Query.{Query}
-use Rattle.vol_works.specs.Works.{KeepsKeys}
+use Rattle.vol_session.specs.Writeback.{KeepsKeys}
 use Rattle.volume.specs.Serving.{IsChange, IsDoneNow, IsIntended, IsUnderWay, IsUnmade}
 use Rattle.volume.specs.States.{IsAtRest}
 

@@ -6,7 +6,7 @@ use Rattle.std.proofs.lemmas.Bool.Decides.{nat_tests}
 use Rattle.std.proofs.lemmas.List.Elements.{All-nil, All-cons, All-push}
 use Rattle.std.proofs.lemmas.List.Folds.{list_any-append}
 use Rattle.std.proofs.lemmas.List.Sums.{sum_by-append}
-use Rattle.core_memory.specs.declared.answer.Halt.{Halt as MemoryHalt}
+use Rattle.core_state.specs.declared.answer.Halt.{Halt as MemoryHalt}
 use Rattle.dev_model.specs.Devices.{AreFaultCounts, DevicesState, FaultCounts, risen, with_write_fault}
 use Rattle.dev_model.specs.Disk.{changed}
 use Rattle.dev_model.specs.Frames.{GoOn}
@@ -19,8 +19,8 @@ use Rattle.forest_ops.specs.declared.operation.Reply.{Reply}
 use Rattle.forest_ops.specs.declared.operation.Reply.TheVariants as replies
 use Rattle.image_view.specs.Found.{Found}
 use Rattle.plain_forest.specs.Forest.{Forest}
-use Rattle.run_history.specs.Failures.{AgreesWith, AreCounted, Halts, HaveCauses, device_faults, has_failed, has_halted, is_device_fault, is_fault_of, is_halted, is_sync, shows_halt}
-use Rattle.run_history.specs.declared.halt.Halt.{Halt}
+use Rattle.forest_ops.specs.Failures.{AgreesWith, AreCounted, Halts, HaveCauses, device_faults, has_failed, has_halted, is_device_fault, is_fault_of, is_halted, is_sync, shows_halt}
+use Rattle.forest_ops.specs.declared.halt.Halt.{Halt}
 use Rattle.vol_session.specs.Marks.{forest_found}
 use Rattle.vol_types.specs.Faults.{RoseBy}
 use Rattle.volume.specs.Serving.{HaltsAs}

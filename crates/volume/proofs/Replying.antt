@@ -2,9 +2,9 @@
 use Rattle.std.proofs.Common.{◌≡◌, ℕ, Bool, true, false, List, Option, None, refl, sym, ap, ◌∙◌}
 use Rattle.std.specs.Prelude.{◌≢◌, ◌&&◌, ◌||◌}
 use Rattle.std.proofs.lemmas.Bool.{false≢true, true≢false}
-use Rattle.core_memory.specs.States.{State}
-use Rattle.core_memory.specs.Volumes.{Volume}
-use Rattle.core_memory.specs.declared.answer.Halt.{Halt as MemoryHalt}
+use Rattle.core_state.specs.States.{State}
+use Rattle.core_state.specs.Volumes.{Volume}
+use Rattle.core_state.specs.declared.answer.Halt.{Halt as MemoryHalt}
 use Rattle.dev_model.specs.Devices.{FaultCounts}
 use Rattle.forest_ops.specs.Classes.{class_of, is_lost, looks, may_fail, may_have}
 use Rattle.forest_ops.specs.History.{commits, is_done}
@@ -17,7 +17,7 @@ use Rattle.forest_ops.specs.declared.operation.Reply.TheVariants as replies
 use Rattle.fs_plan.specs.Plans.{MayReply}
 use Rattle.fs_plan.specs.declared.planned.Plan.{Plan}
 use Rattle.plain_forest.specs.Forest.{Forest}
-use Rattle.run_history.specs.Acknowledged.{synced_count}
+use Rattle.forest_ops.specs.Acknowledged.{synced_count}
 use Rattle.vol_session.specs.Sessions.{IsFailureNow, IsPlanNow}
 use Rattle.vol_types.specs.declared.keys.Update.{Update}
 use Rattle.volume.specs.Answers.{HasCause}

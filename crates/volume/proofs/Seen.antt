@@ -4,12 +4,12 @@ use Rattle.std.specs.Prelude.{◌&&◌, ◌==◌, All, IfSome, nat_lt}
 use Rattle.std.proofs.lemmas.Bool.{eq-eqb, lt-ltb}
 use Rattle.std.proofs.lemmas.List.Elements.{All-head, All-tail}
 use Rattle.btree_map.specs.Trees.{keys_in}
-use Rattle.commit_plan.specs.Ids.{are_id_places, id_trees, is_id_place}
-use Rattle.core_memory.specs.States.{IsState, State, mine}
-use Rattle.core_memory.specs.Volumes.{changes_in}
-use Rattle.entry_queue.specs.Changes.{all_made}
-use Rattle.entry_queue.specs.Queues.{waiting}
-use Rattle.entry_queue.specs.declared.changes.KeyChanges.{KeyChanges}
+use Rattle.dirty_nodes.specs.Ids.{are_id_places, id_trees, is_id_place}
+use Rattle.core_state.specs.States.{IsState, State, mine}
+use Rattle.core_state.specs.Volumes.{changes_in}
+use Rattle.journal_writer.specs.Changes.{all_made}
+use Rattle.journal_writer.specs.Queues.{waiting}
+use Rattle.journal_writer.specs.declared.changes.KeyChanges.{KeyChanges}
 use Rattle.fs_plan.specs.Plans.{IsGiven, IsPlanOf}
 use Rattle.fs_plan.specs.declared.planned.Plan.{Plan}
 use Rattle.key_meaning.specs.Checks.{IsSound}

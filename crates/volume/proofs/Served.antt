@@ -4,13 +4,13 @@ use Rattle.std.specs.Prelude.{IfOk, IfSome, OnErr}
 use Rattle.std.specs.declared.alloc.AllocError.{AllocError}
 use Rattle.std.proofs.lemmas.Option.{none-some as none_some}
 use Rattle.btree_map.specs.Trees.{keys_in}
-use Rattle.core_memory.specs.Events.{IsMade}
-use Rattle.core_memory.specs.States.{IsState, State}
-use Rattle.core_memory.specs.Volumes.{Volume}
-use Rattle.core_memory.specs.declared.answer.Answer.{Answer}
-use Rattle.core_memory.specs.declared.answer.Halt.{Halt as MemoryHalt}
-use Rattle.core_memory.specs.declared.answer.Refusal.{Refusal}
-use Rattle.core_memory.specs.declared.answer.Refusal.TheVariants as refusals
+use Rattle.core_state.specs.Events.{IsMade}
+use Rattle.core_state.specs.States.{IsState, State}
+use Rattle.core_state.specs.Volumes.{Volume}
+use Rattle.core_state.specs.declared.answer.Answer.{Answer}
+use Rattle.core_state.specs.declared.answer.Halt.{Halt as MemoryHalt}
+use Rattle.core_state.specs.declared.answer.Refusal.{Refusal}
+use Rattle.core_state.specs.declared.answer.Refusal.TheVariants as refusals
 use Rattle.dev_model.specs.Devices.{DevicesState, FaultCounts}
 use Rattle.dev_model.specs.FrameLaws.{go_on_here, go_on_then}
 use Rattle.dev_model.specs.Frames.{GoOn, after_writes}
@@ -18,14 +18,14 @@ use Rattle.forest_ops.specs.declared.operation.Op.{Op}
 use Rattle.forest_ops.specs.declared.operation.Op.TheVariants.{Sync}
 use Rattle.forest_ops.specs.declared.operation.Reply.{Reply}
 use Rattle.forest_ops.specs.declared.operation.Reply.TheVariants as replies
-use Rattle.run_history.specs.Acknowledged.{synced_count}
-use Rattle.run_history.specs.declared.acks.Ack.{Ack}
+use Rattle.forest_ops.specs.Acknowledged.{synced_count}
+use Rattle.forest_ops.specs.declared.acks.Ack.{Ack}
 use Rattle.vol_core.specs.Cores.{CoreState}
 use Rattle.vol_session.specs.Sessions.{IsUncommitted, SessionState}
 use Rattle.vol_types.specs.declared.space.Short.{Short}
-use Rattle.vol_works.specs.Works.{IsForeign, MayStopSync, IsWorked, StopsWith, stopped_by}
-use Rattle.vol_works.specs.declared.stop.Stop.{Stop}
-use Rattle.vol_works.specs.declared.stop.Stop.TheVariants as stops
+use Rattle.vol_session.specs.Writeback.{IsForeign, MayStopSync, IsWorked, StopsWith, stopped_by}
+use Rattle.vol_session.specs.declared.stop.Stop.{Stop}
+use Rattle.vol_session.specs.declared.stop.Stop.TheVariants as stops
 use Rattle.volume.specs.Answers.{AcknowledgesAll, HasCause, IsNumberSpent, LacksSpace, acks_after}
 use Rattle.volume.specs.Planning.{Standing, standing_in}
 use Rattle.volume.specs.Serving.{HaltsAs, IsEntered, IsIntended, IsMoved, IsServed, IsStepped, IsUnmade, IsUnserved, TellsStop, TellsSync}

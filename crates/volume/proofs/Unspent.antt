@@ -2,11 +2,11 @@
 use Rattle.std.proofs.Common.{◌≡◌, ◌<◌, ◌^◌, [], ◌∷◌, ◌++◌, length, subst, ⊎_elim, arith}
 use Rattle.std.proofs.lemmas.List.{length-append}
 use Rattle.std.proofs.lemmas.List.Elements.{All-push}
-use Rattle.core_memory.specs.Checkpoints.{IsFreezeRefused, IsPlacingRefused}
-use Rattle.core_memory.specs.Sealing.{IsSealRefused}
-use Rattle.core_memory.specs.Volumes.{Volume, needs_entry}
-use Rattle.core_memory.specs.declared.answer.Refusal.{Refusal}
-use Rattle.core_memory.specs.declared.answer.Refusal.TheVariants as refusals
+use Rattle.core_state.specs.Checkpoints.{IsFreezeRefused, IsPlacingRefused}
+use Rattle.core_state.specs.Sealing.{IsSealRefused}
+use Rattle.core_state.specs.Volumes.{Volume, needs_entry}
+use Rattle.core_state.specs.declared.answer.Refusal.{Refusal}
+use Rattle.core_state.specs.declared.answer.Refusal.TheVariants as refusals
 use Rattle.dev_model.specs.Devices.{DevicesState, FaultCounts}
 use Rattle.dev_model.specs.Frames.{GoOn}
 use Rattle.forest_ops.specs.History.{History}
@@ -20,7 +20,7 @@ use Rattle.vol_core.specs.Room.{HasRoomForNext, LeavesRoom}
 use Rattle.vol_core.proofs.Stages.{sealing_is_free}
 use Rattle.vol_session.specs.Numbers.{HasNumbersLeft, IsFarFromSpent}
 use Rattle.vol_session.specs.Survivors.{BeginsWell}
-use Rattle.vol_works.specs.Works.{IsForeign, LacksNumber}
+use Rattle.vol_session.specs.Writeback.{IsForeign, LacksNumber}
 use Rattle.volume.specs.Answers.{HasCause, IsCommitSpent, IsNumberSpent, IsOfRing, IsRingSpent}
 use Rattle.volume.specs.States.{AreUnspent, BeganWithRoom}
 

@@ -1,20 +1,20 @@
 -- What the call of an operation answers, and the cause of each failure.
 use Rattle.std.specs.Prelude.{◌≡◌, ◌⊎◌, ℕ, true, ⊤, Some, List, [], ◌∷◌, ◌++◌}
 use Rattle.btree_map.specs.Trees.{keys_in}
-use Rattle.commit_plan.specs.Splits.{IsSplitNeed}
-use Rattle.commit_plan.specs.declared.splits.NeedSplit.{NeedSplit}
-use Rattle.core_memory.specs.Commits.{AreIntended}
-use Rattle.core_memory.specs.Rulings.{HasCommitNumbers, IsRefused}
-use Rattle.core_memory.specs.Volumes.{Volume}
-use Rattle.core_memory.specs.declared.answer.NoSpace.{NoSpace as NoSpaceHere}
-use Rattle.core_memory.specs.declared.answer.Refusal.TheVariants as refusals
-use Rattle.core_memory.specs.declared.answer.Refusal.{Refusal}
+use Rattle.dirty_nodes.specs.Splits.{IsSplitNeed}
+use Rattle.dirty_nodes.specs.declared.splits.NeedSplit.{NeedSplit}
+use Rattle.core_state.specs.Commits.{AreIntended}
+use Rattle.core_state.specs.Rulings.{HasCommitNumbers, IsRefused}
+use Rattle.core_state.specs.Volumes.{Volume}
+use Rattle.core_state.specs.declared.answer.NoSpace.{NoSpace as NoSpaceHere}
+use Rattle.core_state.specs.declared.answer.Refusal.TheVariants as refusals
+use Rattle.core_state.specs.declared.answer.Refusal.{Refusal}
 use Rattle.dev_model.specs.Devices.{DevicesState, FaultCounts, with_write_fault}
 use Rattle.forest_ops.specs.declared.operation.Op.{Op}
 use Rattle.forest_ops.specs.declared.operation.Op.TheVariants.{Sync}
 use Rattle.forest_ops.specs.declared.operation.Reply.{Reply}
 use Rattle.forest_ops.specs.declared.operation.Reply.TheVariants.{DeviceFault, Halted, NoMemory, NoSpace, Okay, Spent, Synced}
-use Rattle.run_history.specs.declared.acks.Ack.{Ack}
+use Rattle.forest_ops.specs.declared.acks.Ack.{Ack}
 use Rattle.fs_plan.specs.Plans.{IsPlanOf}
 use Rattle.key_meaning.specs.Checks.{IsSound}
 use Rattle.key_meaning.specs.Tidy.{IsTidy}
@@ -24,7 +24,7 @@ use Rattle.vol_types.specs.declared.keys.Update.{Update}
 use Rattle.vol_types.specs.declared.layout.Layout.{Layout}
 use Rattle.vol_types.specs.declared.pointers.Place.{Place}
 use Rattle.vol_types.specs.declared.space.Short.{Short}
-use Rattle.vol_works.specs.Works.{IsForeign, LackedSpace, LacksNumber}
+use Rattle.vol_session.specs.Writeback.{IsForeign, LackedSpace, LacksNumber}
 
 -- the acknowledgements after a reply at this moment
 abbrev pub acks_after : Reply → ℕ → List Ack → List Ack

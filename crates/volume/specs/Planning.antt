@@ -1,12 +1,12 @@
 -- What stays of a session while an operation of client 0 is planned.
 use Rattle.std.specs.Prelude.{◌≡◌, ℕ, if◌then◌else◌, Option, Some, None, List, []}
 use Rattle.btree_map.specs.Trees.{keys_in}
-use Rattle.commit_plan.specs.Ids.{id_trees}
-use Rattle.core_memory.specs.States.{State, mine}
-use Rattle.core_memory.specs.declared.answer.Halt.{Halt}
+use Rattle.dirty_nodes.specs.Ids.{id_trees}
+use Rattle.core_state.specs.States.{State, mine}
+use Rattle.core_state.specs.declared.answer.Halt.{Halt}
 use Rattle.dev_model.specs.Devices.{DevicesState, no_fault_counts}
 use Rattle.forest_ops.specs.History.{History}
-use Rattle.run_history.specs.declared.acks.Ack.{Ack}
+use Rattle.forest_ops.specs.declared.acks.Ack.{Ack}
 use Rattle.snap_tree.specs.Snaps.{Snaps}
 use Rattle.vol_session.specs.Sessions.{SessionState}
 use Rattle.vol_types.specs.KeyMaps.{KeyMap}

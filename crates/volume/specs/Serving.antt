@@ -1,15 +1,15 @@
 -- How the parts of a call move a session, and what an operation leaves of it.
 use Rattle.std.specs.Prelude.{◌≡◌, ℕ, ◌<◌, ◌≤◌, ⊤, true, Option, Some, None, IsSome, List, [], ◌∷◌, ◌++◌, length}
 use Rattle.btree_map.specs.Trees.{keys_in}
-use Rattle.core_memory.specs.Commits.{AreIntended}
-use Rattle.core_memory.specs.Events.{intended_by}
-use Rattle.core_memory.specs.Rulings.{IsRefused}
-use Rattle.core_memory.specs.States.{State, mine, other_holder}
-use Rattle.core_memory.specs.declared.answer.Answer.{Answer}
-use Rattle.core_memory.specs.declared.answer.Answer.TheVariants as answers
-use Rattle.core_memory.specs.declared.answer.Halt.{Halt as MemoryHalt}
-use Rattle.core_memory.specs.declared.answer.Refusal.{Refusal}
-use Rattle.core_memory.specs.declared.answer.Refusal.TheVariants as refusals
+use Rattle.core_state.specs.Commits.{AreIntended}
+use Rattle.core_state.specs.Events.{intended_by}
+use Rattle.core_state.specs.Rulings.{IsRefused}
+use Rattle.core_state.specs.States.{State, mine, other_holder}
+use Rattle.core_state.specs.declared.answer.Answer.{Answer}
+use Rattle.core_state.specs.declared.answer.Answer.TheVariants as answers
+use Rattle.core_state.specs.declared.answer.Halt.{Halt as MemoryHalt}
+use Rattle.core_state.specs.declared.answer.Refusal.{Refusal}
+use Rattle.core_state.specs.declared.answer.Refusal.TheVariants as refusals
 use Rattle.dev_model.specs.Devices.{DevicesState}
 use Rattle.dev_model.specs.Frames.{GoOn}
 use Rattle.forest_ops.specs.Classes.{class_of}
@@ -22,10 +22,10 @@ use Rattle.forest_ops.specs.declared.operation.Reply.TheVariants as replies
 use Rattle.fs_plan.specs.Plans.{is_planned}
 use Rattle.key_meaning.specs.Forest.{Read, forest_in}
 use Rattle.plain_forest.specs.Forest.{Forest}
-use Rattle.run_history.specs.declared.halt.Halt.{Halt}
+use Rattle.forest_ops.specs.declared.halt.Halt.{Halt}
 use Rattle.vol_session.specs.Sessions.{IfSoundKeys, IsPlanNow, SessionState}
-use Rattle.vol_works.specs.declared.stop.Stop.{Stop}
-use Rattle.vol_works.specs.declared.stop.Stop.TheVariants as stops
+use Rattle.vol_session.specs.declared.stop.Stop.{Stop}
+use Rattle.vol_session.specs.declared.stop.Stop.TheVariants as stops
 use Rattle.volume.specs.Answers.{HasCause, IsAnswered, nothing_short}
 use Rattle.volume.specs.States.{IsAtRest}
 

@@ -1,8 +1,8 @@
 -- What a volume keeps between its operations, beside what its session keeps: the failures that its history tells, and what client 0 has under way, which is nothing.
 use Rattle.std.specs.Prelude.{◌≡◌, ◌<◌, ◌^◌, ℕ, All, false, Option, None, length, option_map, is_some}
-use Rattle.core_memory.specs.Actors.{holds}
-use Rattle.core_memory.specs.States.{State, mine}
-use Rattle.core_memory.specs.declared.answer.Halt.{Halt as MemoryHalt}
+use Rattle.core_state.specs.Actors.{holds}
+use Rattle.core_state.specs.States.{State, mine}
+use Rattle.core_state.specs.declared.answer.Halt.{Halt as MemoryHalt}
 use Rattle.dev_model.specs.Devices.{DevicesState}
 use Rattle.dev_model.specs.Frames.{after_writes}
 use Rattle.forest_ops.specs.History.{History}
@@ -10,8 +10,8 @@ use Rattle.forest_ops.specs.declared.operation.Entry.{Entry}
 use Rattle.forest_ops.specs.declared.operation.Op.TheVariants.{Sync}
 use Rattle.forest_ops.specs.declared.operation.Reply.TheVariants.{Spent}
 use Rattle.image_view.specs.Found.{Found}
-use Rattle.run_history.specs.Failures.{Halts, HaveCauses, NoCommitAfterHalt, has_failed}
-use Rattle.run_history.specs.declared.halt.Halt.{Halt}
+use Rattle.forest_ops.specs.Failures.{Halts, HaveCauses, NoCommitAfterHalt, has_failed}
+use Rattle.forest_ops.specs.declared.halt.Halt.{Halt}
 use Rattle.vol_session.specs.Marks.{forest_found}
 use Rattle.vol_core.specs.Room.{LeavesRoom}
 use Rattle.vol_session.specs.Numbers.{IsFarFromSpent}

@@ -1,12 +1,12 @@
 ghost use Rattle.std.specs.Prelude.{◌≡◌, ◌<◌, true, false, IfOk, Err, None, OnErr, Some};
-ghost use Rattle.core_memory.specs.Commits.{AreIntended};
-ghost use Rattle.core_memory.specs.Events.{intended_by};
-ghost use Rattle.core_memory.specs.Rulings.{IsRefused};
-ghost use Rattle.core_memory.specs.States.{mine};
+ghost use Rattle.core_state.specs.Commits.{AreIntended};
+ghost use Rattle.core_state.specs.Events.{intended_by};
+ghost use Rattle.core_state.specs.Rulings.{IsRefused};
+ghost use Rattle.core_state.specs.States.{mine};
 ghost use Rattle.forest_ops.specs.declared.operation.Reply.TheVariants.{Okay};
 ghost use Rattle.vol_core.specs.Rested.{IsRested};
 ghost use Rattle.vol_session.specs.Sessions.{IsPlanNow};
-ghost use Rattle.vol_works.specs.Works.{stopped_by};
+ghost use Rattle.vol_session.specs.Writeback.{stopped_by};
 ghost use Rattle.volume.specs.Serving.{IsChange, IsDoneNow, IsEntered, IsIntended, IsServed, IsStepped, IsUnderWay, IsUnmade, IsUnserved, TellsStop};
 ghost use Rattle.volume.specs.States.{IsAtRest};
 
@@ -18,7 +18,7 @@ use std::alloc::{AllocError, Global};
 use vol_core::{Answer, Event, Halt, Opening, Refusal};
 use vol_session::{Session, Uncommitted};
 use vol_types::Updates;
-use vol_works::{Stop, checkpoint};
+use vol_session::{Stop, checkpoint};
 
 /// Makes the change that a plan of client 0's operation says. Where the journal or the buckets are short, a checkpoint is made first.
 pub(crate) fn make<D: Devices, O: Opening>(

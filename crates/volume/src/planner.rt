@@ -1,9 +1,9 @@
 ghost use Rattle.std.specs.Arc.{arc_value};
 ghost use Rattle.std.specs.Prelude.{◌≡◌, true, IfOk, OnErr};
 ghost use Rattle.btree_map.specs.Trees.{keys_in};
-ghost use Rattle.commit_plan.specs.Ids.{id_trees};
-ghost use Rattle.core_memory.specs.Actors.{with_ids, with_look};
-ghost use Rattle.core_memory.specs.States.{mine};
+ghost use Rattle.dirty_nodes.specs.Ids.{id_trees};
+ghost use Rattle.core_state.specs.Actors.{with_ids, with_look};
+ghost use Rattle.core_state.specs.States.{mine};
 ghost use Rattle.fs_plan.specs.Plans.{MayReply, is_planned};
 ghost use Rattle.vol_session.specs.Sessions.{IsPlanNow};
 ghost use Rattle.volume.specs.Planning.{IsPlanning, standing_in};
@@ -121,7 +121,7 @@ impl<D: Devices, O: Opening, B: Begun> Model for Planner<D, O, B> {
 
 impl<D: Devices, O: Opening, B: Begun> View for Planner<D, O, B> {
     ghost use Rattle.std.specs.Prelude.{◌≡◌};
-    ghost use Rattle.core_memory.specs.States.{mine};
+    ghost use Rattle.core_state.specs.States.{mine};
     ghost use Rattle.key_view.specs.declared.hold.Hold.TheVariants.{NoMemory};
     ghost use Rattle.volume.specs.Planning.{ids_told};
 

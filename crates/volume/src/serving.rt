@@ -1,11 +1,11 @@
 ghost use Rattle.std.specs.Prelude.{◌≡◌, ◌<◌, ◌≢◌, true, false, IfOk, OnErr};
-ghost use Rattle.core_memory.specs.States.{mine};
+ghost use Rattle.core_state.specs.States.{mine};
 ghost use Rattle.forest_ops.specs.History.{is_done};
 ghost use Rattle.forest_ops.specs.declared.operation.Op.TheVariants.{Sync};
 ghost use Rattle.forest_ops.specs.declared.operation.Reply.TheVariants.{DeviceFault, Okay};
 ghost use Rattle.fs_plan.specs.Plans.{MayReply, is_planned};
 ghost use Rattle.vol_session.specs.Sessions.{IsFailureNow, IsPlanNow};
-ghost use Rattle.vol_works.specs.Works.{MayStopSync};
+ghost use Rattle.vol_session.specs.Writeback.{MayStopSync};
 ghost use Rattle.volume.specs.Answers.{nothing_short};
 ghost use Rattle.volume.specs.Serving.{IsChange, IsDoneNow, IsEntered, IsForests, IsServed, IsStepped, IsUnderWay, IsUnserved, TellsSync, halt_refused};
 ghost use Rattle.volume.specs.States.{IsAtRest, halt_told};
@@ -15,12 +15,12 @@ use crate::planner::planned;
 use dev_model::Devices;
 use forest_ops::{Op, Reply};
 use fs_plan::Plan;
-use run_history::Halt;
+use forest_ops::Halt;
 use std::alloc::{AllocError, Global};
 use vol_core::{Answer, Event, Opening, Refusal};
 use vol_session::Session;
 use vol_types::{Counts, Duplicate, Short};
-use vol_works::{Stop, sync_all};
+use vol_session::{Stop, sync_all};
 
 /// Answers an operation of client 0, where the history has room for its entry.
 pub(crate) fn answer<D: Devices, O: Opening>(

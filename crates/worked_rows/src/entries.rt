@@ -2,7 +2,7 @@
 
 use std::alloc::{AllocError, Global};
 use std::test::Fail;
-use volume_runs::{ALL_WRITTEN, EMPTY_RUN, Start, Step, Trial, other_step};
+use crash_runs::{ALL_WRITTEN, EMPTY_RUN, Start, Step, Trial, other_step};
 
 // A script that makes the files n00 to n59 and syncs.
 fn script(alloc: Global) -> Result<String, AllocError> {

@@ -1,5 +1,5 @@
 use std::test::Fail;
-use volume_runs::{EMPTY_RUN, MOUNTING, Start, Step, Trial, fails_so, other_row};
+use crash_runs::{EMPTY_RUN, MOUNTING, Start, Step, Trial, fails_so, other_row};
 
 // How many calls there are where none fails: before the entry the device is flushed, it is written, and flushed.
 const ALL: u64 = MOUNTING + 3;

@@ -1,5 +1,5 @@
 use std::test::Fail;
-use volume_runs::{EMPTY_RUN, Start, Step, Trial, other_step};
+use crash_runs::{EMPTY_RUN, Start, Step, Trial, other_step};
 
 // A file that was made and listed is found there by the next run.
 static STEPS: [Step; 2] = [

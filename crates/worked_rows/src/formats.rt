@@ -1,5 +1,5 @@
 use std::test::Fail;
-use volume_runs::{
+use crash_runs::{
     EMPTY_RUN, FORMAT_ONE, FORMAT_TWO, ID_TEXT, NONE_WRITTEN, Start, Step, Trial, other_step,
 };
 

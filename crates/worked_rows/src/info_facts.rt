@@ -1,5 +1,5 @@
 use std::test::Fail;
-use volume_runs::{EMPTY_RUN, ID_TEXT, NONE_WRITTEN, Start, Step, Trial, other_step};
+use crash_runs::{EMPTY_RUN, ID_TEXT, NONE_WRITTEN, Start, Step, Trial, other_step};
 
 // A call of `info`. The source isn't asked, and there is no history.
 const INFO: Trial = Trial {

@@ -1,5 +1,5 @@
 use std::test::Fail;
-use volume_runs::{ALL_WRITTEN, EMPTY_RUN, Start, Step, Trial, fails_so, other_row, other_step};
+use crash_runs::{ALL_WRITTEN, EMPTY_RUN, Start, Step, Trial, fails_so, other_row, other_step};
 
 // A call of `info`, without a history. The source fails where it is asked.
 const INFO: Trial = Trial {

@@ -1,5 +1,5 @@
 use std::test::Fail;
-use volume_runs::{ALL_WRITTEN, EMPTY_RUN, NONE_WRITTEN, Start, Step, Trial, other_row};
+use crash_runs::{ALL_WRITTEN, EMPTY_RUN, NONE_WRITTEN, Start, Step, Trial, other_row};
 
 // Makes three files.
 const MAKE: Step = Step::Run(Trial {

@@ -2,7 +2,7 @@
 
 use std::alloc::{AllocError, Global};
 use std::test::Fail;
-use volume_runs::{ALL_WRITTEN, EMPTY_RUN, Start, Step, Trial, other_row, other_step};
+use crash_runs::{ALL_WRITTEN, EMPTY_RUN, Start, Step, Trial, other_row, other_step};
 
 // Makes the files `a` and `b`, with a sync behind each: the entries 2 and 3 of the journal stand in the blocks 17 and 18 of both
 // devices, and both are needed.

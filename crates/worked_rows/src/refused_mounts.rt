@@ -1,5 +1,5 @@
 use std::test::Fail;
-use volume_runs::{
+use crash_runs::{
     ALL_WRITTEN, EMPTY_RUN, NONE_WRITTEN, Start, Step, Trial, other_row, other_step,
 };
 

@@ -3,7 +3,7 @@
 
 use std::alloc::{AllocError, Global};
 use std::test::Fail;
-use volume_runs::{ALL_WRITTEN, EMPTY_RUN, Start, Step, Trial, other_step};
+use crash_runs::{ALL_WRITTEN, EMPTY_RUN, Start, Step, Trial, other_step};
 
 // The magic; kind 3, version 1, part 0 of 1; the volume's id; the birth of the root of btree 1, block 0 of its bucket, sequence 1, and 124
 // bytes of payload.

@@ -1,6 +1,6 @@
 use std::alloc::{AllocError, Global};
 use std::test::Fail;
-use volume_runs::{EMPTY_RUN, Start, Step, Trial, ends_so, other_row};
+use crash_runs::{EMPTY_RUN, Start, Step, Trial, ends_so, other_row};
 
 // A run that is refused for its script, with no entry in its history, no acknowledgement and no call of a device.
 const REFUSED: Trial = Trial {

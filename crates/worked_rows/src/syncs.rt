@@ -1,5 +1,5 @@
 use std::test::Fail;
-use volume_runs::{EMPTY_RUN, MOUNTING, Start, Step, Trial, other_step};
+use crash_runs::{EMPTY_RUN, MOUNTING, Start, Step, Trial, other_step};
 
 // Each sync says how many commits of the run are durable, and costs the write of an entry and a flush behind it, and the first of a run
 // a flush before it; where all are durable it costs nothing. The next run counts its own commits alone. It needs two entries, and so

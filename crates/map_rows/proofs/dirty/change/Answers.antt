@@ -1,7 +1,7 @@
 use Rattle.std.proofs.Common.{ℕ, List, [], ◌∷◌, sym, ap, ◌∙◌, subst}
 use Rattle.std.specs.Prelude.{IsSome}
 use Rattle.std.specs.Ordering.{nat_cmp}
-use Rattle.commit_plan.specs.Dirty.{with_pins}
+use Rattle.dirty_nodes.specs.Dirty.{with_pins}
 use Rattle.vol_types.specs.Maps.{value_at}
 use Rattle.map_rows.proofs.Pinned.{pinned}
 use Rattle.map_rows.proofs.dirty.change.Goals as goal

@@ -4,7 +4,7 @@ use Rattle.dev_model.specs.Disk.{as_read}
 use Rattle.dev_model.specs.FrameLaws.{go_on_here, go_on_then}
 use Rattle.geometry.specs.Mirrors.{AreAtRest}
 use Rattle.vol_types.specs.declared.layout.Layout.{Layout}
-use Rattle.plain_reader.specs.Answers.{WasWhole}
+use Rattle.image_reader.specs.Answers.{WasWhole}
 use Rattle.replay.specs.Mending.{BringsNoBlock, HasMended}
 use Rattle.replay.proofs.MendedEntry.{MendLaws, keeps_more, mended_more, mended_none}
 use Rattle.replay.proofs.MendedMeaning.{journal_here, journal_more, keeps_meaning}

@@ -2,8 +2,8 @@ use Rattle.std.proofs.Common.{◌<◌, ◌∙◌, ℕ, Option, Ok, Err, ap, sym,
 use Rattle.std.specs.Prelude.{IfSome}
 use Rattle.dev_model.specs.Frames.{AreAfterCalls}
 use Rattle.image_view.specs.declared.fault.MountFault.{MountFault}
-use Rattle.plain_reader.specs.Answers.{Finds}
-use Rattle.plain_reader.specs.Faults.{mount_fault_device}
+use Rattle.image_reader.specs.Answers.{Finds}
+use Rattle.image_reader.specs.Faults.{mount_fault_device}
 use Rattle.replay.specs.Opening.{in_next_session}
 use Rattle.replay.specs.Volumes.{found_in}
 use Rattle.replay.specs.declared.beginning.BeginFault.TheVariants.{Spent}

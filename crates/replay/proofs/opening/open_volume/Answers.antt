@@ -8,8 +8,8 @@ use Rattle.geometry.specs.Layouts.{is_layout_of}
 use Rattle.image_view.specs.Found.{Found, found}
 use Rattle.image_view.specs.Trees.{nodes_of}
 use Rattle.image_view.specs.declared.fault.MountFault.{MountFault}
-use Rattle.plain_reader.specs.Answers.{AreRagged, Finds}
-use Rattle.plain_reader.specs.Faults.{failed_mount_device}
+use Rattle.image_reader.specs.Answers.{AreRagged, Finds}
+use Rattle.image_reader.specs.Faults.{failed_mount_device}
 use Rattle.replay.specs.Opening.{in_next_session}
 use Rattle.replay.specs.Volumes.{found_in}
 use Rattle.replay.proofs.LoadedFront.{front_is}

@@ -2,7 +2,7 @@ use Rattle.std.proofs.Common.{◌≡◌, All, true}
 use Rattle.dev_model.specs.Devices.{now}
 use Rattle.dev_model.specs.Disk.{as_read}
 use Rattle.geometry.specs.Layouts.{is_layout_of}
-use Rattle.plain_reader.specs.Answers.{IsFront, WasWhole}
+use Rattle.image_reader.specs.Answers.{IsFront, WasWhole}
 use Rattle.replay.proofs.LoadedFront.{handed_on}
 use Rattle.replay.proofs.Loading.{AreFound, answer_is, made_up_is, ragged_is}
 use Rattle.replay.proofs.reading.load.Goals as goal

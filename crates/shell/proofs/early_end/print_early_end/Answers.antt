@@ -1,6 +1,6 @@
 use Rattle.std.proofs.Common.{◌≡◌, ◌++◌, ap, ◌∙◌, ℕ, List, sym}
 use Rattle.std.specs.Prelude.{codes, decimal}
-use Rattle.script_lines.specs.declared.reading.LineFault.{LineFault}
+use Rattle.script_text.specs.declared.reading.LineFault.{LineFault}
 use Rattle.shell.specs.Outcome.{bad_end, early_line}
 use Rattle.shell.specs.declared.early_end.EarlyEnd.{EarlyEnd}
 use Rattle.shell.specs.declared.early_end.EarlyEnd.TheVariants.{BadLine, Device, Source}

@@ -1,7 +1,7 @@
 use Rattle.std.proofs.Common.{◌++◌, refl, ◌∙◌, sym}
 use Rattle.std.proofs.lemmas.Bool.{false≢true}
 use Rattle.text_io.specs.StreamLaws.{gains_nothing}
-use Rattle.script_lines.specs.Replies.{reply_line_of}
+use Rattle.script_text.specs.Replies.{reply_line_of}
 use Rattle.shell.specs.declared.page.Page.{Page}
 use Rattle.shell.proofs.Running.{on_err_of, on_ok_of}
 use Rattle.shell.proofs.Printing.{prints_more, prints_noted, some_reply_line}

@@ -1,7 +1,7 @@
 use Rattle.vol_session.specs.Marks.{forest_found}
 use Rattle.std.proofs.Common.{[], ◌++◌, sym, subst}
 use Rattle.std.specs.List.{cons_option}
-use Rattle.run_history.specs.Fits.{entry_by, entry_if_any}
+use Rattle.forest_ops.specs.Fits.{entry_by, entry_if_any}
 use Rattle.forest_ops.specs.declared.operation.Reply.TheVariants.{NoMemory}
 use Rattle.shell.specs.Outcome.{ack_by, reply_line_by}
 use Rattle.shell.specs.Phases.{AddsEntries}

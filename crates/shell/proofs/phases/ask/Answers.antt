@@ -2,7 +2,7 @@ use Rattle.vol_session.specs.Marks.{forest_found}
 use Rattle.std.proofs.Common.{[], subst}
 use Rattle.std.specs.Prelude.{IfOk}
 use Rattle.std.specs.List.{cons_option}
-use Rattle.run_history.specs.Fits.{entry_if_any}
+use Rattle.forest_ops.specs.Fits.{entry_if_any}
 use Rattle.shell.specs.Outcome.{ack_by}
 use Rattle.shell.specs.Phases.{AddsEntries}
 use Rattle.shell.proofs.Preparing.{handed_on_err}

@@ -1,6 +1,6 @@
 use Rattle.vol_session.specs.Marks.{forest_found}
 use Rattle.std.proofs.Common.{◌≡◌, true, ℕ, ◌++◌, ap, ◌∙◌, sym, subst}
-use Rattle.script_lines.specs.Replies.{end_line_of}
+use Rattle.script_text.specs.Replies.{end_line_of}
 use Rattle.forest_ops.specs.History.{commit_count}
 use Rattle.shell.specs.declared.tally.Tally.{Tally}
 use Rattle.shell.specs.declared.page.Page.{Page}

@@ -1,5 +1,5 @@
 use Rattle.std.proofs.Common.{ap, ◌∙◌, sym}
-use Rattle.script_lines.specs.Lines.{lines_of}
+use Rattle.script_text.specs.Lines.{lines_of}
 use Rattle.shell.specs.Lines.{first_of_other}
 use Rattle.shell.proofs.RunScripts.{script_runs}
 use Rattle.shell.proofs.prepare.read_text.Goals as goal

@@ -1,6 +1,6 @@
 use Rattle.std.proofs.Common.{◌≤◌, inl, ⊎_elim, [], sym, subst}
 use Rattle.replay.specs.Volumes.{found_in}
-use Rattle.run_safety.specs.Runs.{RunSurvives}
+use Rattle.vol_session.specs.Runs.{RunSurvives}
 use Rattle.shell.specs.Causes.{EarlyCause}
 use Rattle.shell.specs.Mounts.{OnlyReadUnmounted}
 use Rattle.shell.specs.Phases.{EndsUnopened, RunsOpened}

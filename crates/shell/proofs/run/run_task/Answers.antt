@@ -1,7 +1,7 @@
 use Rattle.std.proofs.Common.{◌≤◌, inl, inr, [], Some, refl, ap, ◌∙◌, sym, subst, arith}
 use Rattle.std.specs.Prelude.{length}
 use Rattle.dev_model.specs.FrameLaws.{only_read_here}
-use Rattle.run_safety.specs.Runs.{RunSurvives}
+use Rattle.vol_session.specs.Runs.{RunSurvives}
 use Rattle.shell.specs.declared.early_end.EarlyEnd.TheVariants.{OutOfMemory}
 use Rattle.shell.specs.declared.task.Task.{Task}
 use Rattle.shell.specs.Tasks.{IsFormat, IsInfo}

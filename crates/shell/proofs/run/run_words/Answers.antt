@@ -1,7 +1,7 @@
 use Rattle.std.proofs.Common.{◌≡◌, ◌≤◌, inl, inr, refl, [], Some, None, Global, map, sym, subst, arith}
 use Rattle.std.specs.Rc.{rc_str_bytes}
 use Rattle.dev_model.specs.FrameLaws.{only_read_here}
-use Rattle.run_safety.specs.Runs.{RunSurvives}
+use Rattle.vol_session.specs.Runs.{RunSurvives}
 use Rattle.shell.specs.Tasks.{IsAsked, task_of}
 use Rattle.shell.specs.Causes.{ArgumentsCause, SourceFailed}
 use Rattle.shell.specs.Mounts.{OnlyReadUnmounted}

@@ -1,5 +1,5 @@
 use Rattle.std.proofs.Common.{◌≡◌, ◌++◌, drop, map}
-use Rattle.plain_reader.specs.Volumes.{found_of}
+use Rattle.image_reader.specs.Volumes.{found_of}
 use Rattle.vol_info.specs.Facts.{btree_facts}
 use Rattle.vol_info.proofs.btrees.facts_of_these.Given as goal
 

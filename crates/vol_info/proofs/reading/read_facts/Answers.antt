@@ -4,7 +4,7 @@ use Rattle.image_view.specs.Found.{Found}
 use Rattle.vol_types.specs.declared.layout.Layout.{Layout}
 use Rattle.vol_info.specs.Facts.{facts_of}
 use Rattle.vol_info.specs.declared.facts.Facts.{Facts}
-use Rattle.plain_reader.specs.Volumes.{found_of}
+use Rattle.image_reader.specs.Volumes.{found_of}
 use Rattle.vol_info.proofs.reading.read_facts.Goals as goal
 
 -- the layout that is told is the one that was found

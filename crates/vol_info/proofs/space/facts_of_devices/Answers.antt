@@ -3,8 +3,8 @@ use Rattle.std.specs.Prelude.{IfOk}
 use Rattle.std.specs.List.{flat_map, range_with_len}
 use Rattle.bucket_pool.specs.Opening.{space_of}
 use Rattle.bucket_pool.specs.Space.{Space}
-use Rattle.plain_reader.specs.declared.found.FoundBtree.{FoundBtree}
-use Rattle.plain_reader.specs.Volumes.{found_of}
+use Rattle.image_reader.specs.declared.found.FoundBtree.{FoundBtree}
+use Rattle.image_reader.specs.Volumes.{found_of}
 use Rattle.vol_types.specs.KeyMaps.{Entries, entries_of, keys_in}
 use Rattle.vol_types.specs.declared.keys.Key.{Key}
 use Rattle.vol_types.specs.declared.pointers.Place.{Place}

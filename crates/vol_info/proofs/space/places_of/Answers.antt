@@ -1,7 +1,7 @@
 use Rattle.std.proofs.Common.{◌++◌, ◌∙◌, List, ap}
 use Rattle.std.specs.List.{flat_map}
 use Rattle.std.specs.Map.{values_of}
-use Rattle.plain_reader.specs.declared.found.FoundBtree.{FoundBtree}
+use Rattle.image_reader.specs.declared.found.FoundBtree.{FoundBtree}
 use Rattle.tree_nodes.specs.Levels.{Levels}
 use Rattle.vol_types.specs.declared.pointers.NodePtr.{NodePtr}
 use Rattle.vol_info.specs.Facts.{places_in}

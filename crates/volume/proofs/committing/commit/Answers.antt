@@ -1,5 +1,5 @@
 use Rattle.std.proofs.Common.{ap, subst}
-use Rattle.core_memory.specs.States.{IsState}
+use Rattle.core_state.specs.States.{IsState}
 use Rattle.vol_session.specs.Sessions.{SessionState}
 use Rattle.volume.proofs.Served.{made_served, not_made, served_later}
 use Rattle.volume.proofs.committing.commit.Goals as goal

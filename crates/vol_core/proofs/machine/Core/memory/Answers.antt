@@ -1,5 +1,5 @@
 use Rattle.std.proofs.Common.{◌≡◌, subst}
-use Rattle.core_memory.specs.States.{State}
+use Rattle.core_state.specs.States.{State}
 use Rattle.vol_core.specs.Rested.{HasRoomAfterCheckpoint, IsRested}
 use Rattle.vol_core.specs.Room.{HasRoomForNext}
 use Rattle.vol_core.proofs.Rested.{rested}

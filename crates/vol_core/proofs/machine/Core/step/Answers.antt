@@ -1,5 +1,5 @@
 use Rattle.std.proofs.Common.{◌≡◌, ◌<◌, IfSome, length, sym, subst}
-use Rattle.core_memory.specs.Events.{Fits}
+use Rattle.core_state.specs.Events.{Fits}
 use Rattle.dev_model.specs.Frames.{GoOn, after_writes}
 use Rattle.replay.specs.Mending.{KeepsPast}
 use Rattle.vol_core.specs.Left.{KeepsLeft, failed_by}

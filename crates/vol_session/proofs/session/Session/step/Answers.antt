@@ -1,6 +1,6 @@
 use Rattle.std.proofs.Common.{subst}
-use Rattle.core_memory.specs.Volumes.{IsVolume, KeepParts}
-use Rattle.entry_queue.specs.Queues.{IsQueue}
+use Rattle.core_state.specs.Volumes.{IsVolume, KeepParts}
+use Rattle.journal_writer.specs.Queues.{IsQueue}
 use Rattle.vol_session.proofs.Kept.{stepped}
 use Rattle.vol_session.proofs.Moves.{step_moves}
 use Rattle.vol_session.proofs.NumbersStepped.{numbers-stepped}

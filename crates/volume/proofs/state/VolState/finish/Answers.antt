@@ -1,6 +1,6 @@
 use Rattle.std.proofs.Common.{◌≡◌, ◌∙◌, ap, subst, sym}
 use Rattle.forest_ops.specs.History.{EachEntry, History, IsLegal}
-use Rattle.run_history.specs.Failures.{NoCommitAfterHalt}
+use Rattle.forest_ops.specs.Failures.{NoCommitAfterHalt}
 use Rattle.vol_session.specs.Marks.{forest_found}
 use Rattle.vol_session.specs.Sessions.{IsExact, SessionState}
 use Rattle.volume.proofs.state.VolState.finish.Goals as goal

@@ -1,6 +1,0 @@
-use Rattle.commit_plan.specs.PinLaws.{look-pins}
-use Rattle.commit_plan.proofs.Moving.{pinned-root}
-use Rattle.commit_plan.proofs.laws.changed_pins_are_known.Goals as goal
-
-pub returns : goal.returns
-returns c = record { each = look-pins; root = λ nodes btree root updates seq numbers differ trees alone fits. pinned-root nodes btree root trees differ alone updates seq numbers fits }

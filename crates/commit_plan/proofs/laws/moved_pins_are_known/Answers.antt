@@ -1,5 +1,0 @@
-use Rattle.commit_plan.specs.PinLaws.{moved-fresh, moved-from, moved-old, moved-other, rises-moved}
-use Rattle.commit_plan.proofs.laws.moved_pins_are_known.Goals as goal
-
-pub returns : goal.returns
-returns c = record { fresh = moved-fresh; old = moved-old; others = moved-other; rise = rises-moved; least = moved-from }

@@ -1,7 +1,0 @@
-use Rattle.std.proofs.Common.{◌≡◌, drop}
-use Rattle.std.specs.List.{filter}
-use Rattle.commit_plan.specs.Splits.{is_large}
-use Rattle.commit_plan.proofs.splits.first_large.Given as goal
-
-abbrev pub invariant-loop-size : goal.invariant-loop-size
-invariant-loop-size l = filter is_large (drop l.size-index l.sizes) ≡ filter is_large l.sizes

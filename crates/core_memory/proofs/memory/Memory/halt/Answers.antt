@@ -1,6 +1,0 @@
-use Rattle.core_memory.proofs.Kept.{stopped-kept}
-use Rattle.core_memory.proofs.memory.Memory.halt.Goals as goal
-
-pub invariant_of-self : goal.invariant_of-self
-invariant_of-self c =
-    stopped-kept (record { volume = c.self.inside.volume; actors = c.self.inside.actors.items; turn = c.self.inside.turn }) c.self.invariant c.args.halt c.halt.new.self c.halt.ensures

@@ -1,6 +1,0 @@
-use Rattle.std.proofs.Common.{◌≡◌, replicate}
-use Rattle.core_memory.specs.Actors.{idle_actor}
-use Rattle.core_memory.proofs.opening.idle_actors.Given as goal
-
-abbrev pub invariant-loop : goal.invariant-loop
-invariant-loop l = l.actors.items ≡ replicate l.counter idle_actor

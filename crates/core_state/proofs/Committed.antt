@@ -1,0 +1,198 @@
+-- What is kept of a volume stays so where a commit is made, and so what is kept of its actors.
+use Rattle.std.proofs.Common.{◌≡◌, ℕ, ◌+◌, ◌<◌, Bool, true, false, cond, not, Option, Some, None, List, [], ◌∷◌, ◌++◌, length, refl, sym, ap, ◌∙◌, subst, ⊎_elim}
+use Rattle.std.specs.Prelude.{◌≢◌, ◌==◌, ◌||◌, IfSome, is_some, slice_index_or, slice_set, unwrap_or}
+use Rattle.std.proofs.lemmas.Bool.{cases_eq, true≢false}
+use Rattle.std.proofs.lemmas.List.{get_or-set_same, get_or-set_other, get_or_default, length-set, set-get_or}
+use Rattle.std.proofs.lemmas.Option.{same_Some}
+use Rattle.btree_map.specs.Trees.{Trees, keys_in}
+use Rattle.dirty_nodes.specs.Dirty.{AreMarked, changed_nodes, paths_of, with_pins}
+use Rattle.journal_writer.specs.Changes.{LeadTo, changes_of}
+use Rattle.journal_writer.specs.Queues.{AreFollowed, Queue, closes, follower_of, joined, oldest, waiting}
+use Rattle.journal_writer.specs.declared.changes.KeyChanges.{KeyChanges}
+use Rattle.node_writeback.specs.Durable.{undurable}
+use Rattle.vol_types.specs.KeyMaps.{KeyMap, with_updates}
+use Rattle.vol_types.specs.declared.keys.Update.{Update}
+use Rattle.vol_types.specs.declared.layout.Layout.{Layout}
+use Rattle.tree_nodes.specs.Levels.{Levels}
+use Rattle.core_state.specs.Actors.{committed, holds, idle_actor}
+use Rattle.core_state.specs.Commits.{AreIntended, IsCommitted}
+use Rattle.core_state.specs.Rulings.{IsRefused, entry_of}
+use Rattle.core_state.specs.States.{IsActor, IsState, State, actor_count, mine, other_holder, with_mine}
+use Rattle.core_state.specs.Events.{CommitGives, intended_by}
+use Rattle.core_state.specs.Uncommitted.{IsWhy, answer_of_why, noted_why}
+use Rattle.core_state.specs.declared.answer.Answer.{Answer}
+use Rattle.core_state.specs.declared.commit.Why.{Why}
+use Rattle.core_state.specs.declared.commit.Why.TheVariants.{NoMemory, Refused}
+use Rattle.core_state.specs.Volumes.{ArePinnedByRoots, IsVolume, Volume, changes_in, in_flight}
+use Rattle.core_state.specs.declared.actor.Actor.{Actor}
+use Rattle.core_state.proofs.HeldBack.{joined-held}
+use Rattle.core_state.proofs.Pinned.{PinRoots, roots-committed, work-committed}
+use Rattle.core_state.proofs.Kept.{free-no_looks, holder-given_back, no_looks-given}
+
+-- A queue has the same metadata devices after a commit.
+mirrors-joined : (changes : KeyChanges) (counted : Bool) (queue : Queue) → (joined changes counted queue).mirrors ≡ queue.mirrors
+mirrors-joined changes counted queue = by (closes changes.updates queue)
+  where
+    by : (b : Bool) → (cond b (record { mirrors = queue.mirrors; closed = queue.closed ++ queue.open_entry ∷ []; open_entry = follower_of queue.mirrors queue.open_entry }) queue).mirrors ≡ queue.mirrors
+    by true = refl
+    by false = refl
+
+-- Updates lead from the durable keys to the keys with them.
+abbrev pub LeadsOn : List Update → Bool → Volume → Type 0
+LeadsOn updates counted old =
+    (durable keys : KeyMap) → LeadTo (changes_in old.writer.flight ++ waiting old.queue) durable keys → LeadTo (changes_in old.writer.flight ++ waiting (joined (changes_of updates keys) counted old.queue)) durable (with_updates updates keys)
+
+-- The entry that is written next follows the same one as before.
+abbrev pub KeepsTurn : List Update → Bool → Volume → Type 0
+KeepsTurn updates counted old = (oldest (joined (changes_of updates (keys_in old.trees)) counted old.queue)).after ≡ (oldest old.queue).after
+
+-- A commit keeps a volume.
+pub committed-volume : (updates : List Update) (counted : Bool) (old new : Volume) → IsVolume old → IsCommitted updates counted old new
+    → AreMarked old.trees.nodes (with_pins (entry_of old updates) (changed_nodes old.trees.nodes updates) old.pins) (with_pins (entry_of old updates) (paths_of old.trees.nodes updates) old.marks)
+    → AreFollowed old.queue.mirrors old.queue.closed old.queue.open_entry → PinRoots old.trees.nodes updates (entry_of old updates) → KeepsTurn updates counted old → LeadsOn updates counted old → IsVolume new
+committed-volume updates counted old new is made marked followed pin turn leads =
+    subst IsVolume (sym made.rest) (record {
+      placed = is.placed;
+      mirrors = mirrors-joined (changes_of updates (keys_in old.trees)) counted old.queue ∙ is.mirrors;
+      devices = is.devices;
+      fixed = is.fixed;
+      ring = is.ring;
+      in_turn = record { flying = is.in_turn.flying; waiting_ones = turn ∙ is.in_turn.waiting_ones };
+      marked = subst (λ (nodes : List Levels). AreMarked nodes (with_pins (entry_of old updates) (changed_nodes old.trees.nodes updates) old.pins) (with_pins (entry_of old updates) (paths_of old.trees.nodes updates) old.marks)) (sym made.nodes) marked;
+      held_back = joined-held old.writer old.queue old.pins (changed_nodes old.trees.nodes updates) updates is.held_back is.in_turn followed (entry_of old updates) refl;
+      pinned = subst (λ (nodes : List Levels). ArePinnedByRoots nodes (undurable (in_flight old.writer.flight) (joined (changes_of updates (keys_in old.trees)) counted old.queue)) (with_pins (entry_of old updates) (changed_nodes old.trees.nodes updates) old.pins)) (sym made.nodes)
+          (roots-committed old updates counted (keys_in old.trees) pin is.pinned);
+      work = work-committed old updates counted (keys_in old.trees) pin new.trees made.nodes (with_pins (entry_of old updates) (paths_of old.trees.nodes updates) old.marks) is.work;
+      durable_keys = is.durable_keys;
+      are_keys = is.are_keys;
+      stand = is.stand;
+      lead = subst (λ (keys : KeyMap). LeadTo (changes_in old.writer.flight ++ waiting (joined (changes_of updates (keys_in old.trees)) counted old.queue)) is.durable_keys keys) (sym made.keys) (leads is.durable_keys (keys_in old.trees) is.lead);
+    })
+
+-- What a commit makes, part by part.
+pub made-told : (old : Volume) (updates : List Update) (counted : Bool) (trees : Trees) (queue : Queue) (pins marks later : List (ℕ × ℕ)) → keys_in trees ≡ with_updates updates (keys_in old.trees) → trees.nodes ≡ old.trees.nodes
+    → queue ≡ joined (changes_of updates (keys_in old.trees)) counted old.queue
+    → pins ≡ with_pins (entry_of old updates) (changed_nodes old.trees.nodes updates) old.pins → marks ≡ with_pins (entry_of old updates) (paths_of old.trees.nodes updates) old.marks
+    → later ≡ with_pins (entry_of old updates) (changed_nodes old.trees.nodes updates) old.later
+    → IsCommitted updates counted old (record old { trees = trees; queue = queue; pins = pins; marks = marks; later = later; changes = old.changes + 1 })
+made-told old updates counted trees queue pins marks later keys nodes joins pinned marks_are later_is = record {
+  keys = keys;
+  nodes = nodes;
+  rest = λ i. record old { trees = trees; queue = joins i; pins = pinned i; marks = marks_are i; later = later_is i; changes = old.changes + 1 };
+}
+
+module _ (old : Volume) (is : IsVolume old) (updates : List Update) (counted : Bool) (trees : Trees) (queue : Queue) (pins marks later : List (ℕ × ℕ)) where
+  -- What a commit makes, part by part, is kept.
+  pub made-kept : keys_in trees ≡ with_updates updates (keys_in old.trees) → trees.nodes ≡ old.trees.nodes
+      → queue ≡ joined (changes_of updates (keys_in old.trees)) counted old.queue
+      → pins ≡ with_pins (entry_of old updates) (changed_nodes old.trees.nodes updates) old.pins → marks ≡ with_pins (entry_of old updates) (paths_of old.trees.nodes updates) old.marks
+      → later ≡ with_pins (entry_of old updates) (changed_nodes old.trees.nodes updates) old.later
+      → AreMarked old.trees.nodes (with_pins (entry_of old updates) (changed_nodes old.trees.nodes updates) old.pins) (with_pins (entry_of old updates) (paths_of old.trees.nodes updates) old.marks)
+      → AreFollowed old.queue.mirrors old.queue.closed old.queue.open_entry → PinRoots old.trees.nodes updates (entry_of old updates) → KeepsTurn updates counted old → LeadsOn updates counted old
+      → IsVolume (record old { trees = trees; queue = queue; pins = pins; marks = marks; later = later; changes = old.changes + 1 })
+  made-kept keys nodes joins pinned marks_are later_is marked followed pin turn leads =
+      committed-volume updates counted old (record old { trees = trees; queue = queue; pins = pins; marks = marks; later = later; changes = old.changes + 1 }) is
+      (made-told old updates counted trees queue pins marks later keys nodes joins pinned marks_are later_is) marked followed pin turn leads
+
+-- What an actor has under way that has no transaction goes with any keys.
+free-actor : (volume : Volume) (turn : Option ℕ) (number : ℕ) (actor : Actor) → holds actor ≡ false → IfSome actor.intended (AreIntended volume.layout.metadata_replicas) → IsActor volume turn number actor
+free-actor volume turn number actor free intended = record {
+  has_turn = λ held. absurd (true≢false (sym held ∙ free));
+  looks = no_looks-given volume actor.looks (free-no_looks actor free);
+  intended = intended;
+}
+
+module _ (old : State) (is : IsState old) (actor : ℕ) (there : actor < actor_count) (held : holds (mine old actor) ≡ true) (volume : Volume) (layout : volume.layout ≡ old.volume.layout) where
+  -- The others have no transaction under way, since the actor has the turn.
+  others-free : (number : ℕ) → number ≢ actor → holds (mine old number) ≡ false
+  others-free number other = by (holds (mine old number)) refl
+    where
+      by : (b : Bool) → holds (mine old number) ≡ b → b ≡ false
+      by true holds_too = absurd (other (same_Some number actor (sym ((is.each number).has_turn holds_too) ∙ (is.each actor).has_turn held)))
+      by false free = refl
+
+  -- A commit of the actor that has the turn keeps what is kept of all actors.
+  pub committed-state : IsVolume volume → (changed : Actor) → holds changed ≡ false → changed.intended ≡ None → (turn : Option ℕ) → IfSome turn (λ holder. holder < actor_count)
+      → IsState (record { volume = volume; actors = slice_set old.actors actor changed; turn = turn })
+  committed-state sound changed free none turn holder = record {
+    volume = sound;
+    count = length-set old.actors actor changed ∙ is.count;
+    holder = holder;
+    each = λ number. ⊎_elim (λ same. here number same) (λ other. elsewhere number other) (cases_eq number actor);
+  }
+    where
+      after : ℕ → Actor
+      after number = mine (record { volume = volume; actors = slice_set old.actors actor changed; turn = turn }) number
+
+      here : (number : ℕ) → number ≡ actor → IsActor volume turn number (after number)
+      here number same =
+          subst (λ (n : ℕ). IsActor volume turn n (after n)) (sym same)
+          (subst (λ (a : Actor). IsActor volume turn actor a) (sym (get_or-set_same old.actors actor changed idle_actor (subst (λ (n : ℕ). actor < n) (sym is.count) there)))
+          (free-actor volume turn actor changed free (subst (λ (i : Option (List Update)). IfSome i (AreIntended volume.layout.metadata_replicas)) (sym none) tt)))
+
+      elsewhere : (number : ℕ) → number ≢ actor → IsActor volume turn number (after number)
+      elsewhere number other =
+          subst (λ (a : Actor). IsActor volume turn number a) (sym (get_or-set_other old.actors actor number changed idle_actor other))
+          (free-actor volume turn number (mine old number) (others-free number other)
+          (subst (λ (l : Layout). IfSome (mine old number).intended (AreIntended l.metadata_replicas)) (sym layout) (is.each number).intended))
+
+-- Who intends updates has a transaction under way.
+intends-holds : (actor : Actor) (updates : List Update) → actor.intended ≡ Some updates → holds actor ≡ true
+intends-holds actor updates intends =
+    let with_them : holds actor ≡ (actor.has_ids || true || not (length actor.looks == 0)) = ap (λ (i : Option (List Update)). actor.has_ids || is_some i || not (length actor.looks == 0)) intends in
+    with_them ∙ by actor.has_ids (not (length actor.looks == 0))
+  where
+    by : (ids looks : Bool) → (ids || true || looks) ≡ true
+    by true true = refl
+    by true false = refl
+    by false true = refl
+    by false false = refl
+
+-- After a commit no transaction is under way.
+committed-free : (counted : Bool) (actor : Actor) → (holds (committed counted actor) ≡ false) × ((committed counted actor).intended ≡ None)
+committed-free true actor = (refl, refl)
+committed-free false actor = (refl, refl)
+
+module _ (volume : Volume) (actors : List Actor) (turn : Option ℕ) (is : IsState (record { volume = volume; actors = actors; turn = turn })) (actor : ℕ) (there : actor < actor_count)
+    (index : ℕ) (at : index ≡ actor) (mine_now : Actor) (value : mine_now ≡ slice_index_or actors index mine_now) (updates : List Update) (intends : mine_now.intended ≡ Some updates) where
+  held : holds (mine (record { volume = volume; actors = actors; turn = turn }) actor) ≡ true
+  held =
+      ap holds (get_or_default actors actor idle_actor mine_now (subst (λ (n : ℕ). actor < n) (sym is.count) there) ∙ ap (λ (n : ℕ). slice_index_or actors n mine_now) (sym at) ∙ sym value)
+      ∙ intends-holds mine_now updates intends
+
+  -- What is kept of a volume and its actors stays so where one of them committed.
+  pub commit-kept : (new : Volume) → IsVolume new → new.layout ≡ volume.layout → (counted : Bool) (before after : Actor) → after ≡ committed counted before → (left : Option ℕ) → left ≡ other_holder actor turn
+      → IsState (record { volume = new; actors = slice_set actors index after; turn = left })
+  commit-kept new sound layout counted before after same left given =
+      subst (λ (n : ℕ). IsState (record { volume = new; actors = slice_set actors n after; turn = left })) (sym at)
+      (committed-state (record { volume = volume; actors = actors; turn = turn }) is actor there held new layout sound after
+      (ap holds same ∙ (committed-free counted before).0) (ap (λ (a : Actor). a.intended) same ∙ (committed-free counted before).1) left
+      (subst (λ (t : Option ℕ). IfSome t (λ holder. holder < actor_count)) (sym given) (holder-given_back actor turn is.holder)))
+
+  mine_was : mine (record { volume = volume; actors = actors; turn = turn }) actor ≡ mine_now
+  mine_was =
+      get_or_default actors actor idle_actor mine_now (subst (λ (n : ℕ). actor < n) (sym is.count) there) ∙ ap (λ (n : ℕ). slice_index_or actors n mine_now) (sym at) ∙ sym value
+
+  -- Updates that weren't committed are given back, and why is noted.
+  pub refused-gives : (counted : Bool) (why : Why) → IsWhy volume updates counted why → (new : Volume) → new ≡ volume → (back : List Update) → back ≡ updates
+      → (after : Actor) → after ≡ noted_why why (record mine_now { intended = Some back }) → (answer : Answer) → answer ≡ answer_of_why why
+      → CommitGives (record { volume = volume; actors = actors; turn = turn }) actor counted answer (record { volume = new; actors = slice_set actors index after; turn = turn })
+  refused-gives counted why cause new same back kept after noted answer answered =
+      subst (λ (a : Answer). CommitGives (record { volume = volume; actors = actors; turn = turn }) actor counted a (record { volume = new; actors = slice_set actors index after; turn = turn })) (sym answered)
+      (subst (λ (s : State). CommitGives (record { volume = volume; actors = actors; turn = turn }) actor counted (answer_of_why why) s) (sym new_is) (by why cause))
+    where
+      mine_back : record mine_now { intended = Some back } ≡ mine (record { volume = volume; actors = actors; turn = turn }) actor
+      mine_back =
+          ap (λ (us : List Update). record mine_now { intended = Some us }) kept ∙ ap (λ (o : Option (List Update)). record mine_now { intended = o }) (sym intends) ∙ sym mine_was
+
+      new_is : record { volume = new; actors = slice_set actors index after; turn = turn }
+          ≡ with_mine actor (noted_why why (mine (record { volume = volume; actors = actors; turn = turn }) actor)) (record { volume = volume; actors = actors; turn = turn })
+      new_is = λ i. record { volume = same i; actors = slice_set actors (at i) ((noted ∙ ap (noted_why why) mine_back) i); turn = turn }
+
+      intends_old : intended_by (record { volume = volume; actors = actors; turn = turn }) actor ≡ updates
+      intends_old = ap (λ (a : Actor). unwrap_or a.intended []) mine_was ∙ ap (λ (o : Option (List Update)). unwrap_or o []) intends
+
+      by : (w : Why) → IsWhy volume updates counted w
+          → CommitGives (record { volume = volume; actors = actors; turn = turn }) actor counted (answer_of_why w) (with_mine actor (noted_why w (mine (record { volume = volume; actors = actors; turn = turn }) actor)) (record { volume = volume; actors = actors; turn = turn }))
+      by (Refused refusal) why_is = (subst (λ (us : List Update). IsRefused volume us counted refusal) (sym intends_old) why_is, refl)
+      by NoMemory why_is = λ i. record { volume = volume; actors = set-get_or actors actor idle_actor i; turn = turn }

@@ -1,0 +1,68 @@
+-- Where the next block of a frozen node is written, or a device fails, what is kept of actors stays.
+use Rattle.std.proofs.Common.{rules, not, refl, ◌≡◌, ◌∙◌, None, ap, subst, sym}
+use Rattle.std.proofs.lemmas.Bool.{eq-eqb, true≢false}
+use Rattle.std.specs.Prelude.{◌==◌, ◌≢◌, IfSome}
+use Rattle.btree_map.specs.Trees.{keys_in}
+use Rattle.journal_writer.specs.declared.stage.Stage.TheVariants.{WriteSet}
+use Rattle.node_store.specs.Faults.{node_fault_device}
+use Rattle.node_store.specs.declared.fault.NodeFault.{NodeFault}
+use Rattle.node_writeback.specs.NodeWrites.{WritesNodePart}
+use Rattle.core_state.specs.Devices.{WritesNode}
+use Rattle.core_state.specs.States.{State}
+use Rattle.core_state.specs.Volumes.{Volume, node_stage_of}
+use Rattle.core_state.specs.declared.answer.Answer.TheVariants as answers
+use Rattle.core_state.proofs.InPlace.{block-told, fault-told, no_bad_node, no_want_of_memory, nodes-kept, some-left, write_set-told}
+use Rattle.core_state.proofs.memory.Memory.write_set.Goals as goal
+
+pub returns-then-ne-clause-gives : goal.returns-then-ne-clause-gives
+returns-then-ne-clause-gives g c =
+    let writes : c.args.self.now.volume.halted ≡ None = search rules in
+    let is : c.node_stage.result ≡ node_stage_of c.args.self.now.volume = c.node_stage.ensures ∙ ap (λ (s : State). node_stage_of s.volume) c.self.view_is in
+    let apart : c.node_stage.result ≢ WriteSet c.args.node = λ same.
+    let told : c.ne.result ≡ not (c.args.node == c.args.node) = rw same at c.ne.ensures in
+    true≢false (sym c.if-ne.true ∙ told ∙ ap not (eq-eqb c.args.node c.args.node refl)) in
+    write_set-told c.args.node (g.D.Devices.state c.args.devices.now).moment c.args.self.now c.tell_nodes.new.self c.args.actor c.tell_nodes.result (record { writes = writes; other = λ same. apart (is ∙ same) }) c.tell_nodes.ensures.told
+
+pub write_node-requires-clause-some : goal.write_node-requires-clause-some
+write_node-requires-clause-some g c =
+    let stage : c.node_stage.result ≡ WriteSet c.args.node = search rules in
+    some-left c.self.inside.volume c.args.node (sym c.node_stage.ensures ∙ stage)
+
+pub invariant_of-self : goal.invariant_of-self
+invariant_of-self g c =
+    nodes-kept (record { volume = c.self.inside.volume; actors = c.self.inside.actors.items; turn = c.self.inside.turn }) c.self.invariant c.write_node.new.self c.in-Ok.ensures.sound
+    (ap (λ (v : Volume). keys_in v.trees) c.in-Ok.ensures.ok) (ap (λ (v : Volume). v.layout) c.in-Ok.ensures.ok)
+
+pub invariant_of-self-in-Err-DeviceFault : goal.invariant_of-self-in-Err-DeviceFault
+invariant_of-self-in-Err-DeviceFault g c =
+    nodes-kept (record { volume = c.self.inside.volume; actors = c.self.inside.actors.items; turn = c.self.inside.turn }) c.self.invariant c.write_node.new.self c.in-Err-DeviceFault.ensures.sound
+    (ap (λ (v : Volume). keys_in v.trees) c.in-Err-DeviceFault.ensures.err) (ap (λ (v : Volume). v.layout) c.in-Err-DeviceFault.ensures.err)
+
+pub returns-in-Ok-clause-devices : goal.returns-in-Ok-clause-devices
+returns-in-Ok-clause-devices g c =
+    let stage : c.node_stage.result ≡ WriteSet c.args.node = search rules in
+    let some = some-left c.self.inside.volume c.args.node (sym c.node_stage.ensures ∙ stage) in
+    subst (λ (s : State). WritesNode g.D.Devices.tells s.volume.work.unfinished answers.Done (g.D.Devices.state c.args.devices.now) (g.D.Devices.state c.write_node.new.devices)) c.self.view_is
+    (block-told g.D.Devices.tells c.self.inside.volume.work.unfinished (g.D.Devices.state c.args.devices.now) (g.D.Devices.state c.write_node.new.devices) some c.in-Ok.ensures.writes)
+
+pub returns-in-Err-DeviceFault-clause-devices : goal.returns-in-Err-DeviceFault-clause-devices
+returns-in-Err-DeviceFault-clause-devices g c =
+    let stage : c.node_stage.result ≡ WriteSet c.args.node = search rules in
+    let some = some-left c.self.inside.volume c.args.node (sym c.node_stage.ensures ∙ stage) in
+    let old = g.D.Devices.state c.args.devices.now in
+    let new = g.D.Devices.state c.write_node.new.devices in
+    let writes = subst (λ (f : NodeFault). IfSome c.self.inside.volume.work.unfinished (λ node. WritesNodePart g.D.Devices.tells node.node.blocked node.written (node_fault_device f) old new)) c.in-Err-DeviceFault.field-0-is c.in-Err-DeviceFault.ensures.writes in
+    subst (λ (s : State). WritesNode g.D.Devices.tells s.volume.work.unfinished c.fail.result old new) c.self.view_is
+    (fault-told g.D.Devices.tells c.self.inside.volume.work.unfinished old new c.in-Err-DeviceFault.dev c.fail.result some c.fail.ensures.answer writes)
+
+pub unreachable-requires : goal.unreachable-requires
+unreachable-requires g c =
+    let stage : c.node_stage.result ≡ WriteSet c.args.node = search rules in
+    let some = some-left c.self.inside.volume c.args.node (sym c.node_stage.ensures ∙ stage) in
+    no_bad_node c.self.inside.volume.work.unfinished c.in-Err-BadNode.field-0 c.in-Err-BadNode.field-0-0 some c.in-Err-BadNode.ensures.named c.in-Err-BadNode.field-0-is
+
+pub unreachable-requires-in-Err-NoMemory : goal.unreachable-requires-in-Err-NoMemory
+unreachable-requires-in-Err-NoMemory g c =
+    let stage : c.node_stage.result ≡ WriteSet c.args.node = search rules in
+    let some = some-left c.self.inside.volume c.args.node (sym c.node_stage.ensures ∙ stage) in
+    no_want_of_memory c.self.inside.volume.work.unfinished c.in-Err-NoMemory.field-0 some c.in-Err-NoMemory.ensures.named c.in-Err-NoMemory.field-0-is

@@ -1,0 +1,139 @@
+-- An entry that names nine leaves may be put in flight.
+use Rattle.std.proofs.Common.{◌≡◌, ℕ, ◌*◌, ◌+◌, ◌<◌, ◌^◌, List, [], ◌∷◌, ◌++◌, length, map, take, drop, None, Some, Ok, sym, ap, subst, ◌∙◌}
+use Rattle.std.proofs.lemmas.List.{append-nil, take-append-drop}
+use Rattle.std.proofs.lemmas.List.Elements.{All-append, All-contains, All-from_recursion, All-map}
+use Rattle.std.proofs.lemmas.Option.{same_Some}
+use Rattle.std.specs.List.{flat_map}
+use Rattle.std.specs.Prelude.{All, slice_get}
+use Rattle.dev_model.specs.Devices.{DevicesState, now}
+use Rattle.dev_model.specs.Disk.{Image, as_read, block_at}
+use Rattle.image_view.specs.Bases.{AgreeOnNode}
+use Rattle.image_view.specs.EntryUpdates.{updates_of-append}
+use Rattle.image_view.specs.Found.{Found, IsAlike, IsMirrored, sets_in, updates_of}
+use Rattle.image_view.specs.NewNodes.{AreLeafRoots, AreNodesInOrder, leaf_trees, root_end}
+use Rattle.image_view.specs.NextEntries.{IsNext}
+use Rattle.image_view.specs.Trees.{TreesRead, trees_of, with_roots}
+use Rattle.image_view.specs.UpdatedTrees.{IsOfLeaf, with_key_updates}
+use Rattle.journal_ring.specs.EntryBlocks.{AreEntryBlocks}
+use Rattle.journal_ring.specs.declared.found.FoundEntry.{FoundEntry}
+use Rattle.crash_safety.specs.NodeWritings.{AreNodesLeft, IsSafeWithNodes, IsWritingWithNodes}
+use Rattle.crash_safety.specs.Writings.{Writing, after}
+use Rattle.key_meaning.specs.Checks.{AreNodesPlaced}
+use Rattle.node_store.specs.Answers.{AreAlike}
+use Rattle.node_store.specs.Copies.{copies_at}
+use Rattle.node_store.specs.NodeContents.{NodeContent}
+use Rattle.vol_types.specs.Btrees.{btree_code}
+use Rattle.vol_types.specs.KeyMapLaws.{same_key_maps, with_updates-append}
+use Rattle.vol_types.specs.KeyMaps.{KeyMap, entries_of, with_updates}
+use Rattle.vol_types.specs.declared.keys.Update.{Update}
+use Rattle.vol_types.specs.declared.layout.Layout.{Layout}
+use Rattle.vol_types.specs.declared.pointers.NodeEnd.{NodeEnd}
+use Rattle.vol_types.specs.declared.pointers.NodePtr.{NodePtr}
+use Rattle.vol_types.specs.declared.positions.Btree.{Btree}
+use Rattle.crash_safety.specs.Leaves.{StandAsLeaves, leaf_keys, leaf_nodes}
+use Rattle.crash_safety.specs.Naming.{leaf_writing}
+use Rattle.crash_safety.proofs.NineRoots.{all_right, each_pair, each_root, root_nodes}
+
+-- What is known of trees of leaves, and of journals.
+pub record LeafTreeLaws : Type 0 where
+  pub leaves : (layout : Layout) (image : Image) (roots : List NodePtr) (content : Btree → NodeContent) → AreLeafRoots (sets_in layout image) roots content → trees_of (sets_in layout image) [] roots ≡ Ok (leaf_trees roots content)
+  pub joined : (layout : Layout) (image : Image) (updates more : List Update) (roots : List NodePtr) (read : TreesRead) → trees_of (sets_in layout image) updates roots ≡ Ok read → length roots ≡ 9 → All IsOfLeaf more
+      → trees_of (sets_in layout image) (updates ++ more) roots ≡ Ok (with_key_updates more read)
+
+pub record JournalLaws : Type 0 where
+  pub again : (f : Found) (image : Image) (bases : List Found) (durable : List ℕ) (first : ℕ) (state : DevicesState) → IsSafeWithNodes f image None 0 0 bases durable first state → IsSafeWithNodes f (as_read (now state)) None 0 0 bases durable first state
+  pub seals : (f : Found) (image : Image) (bases : List Found) (durable : List ℕ) (first : ℕ) (state : DevicesState) (w : Writing) → IsSafeWithNodes f image None 0 0 bases durable first state → IsWritingWithNodes f image w → AreNodesLeft f image (Some w) state
+      → IsSafeWithNodes f image (Some w) 0 0 (bases ++ after w f ∷ []) durable first state
+
+-- Roots that stand as leaves are leaves of what is read.
+pub leaf_roots : (layout : Layout) (session : ℕ) (roots : List NodePtr) (content : Btree → NodeContent) (state : DevicesState) → StandAsLeaves layout session roots content state → AreLeafRoots (sets_in layout (as_read (now state))) roots content
+leaf_roots layout session roots content state stand = record {
+  nine = stand.nine;
+  leaves = each_root (λ (root : NodePtr). root.level ≡ 0) roots stand.nine (λ btree root at. (stand.each btree root at).leaf);
+  each = λ btree root at. (stand.each btree root at).reads;
+  births = stand.births;
+}
+
+-- the updates of the entries that are still needed, and of the next one
+next_updates : (passed : ℕ) (needed : List FoundEntry) (next : FoundEntry) → updates_of (drop passed needed ++ next ∷ []) ≡ updates_of (drop passed needed) ++ next.entry.updates
+next_updates passed needed next = updates_of-append (drop passed needed) (next ∷ []) ∙ ap (λ (us : List Update). updates_of (drop passed needed) ++ us) (append-nil next.entry.updates)
+
+-- They are of leaves.
+next_of_leaves : (passed : ℕ) (needed : List FoundEntry) (next : FoundEntry) → All IsOfLeaf (updates_of needed) → All IsOfLeaf next.entry.updates → All IsOfLeaf (updates_of (drop passed needed ++ next ∷ []))
+next_of_leaves passed needed next leaves more =
+    let split : updates_of needed ≡ updates_of (take passed needed) ++ updates_of (drop passed needed) = ap updates_of (sym (take-append-drop passed needed)) ∙ updates_of-append (take passed needed) (drop passed needed) in
+    subst (All IsOfLeaf) (sym (next_updates passed needed next))
+    (All-append IsOfLeaf (updates_of (drop passed needed)) next.entry.updates (all_right IsOfLeaf (updates_of (take passed needed)) (updates_of (drop passed needed)) (subst (All IsOfLeaf) split leaves)) more)
+
+module _ (f : Found) (state : DevicesState) (roots : List NodePtr) (content : Btree → NodeContent) (passed : ℕ) (next : FoundEntry) (blocks : List (List ℕ)) (stand : StandAsLeaves f.layout f.session roots content state) where
+  abbrev image : Image
+  image = as_read (now state)
+
+  abbrev w : Writing
+  w = leaf_writing f roots content passed next blocks
+
+  -- The trees of the entry are the leaves with its updates.
+  trees_are : LeafTreeLaws → next.entry.roots ≡ roots → All IsOfLeaf (updates_of f.needed) → All IsOfLeaf next.entry.updates
+      → ((btree : Btree) → entries_of (with_updates (updates_of (drop passed f.needed)) (leaf_keys content)) btree ≡ entries_of f.trees.keys btree)
+      → trees_of (sets_in f.layout image) (updates_of (drop passed f.needed ++ next ∷ [])) next.entry.roots ≡ Ok w.trees
+  trees_are laws named leaves more same =
+      let updates : List Update = updates_of (drop passed f.needed ++ next ∷ []) in
+      let keys : with_updates updates (leaf_keys content) ≡ with_updates next.entry.updates f.trees.keys =
+      ap (λ (us : List Update). with_updates us (leaf_keys content)) (next_updates passed f.needed next)
+      ∙ with_updates-append (updates_of (drop passed f.needed)) next.entry.updates (leaf_keys content)
+      ∙ ap (with_updates next.entry.updates) (same_key_maps (with_updates (updates_of (drop passed f.needed)) (leaf_keys content)) f.trees.keys same) in
+      ap (trees_of (sets_in f.layout image) updates) named
+      ∙ laws.joined f.layout image [] updates roots (leaf_trees roots content) (laws.leaves f.layout image roots content (leaf_roots f.layout f.session roots content state stand)) stand.nine (next_of_leaves passed f.needed next leaves more)
+      ∙ ap (λ (ks : KeyMap). Ok (record { keys = ks; nodes = leaf_nodes roots; ends = map (root_end content) (with_roots roots) })) keys
+
+  -- The copies of each root are alike up to the end of its sets.
+  alike_up_to : (root : NodePtr) (place : ℕ) → slice_get roots place ≡ Some root → IsAlike (after w f) image root
+  alike_up_to root place at end is_end birth = All-contains (λ (e : NodeEnd). e.birth ≡ root.birth → AreAlike e.block (copies_at (block_at image) root.places)) (map (root_end content) (with_roots roots)) end
+      (All-map (λ (e : NodeEnd). e.birth ≡ root.birth → AreAlike e.block (copies_at (block_at image) root.places)) (root_end content) (with_roots roots)
+      (All-from_recursion (λ (pair : Btree × NodePtr). pair.1.birth ≡ root.birth → AreAlike (content pair.0).end (copies_at (block_at image) root.places)) (with_roots roots)
+      (each_pair (λ (pair : Btree × NodePtr). pair.1.birth ≡ root.birth → AreAlike (content pair.0).end (copies_at (block_at image) root.places)) roots stand.nine
+      (λ btree other there born.
+      let same : btree_code btree ≡ place = stand.births (btree_code btree) place other root there at born in
+      let one : other ≡ root = same_Some other root (sym there ∙ ap (slice_get roots) same ∙ at) in
+      subst (λ (r : NodePtr). AreAlike (content btree).end (copies_at (block_at image) r.places)) one (stand.each btree other there).alike))))
+      is_end birth
+
+  in_order : AreNodesInOrder (after w f) image
+  in_order = record {
+    places = subst (All (IsMirrored f.layout)) (sym (root_nodes roots)) (each_root (IsMirrored f.layout) roots stand.nine (λ btree root at. (stand.each btree root at).mirrored));
+    copies = subst (All (IsAlike (after w f) image)) (sym (root_nodes roots)) (each_root (IsAlike (after w f) image) roots stand.nine (λ btree root at. alike_up_to root (btree_code btree) at));
+    births = subst (All (λ (root : NodePtr). root.birth < (f.session + 1) * 2 ^ 32)) (sym (root_nodes roots))
+        (each_root (λ (root : NodePtr). root.birth < (f.session + 1) * 2 ^ 32) roots stand.nine (λ btree root at. (stand.each btree root at).born));
+  }
+
+  pub writing_is : LeafTreeLaws → IsNext f passed next → AreEntryBlocks f.layout.id next.number next.entry blocks → next.entry.roots ≡ roots → All IsOfLeaf (updates_of f.needed) → All IsOfLeaf next.entry.updates
+      → ((btree : Btree) → entries_of (with_updates (updates_of (drop passed f.needed)) (leaf_keys content)) btree ≡ entries_of f.trees.keys btree) → IsWritingWithNodes f image w
+  writing_is laws is sealed named leaves more same = record {
+    next = is;
+    sealed = sealed;
+    trees = trees_are laws named leaves more same;
+    in_order = in_order;
+    placed = subst (λ (ns : List NodePtr). AreNodesPlaced (flat_map (λ (root : NodePtr). root.places) ns) f.layout) (sym (root_nodes roots)) stand.apart;
+  }
+
+  -- A crash leaves them.
+  pub roots_left : (bases : List Found) (durable : List ℕ) (first : ℕ) → IsSafeWithNodes f image None 0 0 bases durable first state → AreNodesLeft f image (Some w) state
+  roots_left bases durable first safe other may =
+      let base = (safe.stands.crashes other may).base in
+      record {
+        lengths = base.lengths;
+        first_copies = base.first_copies;
+        second_copies = base.second_copies;
+        nodes = subst (All (AgreeOnNode image other)) (sym (root_nodes roots)) (each_root (AgreeOnNode image other) roots stand.nine (λ btree root at. (stand.each btree root at).left other may));
+      }
+
+-- So the entry is put in flight.
+pub roots_named : LeafTreeLaws → JournalLaws → (f : Found) (image : Image) (bases : List Found) (durable : List ℕ) (first : ℕ) (state : DevicesState) (roots : List NodePtr) (content : Btree → NodeContent) (passed : ℕ) (next : FoundEntry) (blocks : List (List ℕ))
+    → IsSafeWithNodes f image None 0 0 bases durable first state → StandAsLeaves f.layout f.session roots content state → IsNext f passed next → AreEntryBlocks f.layout.id next.number next.entry blocks → next.entry.roots ≡ roots
+    → All IsOfLeaf (updates_of f.needed) → All IsOfLeaf next.entry.updates → ((btree : Btree) → entries_of (with_updates (updates_of (drop passed f.needed)) (leaf_keys content)) btree ≡ entries_of f.trees.keys btree)
+    → IsSafeWithNodes f (as_read (now state)) (Some (leaf_writing f roots content passed next blocks)) 0 0 (bases ++ after (leaf_writing f roots content passed next blocks) f ∷ []) durable first state
+roots_named trees journals f image bases durable first state roots content passed next blocks safe stand is sealed named leaves more same =
+    let here = journals.again f image bases durable first state safe in
+    journals.seals f (as_read (now state)) bases durable first state (leaf_writing f roots content passed next blocks) here
+    (writing_is f state roots content passed next blocks stand trees is sealed named leaves more same)
+    (roots_left f state roots content passed next blocks stand bases durable first here)

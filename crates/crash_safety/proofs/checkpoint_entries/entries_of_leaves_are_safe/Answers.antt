@@ -1,0 +1,37 @@
+use Rattle.crash_safety.proofs.CalledLeaves.{flush_kept, part_kept, read_kept}
+use Rattle.crash_safety.proofs.FoundLeaves.{found_kept}
+use Rattle.crash_safety.proofs.NamedLeaves.{sealed_kept}
+use Rattle.crash_safety.proofs.PinnedMore.{pinned_more}
+use Rattle.crash_safety.proofs.SameLeaves.{same_kept}
+use Rattle.crash_safety.proofs.SettledLeaves.{settled_kept}
+use Rattle.crash_safety.proofs.checkpoint_entries.entries_of_leaves_are_safe.Goals as goal
+
+pub returns-clause-begins : goal.returns-clause-begins
+returns-clause-begins c f state l mended leaves below roots none layout fixed hold may pins =
+    found_kept f state l (c.found_roots_are_leaves.ensures f state mended leaves below) roots c.nodes_hold_keys_up_to_an_entry.ensures.begins none layout fixed hold may pins
+
+pub returns-clause-same : goal.returns-clause-same
+returns-clause-same c = same_kept
+
+pub returns-clause-pins : goal.returns-clause-pins
+returns-clause-pins c = pinned_more c.nodes_hold_keys_up_to_an_entry.ensures.pins
+
+pub returns-clause-seals : goal.returns-clause-seals
+returns-clause-seals c = sealed_kept c.nodes_hold_keys_up_to_an_entry.ensures.lacks c.leaf_roots_are_named.ensures
+
+pub returns-clause-parts : goal.returns-clause-parts
+returns-clause-parts c = part_kept (record { leaves = c.leaves_stand.ensures.entry_parts; parts = c.node_parts_stand.ensures.entry_parts })
+
+pub returns-clause-flushes : goal.returns-clause-flushes
+returns-clause-flushes c = flush_kept (record { leaves = c.leaves_stand.ensures.flushes; parts = c.node_parts_stand.ensures.flushes })
+
+pub returns-clause-reads : goal.returns-clause-reads
+returns-clause-reads c = read_kept (record { leaves = c.leaves_stand.ensures.reads; parts = c.node_parts_stand.ensures.reads })
+
+pub returns-clause-settles : goal.returns-clause-settles
+returns-clause-settles c = settled_kept (record {
+  shifts = c.nodes_hold_keys_up_to_an_entry.ensures.shifts;
+  keys = c.nodes_hold_keys_up_to_an_entry.ensures.shifted_keys;
+  map = c.nodes_hold_keys_up_to_an_entry.ensures.shifted_map;
+  space = c.nodes_keep_their_buckets.ensures.settled;
+})

@@ -1,5 +1,0 @@
-use Rattle.std.proofs.Common.{◌≡◌, take}
-use Rattle.device_rows.proofs.layouts.sizes_of.Given as goal
-
-abbrev pub invariant-loop-dev : goal.invariant-loop-dev
-invariant-loop-dev g l = l.sizes.items ≡ take l.dev (g.D.Devices.state l.devices).sizes

@@ -1,5 +1,0 @@
-use Rattle.entry_queue.proofs.Joining.{commits-joined, last_block-joined, mirrors-joined, oldest-joined, queue-joined}
-use Rattle.entry_queue.proofs.laws.commits_leave_queues.Goals as goal
-
-pub returns : goal.returns
-returns c = record { sound = queue-joined; mirrors = mirrors-joined; commits = commits-joined; oldest = oldest-joined; last = last_block-joined }

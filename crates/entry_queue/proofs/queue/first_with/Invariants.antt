@@ -1,6 +1,0 @@
-use Rattle.std.proofs.Common.{◌≡◌, drop}
-use Rattle.entry_queue.specs.Queues.{first_with}
-use Rattle.entry_queue.proofs.queue.first_with.Given as goal
-
-abbrev pub invariant-loop-entry : goal.invariant-loop-entry
-invariant-loop-entry l = first_with l.btree (drop l.entry-index l.entries) ≡ first_with l.btree l.entries

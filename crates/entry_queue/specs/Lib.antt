@@ -1,4 +1,0 @@
-pub mod Changes
-pub mod ChangeLaws
-pub mod Queues
-pub mod FirstLaws

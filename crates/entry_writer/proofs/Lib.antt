@@ -1,3 +1,0 @@
-pub mod SetFlags
-pub mod Entries
-pub mod Kept

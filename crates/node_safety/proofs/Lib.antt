@@ -1,9 +1,0 @@
-pub mod OtherBuckets
-pub mod Flushed
-pub mod Mirrored
-pub mod WrittenParts
-pub mod ElsewhereParts
-pub mod NineRoots
-pub mod NamedRoots
-pub mod LeafReads
-pub mod FoundRoots

@@ -1,5 +1,0 @@
-use Rattle.node_safety.proofs.ElsewhereParts.{part_elsewhere}
-use Rattle.node_safety.proofs.safety.node_parts_are_written_safely.Goals as goal
-
-pub returns : goal.returns
-returns c = part_elsewhere c.entries_with_new_nodes_are_written_safely.ensures.elsewhere

@@ -1,4 +1,0 @@
-pub mod Leaves
-pub mod NodeParts
-pub mod Naming
-pub mod LeafLaws

@@ -1,4 +1,0 @@
-pub mod Due
-pub mod Durable
-pub mod Freezing
-pub mod Placing

@@ -1,2 +1,0 @@
-pub mod NodeWork
-pub mod NodeWrites

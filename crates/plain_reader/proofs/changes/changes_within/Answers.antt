@@ -1,9 +1,0 @@
-use Rattle.std.proofs.Common.{◌∙◌, rules}
-use Rattle.plain_reader.proofs.Ranges.{between-within, crossed-within}
-use Rattle.plain_reader.proofs.changes.changes_within.Goals as goal
-
-pub returns-then-gt : goal.returns-then-gt
-returns-then-gt c = c.range.ensures.between tt ∙ crossed-within c.args.least.now c.args.greatest.now c.args.changes.now.entries (search rules)
-
-pub returns : goal.returns
-returns c = c.range-2.ensures.between tt ∙ between-within c.args.least.now c.args.greatest.now c.args.changes.now.entries

@@ -1,5 +1,0 @@
-use Rattle.plain_reader.proofs.Making.{IsMaking}
-use Rattle.plain_reader.proofs.changes.with_changes.Given as goal
-
-abbrev pub invariant-loop-pos : goal.invariant-loop-pos
-invariant-loop-pos l = IsMaking l.fn.node l.changes.entries l.node l.pos-iterator

@@ -1,5 +1,0 @@
-use Rattle.std.proofs.Common.{◌≡◌, ◌++◌}
-use Rattle.plain_reader.proofs.nodes.entries_of.Given as goal
-
-abbrev pub invariant-loop-pos : goal.invariant-loop-pos
-invariant-loop-pos l = l.entries ++ l.pos-iterator ≡ l.node.entries

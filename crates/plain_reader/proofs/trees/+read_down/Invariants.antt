@@ -1,4 +1,0 @@
-use Rattle.plain_reader.proofs.trees.«+read_down».Given as goal
-
-abbrev pub decreases-read_down : goal.decreases-read_down
-decreases-read_down g l = l.level

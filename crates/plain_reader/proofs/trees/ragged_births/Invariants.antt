@@ -1,6 +1,0 @@
-use Rattle.std.proofs.Common.{◌≡◌, ◌++◌, drop}
-use Rattle.plain_reader.specs.Nodes.{ragged_births}
-use Rattle.plain_reader.proofs.trees.ragged_births.Given as goal
-
-abbrev pub invariant-loop-node : goal.invariant-loop-node
-invariant-loop-node l = l.births ++ ragged_births (drop l.node-index l.nodes) ≡ ragged_births l.nodes

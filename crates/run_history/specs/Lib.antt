@@ -1,4 +1,0 @@
-pub mod Acknowledged
-pub mod Failures
-pub mod Fits
-pub mod FitLaws

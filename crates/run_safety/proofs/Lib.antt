@@ -1,6 +1,0 @@
-pub mod BegunWell
-pub mod Untorn
-pub mod Unacknowledged
-pub mod FoundAgain
-pub mod SafeRuns
-pub mod FreshRuns

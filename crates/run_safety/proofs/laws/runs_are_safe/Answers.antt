@@ -1,6 +1,0 @@
-use Rattle.run_safety.proofs.BegunWell.{begins_well}
-use Rattle.run_safety.proofs.SafeRuns.{opening_is_safe, runs_are_safe}
-use Rattle.run_safety.proofs.laws.runs_are_safe.Goals as goal
-
-pub returns : goal.returns
-returns c = record { begins = begins_well; session = runs_are_safe; opening = opening_is_safe }

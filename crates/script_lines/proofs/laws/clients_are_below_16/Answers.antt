@@ -1,5 +1,0 @@
-use Rattle.script_lines.proofs.OneScript.{clients_below}
-use Rattle.script_lines.proofs.laws.clients_are_below_16.Goals as goal
-
-pub returns : goal.returns
-returns c = clients_below

@@ -1,5 +1,0 @@
-use Rattle.script_lines.proofs.OneScript.{one_script_of}
-use Rattle.script_lines.proofs.laws.one_script.Goals as goal
-
-pub returns : goal.returns
-returns c = one_script_of

@@ -1,9 +1,0 @@
-use Rattle.std.proofs.Common.{length}
-use Rattle.script_lines.proofs.OneScript.{IsReadTo}
-use Rattle.script_lines.proofs.reading.read_script.Given as goal
-
-abbrev pub invariant-loop-rest : goal.invariant-loop-rest
-invariant-loop-rest l = IsReadTo l.text l.rest l.number l.script
-
-abbrev pub decreases-loop-rest : goal.decreases-loop-rest
-decreases-loop-rest l = length l.rest

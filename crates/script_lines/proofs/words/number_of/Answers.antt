@@ -1,5 +1,0 @@
-use Rattle.script_lines.proofs.Numbers.{numbers_are_text}
-use Rattle.script_lines.proofs.words.number_of.Goals as goal
-
-pub returns-in-Err-clause-none : goal.returns-in-Err-clause-none
-returns-in-Err-clause-none c = λ number. numbers_are_text c.args.word.now number c.in-Err.ensures.cases.0

@@ -1,0 +1,9 @@
+use Rattle.std.proofs.Common.{length}
+use Rattle.script_text.proofs.OneScript.{IsReadTo}
+use Rattle.script_text.proofs.reading.read_script.Given as goal
+
+abbrev pub invariant-loop-rest : goal.invariant-loop-rest
+invariant-loop-rest l = IsReadTo l.text l.rest l.number l.script
+
+abbrev pub decreases-loop-rest : goal.decreases-loop-rest
+decreases-loop-rest l = length l.rest

@@ -1,0 +1,9 @@
+use Rattle.vol_session.specs.Left.{works_left}
+use Rattle.vol_session.specs.Rounds.{GoesWell}
+use Rattle.vol_session.proofs.writeback.checkpoint.Given as goal
+
+abbrev pub invariant-loop-stage : goal.invariant-loop-stage
+invariant-loop-stage g l = GoesWell g.D.Devices.state l.initial.session l.session
+
+abbrev pub decreases-loop-stage : goal.decreases-loop-stage
+decreases-loop-stage g l = works_left l.session.core.memory.volume

@@ -1,0 +1,59 @@
+ghost use Rattle.std.specs.Prelude.{◌≡◌, ◌<◌, IfErr, IfSome, None, OnOk, length, true};
+ghost use Rattle.core_state.specs.Volumes.{are_durable};
+ghost use Rattle.dev_model.specs.Frames.{GoOn, after_writes};
+ghost use Rattle.vol_core.specs.Rested.{IsRested};
+ghost use Rattle.vol_session.specs.Writeback.{IsWorked, MayStopSync, StopsWith, stopped_by};
+
+use crate::Stop;
+use crate::rounds::{ask, is_synced, make, next_stage};
+use dev_model::Devices;
+use vol_core::{Opening, Stage, Work};
+use crate::Session;
+
+/// Makes all commits durable: entries are written and flushed until they are. It costs what is written, and a flush of each device that has something
+/// unsettled. Where client 0 has no operation and all commits are durable already, no device is called, also where the session has stopped writing.
+/// Where it has one, entries are written until the journal rests. It doesn't end for lack of buckets.
+pub fn sync_all<D: Devices, O: Opening>(session: &mut Session<D, O>) -> Result<(), Stop>
+    ensures worked { IsWorked session.old session.new }
+    ensures durable { OnOk result (are_durable None session.new.core.memory.volume ≡ true) }
+    ensures stops { StopsWith result (D.state session.old.core.devices).moment
+        (D.state session.new.core.devices).moment session.old.core.memory.volume
+        session.new.core.memory.volume }
+    ensures journal { IfErr result MayStopSync }
+    ensures cause { (D.state session.new.core.devices).faults ≡ after_writes (stopped_by result)
+        (D.state session.old.core.devices).faults }
+    ensures device { IfSome (stopped_by result)
+        (λ dev. dev < length (D.state session.old.core.devices).sizes) }
+    ensures goes_on { GoOn (D.state session.old.core.devices) (D.state session.new.core.devices) }
+{
+    loop {
+        let (stage, durable) = ask(session, Work::Journal);
+        if is_synced(session, stage, durable) {
+            return Ok(());
+        }
+        make(session, stage)?;
+    }
+}
+
+/// Makes a checkpoint: entries are written until the journal rests, each leaf that pins one is written anew and put in place, and so on until both rest.
+/// It costs what the dirty leaves hold, and some flushes.
+pub fn checkpoint<D: Devices, O: Opening>(session: &mut Session<D, O>) -> Result<(), Stop>
+    ensures worked { IsWorked session.old session.new }
+    ensures rested { OnOk result (IsRested session.new.core.memory.volume) }
+    ensures stops { StopsWith result (D.state session.old.core.devices).moment
+        (D.state session.new.core.devices).moment session.old.core.memory.volume
+        session.new.core.memory.volume }
+    ensures cause { (D.state session.new.core.devices).faults ≡ after_writes (stopped_by result)
+        (D.state session.old.core.devices).faults }
+    ensures device { IfSome (stopped_by result)
+        (λ dev. dev < length (D.state session.old.core.devices).sizes) }
+    ensures goes_on { GoOn (D.state session.old.core.devices) (D.state session.new.core.devices) }
+{
+    loop {
+        let stage = next_stage(session);
+        if stage == Stage::Rest {
+            return Ok(());
+        }
+        make(session, stage)?;
+    }
+}

@@ -1,9 +1,0 @@
-use Rattle.vol_works.specs.Left.{works_left}
-use Rattle.vol_works.specs.Rounds.{GoesWell}
-use Rattle.vol_works.proofs.works.checkpoint.Given as goal
-
-abbrev pub invariant-loop-stage : goal.invariant-loop-stage
-invariant-loop-stage g l = GoesWell g.D.Devices.state l.initial.session l.session
-
-abbrev pub decreases-loop-stage : goal.decreases-loop-stage
-decreases-loop-stage g l = works_left l.session.core.memory.volume
