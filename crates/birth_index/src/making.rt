@@ -16,7 +16,7 @@ use tree_nodes::{LevelNodes, TreeNodes};
 use vol_types::Btree;
 
 /// Why nodes have no index of their births.
-#[derive(Clone, Copy, Debug, PartialEq, Eq)]
+#[derive(Clone, Copy, PartialEq, Eq)]
 pub enum IndexFault {
     /// Two nodes have this birth.
     SameBirth { birth: u64 },

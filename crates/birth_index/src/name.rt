@@ -1,7 +1,7 @@
 use vol_types::{Btree, NodePtr, Pos};
 
 /// Which node of which btree: its level, and the greatest position that it covers.
-#[derive(Clone, Copy, Debug, PartialEq, Eq)]
+#[derive(Clone, Copy, PartialEq, Eq)]
 pub struct NodeName {
     pub btree: Btree,
     pub level: u8,
@@ -9,14 +9,14 @@ pub struct NodeName {
 }
 
 /// A birth, with the name of the node that has it.
-#[derive(Clone, Copy, Debug, PartialEq, Eq)]
+#[derive(Clone, Copy, PartialEq, Eq)]
 pub struct Named {
     pub birth: u64,
     pub name: NodeName,
 }
 
 /// A node, by its name, and a pointer to put in the place of the one that it has. Once it was put, the one that it had.
-#[derive(Debug, PartialEq, Eq, Drop)]
+#[derive(PartialEq, Eq, Drop)]
 pub struct Exchange {
     pub name: NodeName,
     pub pointer: NodePtr,

@@ -17,7 +17,7 @@ use tree_nodes::{LevelNodes, TreeNodes, changes_leave_trees};
 use vol_types::{Btree, Listing, Pos};
 
 /// Why keys and nodes make no key map.
-#[derive(Clone, Copy, Debug, PartialEq, Eq)]
+#[derive(Clone, Copy, PartialEq, Eq)]
 pub enum NotAKeyMap {
     /// They aren't those of nine btrees.
     NotBtrees,

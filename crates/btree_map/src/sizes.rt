@@ -12,7 +12,7 @@ use tree_keys::LeafSize;
 use vol_types::{Btree, Listing, Pos, Update, Value};
 
 /// The birth of a node, and how many bytes it takes on disk as one set, or 2^32 - 1 where they are more.
-#[derive(Clone, Copy, Debug, PartialEq, Eq)]
+#[derive(Clone, Copy, PartialEq, Eq)]
 pub struct NodeSize {
     pub birth: u64,
     pub size: u32,

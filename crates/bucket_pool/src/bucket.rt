@@ -7,7 +7,7 @@ ghost use Rattle.bucket_pool.specs.Space.{run_of, as_node};
 use vol_types::{BUCKET_BLOCKS, Place};
 
 /// A block of an open bucket.
-#[derive(Clone, Copy, Debug, PartialEq, Eq)]
+#[derive(Clone, Copy, PartialEq, Eq)]
 pub enum Slot {
     /// It may be reserved.
     Empty,
@@ -20,7 +20,7 @@ pub enum Slot {
 }
 
 /// A bucket that is open for an actor.
-#[derive(Clone, Copy, Debug, PartialEq, Eq)]
+#[derive(Clone, Copy, PartialEq, Eq)]
 pub struct OpenBucket {
     pub actor: u8,
     /// Whether the actor reserves in it; else it is open for blocks that are reserved still.
@@ -31,7 +31,7 @@ pub struct OpenBucket {
 }
 
 /// What a bucket is used for.
-#[derive(Clone, Copy, Debug, PartialEq, Eq)]
+#[derive(Clone, Copy, PartialEq, Eq)]
 pub enum State {
     /// The superblocks and the sessions.
     Super,
@@ -50,14 +50,14 @@ pub enum State {
 }
 
 /// A bucket: how often it was given anew, and its state.
-#[derive(Clone, Copy, Debug, PartialEq, Eq)]
+#[derive(Clone, Copy, PartialEq, Eq)]
 pub struct Bucket {
     pub generation: u32,
     pub state: State,
 }
 
 /// Blocks in a row: the first one, and how many.
-#[derive(Clone, Copy, Debug, PartialEq, Eq)]
+#[derive(Clone, Copy, PartialEq, Eq)]
 pub struct Run {
     pub place: Place,
     pub blocks: u8,

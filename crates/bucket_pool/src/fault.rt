@@ -2,7 +2,7 @@ use std::alloc::{AllocError, AllocFailed};
 use vol_types::Short;
 
 /// Why there was no place.
-#[derive(Debug, Drop)]
+#[derive(Drop)]
 pub enum PoolFault {
     /// Fewer devices have space than were asked for.
     NoSpace(Short),

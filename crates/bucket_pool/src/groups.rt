@@ -10,14 +10,14 @@ use std::alloc::{AllocError, Global};
 pub const GROUP: usize = 256;
 
 /// How many buckets of a group are free, and how many wait or are open.
-#[derive(Clone, Copy, Debug)]
+#[derive(Clone, Copy)]
 pub struct Group {
     pub free: u32,
     pub busy: u32,
 }
 
 /// Which bucket is wanted.
-#[derive(Clone, Copy, Debug)]
+#[derive(Clone, Copy)]
 pub enum Want {
     /// A free one.
     FreeOne,

@@ -209,7 +209,7 @@ impl Pool {
 }
 
 /// Who wants how many blocks in a row.
-#[derive(Clone, Copy, Debug)]
+#[derive(Clone, Copy)]
 struct Want {
     actor: u8,
     blocks: usize,

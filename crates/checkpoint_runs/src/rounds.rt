@@ -23,7 +23,7 @@ const SESSIONS: u64 = 4;
 const ENTRIES: u64 = 500;
 
 /// What a run came to.
-#[derive(Clone, Copy, Debug, PartialEq, Eq)]
+#[derive(Clone, Copy, PartialEq, Eq)]
 struct Rounds {
     commits: u64,
     /// The checkpoints that commits asked for.
@@ -198,7 +198,7 @@ fn the_ring_goes_round_on_one_device(rt: HostRuntime) -> Result<(), Fail> {
         devices: 1,
         mirrors: 1,
     };
-    assert_eq!(rt; rounds_on(rt.alloc(), shape)?, Some(ON_ONE));
+    assert!(rt; rounds_on(rt.alloc(), shape)? == Some(ON_ONE));
     assert!(rt; ON_ONE.number / ROUND >= LEAST_ROUNDS);
     Ok(())
 }
@@ -209,7 +209,7 @@ fn the_ring_goes_round_on_three_devices(rt: HostRuntime) -> Result<(), Fail> {
         devices: 3,
         mirrors: 3,
     };
-    assert_eq!(rt; rounds_on(rt.alloc(), shape)?, Some(ON_THREE));
+    assert!(rt; rounds_on(rt.alloc(), shape)? == Some(ON_THREE));
     assert!(rt; ON_THREE.number / ROUND >= LEAST_ROUNDS);
     Ok(())
 }

@@ -143,7 +143,7 @@ fn the_least_set(rt: HostRuntime) -> Result<(), Fail> {
     let written = put_set(alloc, &least)?;
     let mut wanted = [0; 56];
     wanted[9] = 255;
-    assert_eq!(rt; written.as_slice(), wanted.as_slice());
+    assert!(rt; written.as_slice() == wanted.as_slice());
     Ok(())
 }
 
@@ -252,9 +252,9 @@ fn counts_of(alloc: Global, payload: &[u8]) -> Option<(u64, usize)> {
 fn an_entry_of_sixty_commits(rt: HostRuntime) -> Result<(), Fail> {
     let alloc = rt.alloc();
     let payload = sixty_commits(alloc)?;
-    assert_eq!(rt; payload.len(), 6456);
-    assert_eq!(rt; counts_of(alloc, &payload), Some((60, 180)));
-    assert_eq!(rt; entry_letter(alloc, &payload)?, b'.');
+    assert!(rt; payload.len() == 6456);
+    assert!(rt; counts_of(alloc, &payload) == Some((60, 180)));
+    assert!(rt; entry_letter(alloc, &payload)? == b'.');
     Ok(())
 }
 
@@ -282,7 +282,7 @@ fn lent_keys_are_written(rt: HostRuntime) -> Result<(), Fail> {
         0700000000000000000100000000000000000000000000000000000000000000ffffffffffffffffffffffffffffffffffff\
         ffff01000000050000000000000010000000000000000900000000";
     let wanted = bytes_of(alloc, wanted)?;
-    assert_eq!(rt; written.as_slice(), wanted.as_slice());
+    assert!(rt; written.as_slice() == wanted.as_slice());
     Ok(())
 }
 
@@ -297,6 +297,6 @@ fn length_of(alloc: Global, payload: &[u8]) -> Option<u64> {
 fn lengths_of_the_entry(rt: HostRuntime) -> Result<(), Fail> {
     let alloc = rt.alloc();
     let payload = bytes_of(alloc, ENTRY)?;
-    assert_eq!(rt; length_of(alloc, &payload), Some(payload.len() as u64));
+    assert!(rt; length_of(alloc, &payload) == Some(payload.len() as u64));
     Ok(())
 }

@@ -347,6 +347,6 @@ fn a_kind_is_named(rt: HostRuntime) -> Result<(), Fail> {
     let alloc = rt.alloc();
     let payload = with_kind(alloc, 8, 0, 12)?;
     let fault = get_entry(alloc, &payload).err();
-    assert_eq!(rt; fault, Some(RecordFault::Key(KeyFault::Kind(12))));
+    assert!(rt; fault == Some(RecordFault::Key(KeyFault::Kind(12))));
     Ok(())
 }

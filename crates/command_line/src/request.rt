@@ -7,7 +7,7 @@ use std::alloc::{AllocError, Global};
 use std::rc::RcStr;
 
 /// What the arguments ask for.
-#[derive(Clone, Copy, Debug, PartialEq, Eq)]
+#[derive(Clone, Copy, PartialEq, Eq)]
 pub enum Request {
     /// To run the script on standard input.
     Run,
@@ -20,7 +20,7 @@ pub enum Request {
 }
 
 /// A new volume, as it is asked for. No number is judged against the devices.
-#[derive(Clone, Copy, Debug, PartialEq, Eq)]
+#[derive(Clone, Copy, PartialEq, Eq)]
 pub struct FormatRequest {
     /// The volume's id.
     pub id: [u8; 16],
@@ -39,7 +39,7 @@ pub struct FormatRequest {
 }
 
 /// Why the arguments ask for nothing.
-#[derive(Clone, Copy, Debug, PartialEq, Eq)]
+#[derive(Clone, Copy, PartialEq, Eq)]
 pub enum WordsFault {
     /// The arguments are no request.
     Usage,

@@ -15,7 +15,7 @@ const ID: [u8; 16] = [0, 0, 0, 0, 0, 0, 0x40, 0, 0x80, 0, 0, 0, 0, 0, 0, 1];
 const BIRTH: u64 = 0x1_0000_0000;
 
 /// On how many devices a volume lies, and how many of them, the first ones, keep its metadata.
-#[derive(Clone, Copy, Debug, PartialEq, Eq)]
+#[derive(Clone, Copy, PartialEq, Eq)]
 pub struct Shape {
     pub devices: u8,
     pub mirrors: u8,

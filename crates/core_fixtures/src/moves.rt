@@ -15,7 +15,7 @@ const MANY: u64 = 100;
 const MANY_COUNT: u64 = 130;
 
 /// The values of counters, of which 0 stands for a key that isn't there, and whether another btree has its one key.
-#[derive(Clone, Copy, Debug, PartialEq, Eq)]
+#[derive(Clone, Copy, PartialEq, Eq)]
 pub struct Values {
     /// Those at the offsets 1 to 4.
     pub few: [u64; 4],
@@ -26,7 +26,7 @@ pub struct Values {
 }
 
 /// How many commits there were, and the values after them.
-#[derive(Clone, Copy, Debug, PartialEq, Eq)]
+#[derive(Clone, Copy, PartialEq, Eq)]
 pub struct Version {
     pub commits: u64,
     pub values: Values,
@@ -34,7 +34,7 @@ pub struct Version {
 
 /// What a commit does: it puts a value at one of the offsets 1 to 4, and, where it is long, at those from 100 to 229; where it is wide, it
 /// puts the key of the btree of deleted ids too, or removes it for the value 0.
-#[derive(Clone, Copy, Debug, PartialEq, Eq)]
+#[derive(Clone, Copy, PartialEq, Eq)]
 pub struct Change {
     pub key: u8,
     pub value: u64,
@@ -43,7 +43,7 @@ pub struct Change {
 }
 
 /// An event.
-#[derive(Clone, Copy, Debug, PartialEq, Eq)]
+#[derive(Clone, Copy, PartialEq, Eq)]
 pub enum Move {
     Begin { first: bool },
     /// Looks at one of the offsets 1 to 4, from 0, or at offset 100.
@@ -60,7 +60,7 @@ pub enum Move {
 }
 
 /// What an event is answered.
-#[derive(Clone, Copy, Debug, PartialEq, Eq)]
+#[derive(Clone, Copy, PartialEq, Eq)]
 pub enum Seen {
     /// It didn't fit.
     Unfit,

@@ -89,7 +89,7 @@ pub fn is_version(
 
 /// What the newest entry says: its sequence and that of the oldest entry that it needs, and the birth of the root of the counters with its
 /// block, which is the same on each metadata device.
-#[derive(Clone, Copy, Debug, PartialEq, Eq)]
+#[derive(Clone, Copy, PartialEq, Eq)]
 pub struct Newest {
     pub sequence: u64,
     pub oldest: u64,

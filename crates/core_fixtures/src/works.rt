@@ -18,7 +18,7 @@ const MOST: u32 = 10_000;
 
 /// What there is after all commits, after those of the last entry that was put in flight, and after those that are durable; and, where an
 /// entry is closed that waits, after those of it.
-#[derive(Clone, Copy, Debug, PartialEq, Eq, Drop)]
+#[derive(Clone, Copy, PartialEq, Eq, Drop)]
 pub struct Story {
     pub now: Version,
     pub sealed: Version,

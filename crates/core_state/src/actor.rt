@@ -6,7 +6,7 @@ use std::alloc::{AllocError, Global};
 use vol_types::{Duplicate, Keys, Look, Looks, Query, Updates};
 
 /// Why an operation may end without its commit. Its looks and the moment aren't noted.
-#[derive(Clone, Copy, Debug, PartialEq, Eq)]
+#[derive(Clone, Copy, PartialEq, Eq)]
 pub enum Failure {
     /// The session has stopped writing, after a call of this device at this moment.
     Halted { dev: u8, tick: u64 },
@@ -19,7 +19,7 @@ pub enum Failure {
 }
 
 /// What an actor has under way, which the events of other actors don't change.
-#[derive(Debug, Drop)]
+#[derive(Drop)]
 pub struct Actor {
     /// How many commits there were since format when its operation's transaction began; none without an operation.
     pub operation: Option<u64>,

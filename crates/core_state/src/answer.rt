@@ -6,14 +6,14 @@ use std::sync::Arc;
 use vol_types::{Keys, Short};
 
 /// Where a session stopped writing: the device of which a write or a flush failed, and the moment after that.
-#[derive(Clone, Copy, Debug, PartialEq, Eq)]
+#[derive(Clone, Copy, PartialEq, Eq)]
 pub struct Halt {
     pub dev: u8,
     pub tick: u64,
 }
 
 /// A metadata device has too few free buckets for the nodes that will have to be written.
-#[derive(Debug, PartialEq, Eq, Drop)]
+#[derive(PartialEq, Eq, Drop)]
 pub struct NoSpace {
     /// For each device its free buckets and those that are held back; it needs 0, since it is no extent that lacks a place.
     pub short: Short,
@@ -25,7 +25,7 @@ pub struct NoSpace {
 }
 
 /// Why a commit isn't made, an entry isn't written, or nodes aren't. The transaction stands as it was.
-#[derive(Debug, PartialEq, Eq, Drop)]
+#[derive(PartialEq, Eq, Drop)]
 pub enum Refusal {
     /// The session has stopped writing.
     Halted(Halt),

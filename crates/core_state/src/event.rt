@@ -1,7 +1,7 @@
 use vol_types::{Query, Updates};
 
 /// A work on what is durable, whose events any actor may make.
-#[derive(Clone, Copy, Debug, PartialEq, Eq)]
+#[derive(Clone, Copy, PartialEq, Eq)]
 pub enum Work {
     /// Entries of the journal are written.
     Journal,
@@ -10,7 +10,7 @@ pub enum Work {
 }
 
 /// What an actor asks of the volume.
-#[derive(Debug, PartialEq, Eq, Drop)]
+#[derive(PartialEq, Eq, Drop)]
 pub enum Event {
     /// Begins a transaction of an operation, or, where it isn't the first one, a further one of the same operation.
     Begin { first: bool },

@@ -26,7 +26,7 @@ mod volume;
 
 pub use actor::{Actor, Failure};
 pub use answer::{Answer, Halt, NoSpace, Refusal};
-pub use journal_writer::{Durable, Stage};
 pub use event::{Event, Work};
+pub use journal_writer::{Durable, Stage};
 pub use memory::Memory;
 pub use nodes::node_places;

@@ -15,11 +15,9 @@ use crate::volume::{Volume, see_widths};
 use btree_map::{KeyMap, btrees_hold_a_key_map};
 use bucket_pool::{Pool, nodes_keep_their_buckets};
 use dirty_nodes::{DirtyNodes, dirty_nodes_are_marked, paths_of};
-use journal_writer::{EntryQueue, waiting_changes_lead_from_durable_keys};
-use journal_writer::EntryWriter;
 use journal_ring::FoundEntry;
-use node_writeback::frozen_leaves_are_kept;
-use node_writeback::NodeWriter;
+use journal_writer::{EntryQueue, EntryWriter, waiting_changes_lead_from_durable_keys};
+use node_writeback::{NodeWriter, frozen_leaves_are_kept};
 use std::alloc::{AllocError, Global};
 use vol_types::{Btree, Keys, Layout, Places, Pos, Query, Update, layouts_are_tested};
 

@@ -9,8 +9,8 @@ use crate::Refusal;
 use crate::space::{is_short_of_nodes, no_space};
 use crate::volume::Volume;
 use dirty_nodes::{Paths, paths_of, split_needed};
-use journal_writer::EntryQueue;
 use journal_ring::RingFull;
+use journal_writer::EntryQueue;
 use std::alloc::{AllocError, Global};
 use vol_types::Update;
 

@@ -19,10 +19,12 @@ use crate::roots::roots_of;
 use crate::volume::{Volume, in_flight};
 use bucket_pool::nodes_keep_their_buckets;
 use dev_model::Devices;
-use journal_writer::{EntryQueue, entries_leave_in_turn, waiting_changes_lead_from_durable_keys};
-use journal_writer::{Unsealed, Why as WhyUnsealed};
 use geometry::{DiskFault, layouts_have_places};
 use journal_ring::areas_have_places;
+use journal_writer::{
+    EntryQueue, Unsealed, Why as WhyUnsealed, entries_leave_in_turn,
+    waiting_changes_lead_from_durable_keys,
+};
 use std::alloc::Global;
 use vol_types::{Failed, Roots, layouts_are_tested};
 

@@ -20,14 +20,14 @@ const NEVER: Failing = Failing {
 };
 
 /// A case that isn't as it should be.
-#[derive(Clone, Copy, Debug, PartialEq, Eq)]
+#[derive(Clone, Copy, PartialEq, Eq)]
 struct Case {
     list: List,
     failing: Failing,
 }
 
 /// What was tried.
-#[derive(Clone, Copy, Debug, PartialEq, Eq)]
+#[derive(Clone, Copy, PartialEq, Eq)]
 struct Tally {
     lists: u64,
     calls: u64,
@@ -241,20 +241,20 @@ const THREE: (Shape, Tally) = (
 #[test]
 fn calls_fail_on_one_device(rt: HostRuntime) -> Result<(), Fail> {
     let (shape, expected) = ONE;
-    assert_eq!(rt; tried(rt.alloc(), shape)?, (None, expected));
+    assert!(rt; tried(rt.alloc(), shape)? == (None, expected));
     Ok(())
 }
 
 #[test]
 fn calls_fail_where_two_of_three_devices_keep_metadata(rt: HostRuntime) -> Result<(), Fail> {
     let (shape, expected) = TWO;
-    assert_eq!(rt; tried(rt.alloc(), shape)?, (None, expected));
+    assert!(rt; tried(rt.alloc(), shape)? == (None, expected));
     Ok(())
 }
 
 #[test]
 fn calls_fail_where_three_devices_keep_metadata(rt: HostRuntime) -> Result<(), Fail> {
     let (shape, expected) = THREE;
-    assert_eq!(rt; tried(rt.alloc(), shape)?, (None, expected));
+    assert!(rt; tried(rt.alloc(), shape)? == (None, expected));
     Ok(())
 }

@@ -18,7 +18,7 @@ use vol_core::{Core, Opening};
 const EVENTS: u32 = 60;
 
 /// A list of events on a volume of this shape, which the seed names.
-#[derive(Clone, Copy, Debug, PartialEq, Eq)]
+#[derive(Clone, Copy, PartialEq, Eq)]
 pub struct List {
     pub shape: Shape,
     pub seed: u64,

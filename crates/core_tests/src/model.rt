@@ -8,7 +8,7 @@ use dev_model::Pick;
 use vol_core::Stage;
 
 /// Which device calls fail, counted from the first one behind the opening of a volume, and what a write that fails leaves of its block.
-#[derive(Clone, Copy, Debug, PartialEq, Eq)]
+#[derive(Clone, Copy, PartialEq, Eq)]
 pub struct Failing {
     pub call: u64,
     /// Whether all later ones fail too.

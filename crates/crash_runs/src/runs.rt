@@ -1,6 +1,5 @@
 use dev_model::{MemDevices, NoGate};
-use forest_ops::{Cause, Op, Reply, Trace};
-use forest_ops::Acks;
+use forest_ops::{Acks, Cause, Op, Reply, Trace};
 use shell::{Ended, run_words};
 use std::alloc::{AllocError, Global};
 use std::rc::RcStr;

@@ -24,10 +24,11 @@ ghost use Rattle.vol_types.specs.declared.pointers.NodePtr.{NodePtr as ANode};
 ghost use Rattle.vol_types.specs.declared.positions.Btree.{Btree as ABtree};
 ghost use Rattle.btree_map.specs.Sizes.{all_btrees};
 
+use crate::{
+    entries_with_new_nodes_are_written_safely, found_roots_are_leaves, leaf_roots_are_named,
+    leaves_stand, node_parts_stand, nodes_hold_keys_up_to_an_entry,
+};
 use bucket_pool::nodes_keep_their_buckets;
-use crate::entries_with_new_nodes_are_written_safely;
-use crate::nodes_hold_keys_up_to_an_entry;
-use crate::{found_roots_are_leaves, leaf_roots_are_named, leaves_stand, node_parts_stand};
 
 /// Entries of the journal are written over leaves: what is kept of these is so at the opening, and stays so where commits pin more, where an
 /// entry is put in flight that names the roots as they are, while its parts are written and devices are read and flushed, and where it

@@ -14,8 +14,10 @@ ghost use Rattle.crash_safety.specs.NodeParts.{IsNodePartWritten};
 ghost use Rattle.vol_types.specs.KeyMaps.{entries_of};
 ghost use Rattle.vol_types.specs.Limits.{bucket_blocks};
 
-use crate::nodes_hold_keys_up_to_an_entry;
-use crate::{leaves_stand, node_parts_are_written_safely, node_parts_stand, nodes_lie_apart};
+use crate::{
+    leaves_stand, node_parts_are_written_safely, node_parts_stand, nodes_hold_keys_up_to_an_entry,
+    nodes_lie_apart,
+};
 
 /// Leaves are written while all that an entry leads to stays: one is frozen with the durable keys of its btree, gets buckets that are free, and is written
 /// block by block; once all are written and the metadata devices are settled, they are put in place of the roots, and the old buckets wait for an entry

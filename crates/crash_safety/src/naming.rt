@@ -17,8 +17,8 @@ ghost use Rattle.vol_types.specs.declared.positions.Btree.{Btree as ABtree};
 ghost use Rattle.crash_safety.specs.Leaves.{StandAsLeaves, leaf_keys};
 ghost use Rattle.crash_safety.specs.Naming.{LeadsToLeaves, leaf_writing};
 
-use image_view::{new_nodes_hold_the_keys, updates_of_leaves_join_the_keys};
 use crate::entries_with_new_nodes_are_written_safely;
+use image_view::{new_nodes_hold_the_keys, updates_of_leaves_join_the_keys};
 use replay::found_btrees_are_a_key_map;
 
 /// A volume that was opened and mended, whose roots are leaves, stands on nine leaves: its keys are what the updates of the needed entries

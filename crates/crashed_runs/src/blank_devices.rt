@@ -30,7 +30,7 @@ static STAGES: [Stage; 12] = [
 fn it_crashes_at_each_call_and_what_was_flushed_is_left(rt: HostRuntime) -> Result<(), Fail> {
     let alloc = rt.alloc();
     let other = other_call(alloc, Before::Blank, &STAGES, true, Pick::NoneWritten)?;
-    assert_eq!(rt; other, None);
+    assert!(rt; other == None);
     Ok(())
 }
 
@@ -38,6 +38,6 @@ fn it_crashes_at_each_call_and_what_was_flushed_is_left(rt: HostRuntime) -> Resu
 fn each_call_fails_and_blocks_are_torn(rt: HostRuntime) -> Result<(), Fail> {
     let alloc = rt.alloc();
     let other = other_call(alloc, Before::Blank, &STAGES, false, Pick::Torn)?;
-    assert_eq!(rt; other, None);
+    assert!(rt; other == None);
     Ok(())
 }

@@ -1,6 +1,6 @@
+use crash_runs::{EMPTY_RUN, FORMAT_TWO, Start, Step, Trial, other_step};
 use dev_model::Pick;
 use std::alloc::{AllocError, Global};
-use crash_runs::{EMPTY_RUN, FORMAT_TWO, Start, Step, Trial, other_step};
 
 /// Of so many calls of a stage one is to fail, the first of them, and the last of all; with 1 each call is.
 const EVERY: u64 = 60;

@@ -2,15 +2,15 @@
 
 use crate::bytes::{COUNTERS, pos_at};
 use dev_model::MemDevices;
+use image_reader::{FoundBtree, FoundVolume, read_plain};
 use image_view::MountFault;
 use journal_ring::FoundEntry;
-use image_reader::{FoundBtree, FoundVolume, read_plain};
 use replay::{Loaded, load};
 use std::alloc::Global;
 use vol_types::{Btree, NodeEnd, Value};
 
 /// What is found, as far as the cases tell.
-#[derive(Clone, Copy, Debug, PartialEq, Eq)]
+#[derive(Clone, Copy, PartialEq, Eq)]
 pub struct Found {
     pub session: u64,
     /// The journal block numbers of the needed entries, the oldest first.

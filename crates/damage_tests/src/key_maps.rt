@@ -2,15 +2,15 @@
 
 use btree_map::KeyMap;
 use dev_model::MemDevices;
-use image_view::MountFault;
 use image_reader::FoundBtree;
+use image_view::MountFault;
 use replay::{MadeMap, Unmade, key_map, load};
 use std::alloc::{AllocError, Global};
 use std::test::Fail;
 use vol_types::{Births, Btree, Ends, Listing, NodeEnd, NodePtr, Place, Places, Pos, Value};
 
 // What is wrong with the lists, if anything is.
-#[derive(Clone, Copy, PartialEq, Eq, Debug)]
+#[derive(Clone, Copy, PartialEq, Eq)]
 enum Flaw {
     None,
     // One btree more.
@@ -181,7 +181,7 @@ fn is_judged(alloc: Global, flaw: Flaw, sound: bool) -> Result<bool, AllocError>
 fn lists_make_a_key_map(rt: HostRuntime) -> Result<(), Fail> {
     let alloc = rt.alloc();
     for (flaw, sound) in FLAWS {
-        assert_eq!(rt; is_judged(alloc, flaw, sound)?, true);
+        assert!(rt; is_judged(alloc, flaw, sound)? == true);
     }
     Ok(())
 }
@@ -190,6 +190,6 @@ fn lists_make_a_key_map(rt: HostRuntime) -> Result<(), Fail> {
 fn blank_devices_have_no_volume(rt: HostRuntime) -> Result<(), Fail> {
     let alloc = rt.alloc();
     let mut devices = MemDevices::blank(alloc, &[64, 64])?;
-    assert_eq!(rt; load(alloc, &mut devices).err(), Some(MountFault::NoSuper));
+    assert!(rt; load(alloc, &mut devices).err() == Some(MountFault::NoSuper));
     Ok(())
 }

@@ -2,7 +2,7 @@ use std::alloc::{AllocError, AllocFailed};
 use vol_types::Lost;
 
 /// Why a block of a file wasn't read or written.
-#[derive(Debug, PartialEq, Eq, Drop)]
+#[derive(PartialEq, Eq, Drop)]
 pub enum DataFault {
     /// A write to this device failed.
     DeviceFault(u8),

@@ -1,7 +1,7 @@
 use vol_types::Updates;
 
 /// What adding a name to a directory comes to.
-#[derive(Debug, PartialEq, Eq, Drop)]
+#[derive(PartialEq, Eq, Drop)]
 pub enum NameStep {
     /// The updates that add it.
     Done(Updates),

@@ -17,7 +17,7 @@ use std::alloc::{AllocError, Global};
 use vol_types::{Btree, Duplicate, NODE_LIMIT, Pos, Update, Value, positions_are_ordered, wide};
 
 /// A node that has to be split before updates are made.
-#[derive(Clone, Copy, Debug, PartialEq, Eq)]
+#[derive(Clone, Copy, PartialEq, Eq)]
 pub struct NeedSplit {
     /// Its birth.
     pub node: u64,

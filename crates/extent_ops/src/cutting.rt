@@ -11,7 +11,7 @@ use std::collections::BTreeMap;
 use vol_types::{Btree, Duplicate, Key, Listing, Pos, Update, Updates, Value};
 
 /// What the position with this end gets in an id: a value, or none where what stands there goes.
-#[derive(Debug, Drop)]
+#[derive(Drop)]
 pub(crate) struct Change {
     pub end: u64,
     pub value: Option<Value>,

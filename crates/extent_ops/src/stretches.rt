@@ -5,7 +5,7 @@ use std::alloc::{AllocError, Global};
 use vol_types::{Duplicate, Listing};
 
 /// Blocks of a file, from the first one up to the end, which isn't one of them.
-#[derive(Clone, Copy, Debug, PartialEq, Eq)]
+#[derive(Clone, Copy, PartialEq, Eq)]
 pub(crate) struct Stretch {
     pub first: u64,
     pub end: u64,

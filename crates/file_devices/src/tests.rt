@@ -41,23 +41,22 @@ fn ends(
 fn written_blocks_are_read_back(rt: HostRuntime) -> Result<(), Fail> {
     let alloc = rt.alloc();
     let mut devices = opened(&rt, alloc)?;
-    assert_eq!(rt; devices.count(), 1);
-    assert_eq!(rt; devices.blocks(0), 2);
+    assert!(rt; devices.count() == 1);
+    assert!(rt; devices.blocks(0) == 2);
     let mut block = vec![in alloc; 2; 4096]?;
     block[0] = 1;
     devices.write(0, 1, &block)?;
     devices.flush(0)?;
     devices.extend(0, 4)?;
-    assert_eq!(rt; devices.blocks(0), 4);
+    assert!(rt; devices.blocks(0) == 4);
     devices.write(0, 3, &block)?;
     for (at, expected) in [(0, (7, 7)), (1, (1, 2)), (2, (0, 0)), (3, (1, 2))] {
-        assert_eq!(rt;
-            ends(&mut devices, alloc, at)?,
-            Some(expected),
+        assert!(rt;
+            ends(&mut devices, alloc, at)? == Some(expected),
             "block {at}"
         );
     }
-    assert_eq!(rt; devices.moment(), 8);
+    assert!(rt; devices.moment() == 8);
     Ok(())
 }
 

@@ -1,7 +1,7 @@
 use vol_types::{Bytes, Listing, Places, Pointers};
 
 /// A block whose bytes are known: they were read at its places, or written there.
-#[derive(Debug, Drop)]
+#[derive(Drop)]
 pub struct KnownBlock {
     pub places: Places,
     pub digest: u64,
@@ -9,14 +9,14 @@ pub struct KnownBlock {
 }
 
 /// Places that were reserved: for each copy the first one of so many blocks.
-#[derive(Debug, Drop)]
+#[derive(Drop)]
 pub struct Reservation {
     pub pointers: Pointers,
     pub blocks: u8,
 }
 
 /// What was read, reserved and written of blocks, each in its order.
-#[derive(Debug, Drop)]
+#[derive(Drop)]
 pub struct BlockIo {
     pub read: Listing<KnownBlock>,
     pub reserved: Listing<Reservation>,

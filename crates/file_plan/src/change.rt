@@ -1,7 +1,7 @@
 use vol_types::Keys;
 
 /// A change of a file's content.
-#[derive(Debug, Drop)]
+#[derive(Drop)]
 pub enum Change {
     /// These extents, of blocks from a first one on, whose blocks are written: each is a key of the file in the id, and covers
     /// blocks behind those of the one before it.

@@ -7,7 +7,7 @@ use std::alloc::{AllocError, Global};
 use vol_types::{Bytes, Duplicate, FlagList, Listing, Lost, Short};
 
 /// An operation on the forest.
-#[derive(Debug, PartialEq, Eq, Drop)]
+#[derive(PartialEq, Eq, Drop)]
 pub enum Op {
     /// Makes an empty directory.
     Mkdir {
@@ -170,7 +170,7 @@ impl Duplicate for Op {
 }
 
 /// The classes of operations.
-#[derive(Clone, Copy, Debug, PartialEq, Eq)]
+#[derive(Clone, Copy, PartialEq, Eq)]
 pub enum Class {
     /// It changes the forest.
     Changes,
@@ -209,7 +209,7 @@ impl Op {
 }
 
 /// Why the forest refuses an operation.
-#[derive(Clone, Copy, Debug, PartialEq, Eq)]
+#[derive(Clone, Copy, PartialEq, Eq)]
 pub enum Cause {
     /// A name of the path, or its subvolume's name, is none that a volume keeps, or there are too many names.
     BadPath,
@@ -244,7 +244,7 @@ pub enum Cause {
 }
 
 /// What an operation answers.
-#[derive(Debug, PartialEq, Eq, Drop)]
+#[derive(PartialEq, Eq, Drop)]
 pub enum Reply {
     /// It is done.
     Okay,
@@ -327,7 +327,7 @@ impl Duplicate for Reply {
 }
 
 /// An operation of a client, below 16, in a history, with its reply.
-#[derive(Debug, PartialEq, Eq, Drop)]
+#[derive(PartialEq, Eq, Drop)]
 pub struct Entry {
     pub client: u8,
     pub op: Op,

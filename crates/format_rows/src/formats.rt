@@ -158,11 +158,11 @@ fn a_device_gets_its_blocks(rt: HostRuntime) -> Result<(), Fail> {
     fill(alloc, &mut devices, 0, &[0, 1, 3, 4, 5, 6, 7, 8, 9, 15])?;
     fill(alloc, &mut devices, 0, &[16, 271, 272, 287, 415, 416, 1023])?;
     let layout = layout_of(alloc, ID, 1, 1, 256)?;
-    assert_eq!(rt; format_as(alloc, &mut devices, &layout)?, Ok(()));
-    assert_eq!(rt; first_wrong(alloc, &mut devices, 0, &FORMATTED)?, None);
+    assert!(rt; format_as(alloc, &mut devices, &layout)? == Ok(()));
+    assert!(rt; first_wrong(alloc, &mut devices, 0, &FORMATTED)? == None);
     let cleared = [1, 2, 3, 4, 6, 7, 9, 15, 17, 271, 273, 287, 289, 415];
-    assert_eq!(rt; first_other(alloc, &mut devices, 0, &cleared, 0)?, None);
-    assert_eq!(rt; first_other(alloc, &mut devices, 0, &[416, 1023], 7)?, None);
+    assert!(rt; first_other(alloc, &mut devices, 0, &cleared, 0)? == None);
+    assert!(rt; first_other(alloc, &mut devices, 0, &[416, 1023], 7)? == None);
     Ok(())
 }
 
@@ -181,21 +181,15 @@ fn a_shorter_device_is_extended(rt: HostRuntime) -> Result<(), Fail> {
     fill(alloc, &mut devices, 0, &[0, 3])?;
     fill(alloc, &mut devices, 1, &[0, 5, 8, 16, 1029])?;
     let layout = layout_of(alloc, ID, 2, 1, 256)?;
-    assert_eq!(rt; format_as(alloc, &mut devices, &layout)?, Ok(()));
+    assert!(rt; format_as(alloc, &mut devices, &layout)? == Ok(()));
     if devices.count() != 2 {
         return Err(Fail::from("there are other devices"));
     }
-    assert_eq!(rt; (devices.blocks(0), devices.blocks(1)), (1024, 1030));
-    assert_eq!(rt;
-        first_other(alloc, &mut devices, 0, &[3, 4, 17, 416, 1023], 0)?,
-        None
-    );
+    assert!(rt; (devices.blocks(0), devices.blocks(1)) == (1024, 1030));
+    assert!(rt; first_other(alloc, &mut devices, 0, &[3, 4, 17, 416, 1023], 0)? == None);
     // the second device keeps no metadata, so it gets superblocks alone
-    assert_eq!(rt;
-        first_other(alloc, &mut devices, 1, &[5, 16, 1029], 7)?,
-        None
-    );
-    assert_eq!(rt; first_wrong(alloc, &mut devices, 1, &SECOND)?, None);
+    assert!(rt; first_other(alloc, &mut devices, 1, &[5, 16, 1029], 7)? == None);
+    assert!(rt; first_wrong(alloc, &mut devices, 1, &SECOND)? == None);
     Ok(())
 }
 
@@ -283,10 +277,10 @@ fn a_call_that_fails_ends_it(rt: HostRuntime) -> Result<(), Fail> {
     // two reads a device; a zero block each and two flushes, twice; an extension and two flushes; 414 blocks and two flushes;
     // two superblocks each and two flushes
     let all = 4 + 4 + 4 + 3 + 416 + 6;
-    assert_eq!(rt; formatted_short(alloc, None)?, (Ok(()), all));
+    assert!(rt; formatted_short(alloc, None)? == (Ok(()), all));
     for (call, dev) in FAILING.iter() {
         let (formatted, _) = formatted_short(alloc, Some(*call))?;
-        assert_eq!(rt; formatted, Err(DiskFault::DeviceFault(*dev)));
+        assert!(rt; formatted == Err(DiskFault::DeviceFault(*dev)));
     }
     Ok(())
 }
@@ -347,7 +341,7 @@ fn fresh_on(alloc: Global, metadata: u8) -> Result<Option<Shown>, Fail> {
 fn the_fresh_volume_is_found(rt: HostRuntime) -> Result<(), Fail> {
     let alloc = rt.alloc();
     for metadata in 1..4u8 {
-        assert_eq!(rt; fresh_on(alloc, metadata)?, Some(FRESH));
+        assert!(rt; fresh_on(alloc, metadata)? == Some(FRESH));
     }
     Ok(())
 }
@@ -396,7 +390,7 @@ fn a_format_that_fails_leaves_what_was_there_or_nothing_or_the_fresh_volume(
     let layout = layout_of(alloc, OTHER, 2, 1, 256)?;
     let again = layout_of(alloc, ID, 2, 1, 256)?;
     for (call, pick, left) in LEFT.iter() {
-        assert_eq!(rt; left_of(alloc, &layout, &again, *call, *pick)?, *left);
+        assert!(rt; left_of(alloc, &layout, &again, *call, *pick)? == *left);
     }
     Ok(())
 }

@@ -2,7 +2,7 @@ use forest_ops::{Op, Reply};
 use vol_types::Updates;
 
 /// What becomes of an operation: its updates, to be made at once, and its reply.
-#[derive(Debug, PartialEq, Eq, Drop)]
+#[derive(PartialEq, Eq, Drop)]
 pub struct Plan {
     pub op: Op,
     /// None where the operation is refused or changes nothing.

@@ -17,7 +17,7 @@ use vol_digest::slot;
 use vol_types::{Btree, Bytes, FileKind, Inode, Link, Sub, Value};
 
 /// A directory, with the subvolume in whose tree it is.
-#[derive(Debug, PartialEq, Eq, Drop)]
+#[derive(PartialEq, Eq, Drop)]
 pub(crate) struct Spot {
     pub sub: Sub,
     pub number: u64,

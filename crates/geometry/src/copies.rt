@@ -14,7 +14,7 @@ use vol_digest::digest;
 use vol_types::{Blocks, Bytes, Layout};
 
 /// A copy of a superblock: its head and its payload.
-#[derive(Debug, PartialEq, Eq, Drop)]
+#[derive(PartialEq, Eq, Drop)]
 pub struct SuperCopy {
     pub head: Head,
     pub payload: Bytes,

@@ -21,7 +21,7 @@ impl From<AllocError> for DiskFault {
 }
 
 /// Why devices don't hold the superblocks of one volume.
-#[derive(Clone, Copy, Debug, PartialEq, Eq)]
+#[derive(Clone, Copy, PartialEq, Eq)]
 pub enum SuperFault {
     /// A device has no superblock.
     NoSuper,

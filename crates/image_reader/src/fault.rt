@@ -9,7 +9,7 @@ use std::alloc::{AllocError, AllocFailed};
 use vol_types::Place;
 
 /// Why a btree wasn't read.
-#[derive(Clone, Copy, Debug, PartialEq, Eq)]
+#[derive(Clone, Copy, PartialEq, Eq)]
 pub(crate) enum TreeFault {
     /// At this place a node is bad.
     BadNode(Place),

@@ -1,7 +1,7 @@
 use vol_types::Place;
 
 /// Why the image of a volume doesn't mount: the first of these that holds.
-#[derive(Clone, Copy, Debug, PartialEq, Eq)]
+#[derive(Clone, Copy, PartialEq, Eq)]
 pub enum MountFault {
     /// A device has no superblock.
     NoSuper,

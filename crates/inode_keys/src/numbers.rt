@@ -21,7 +21,7 @@ use vol_types::{Btree, Key, Pos, Query, Update, Updates, Value};
 const NUMBERS_PER_CLIENT: u64 = 1 << 48;
 
 /// What a client draws for its next new inode.
-#[derive(Debug, PartialEq, Eq, Drop)]
+#[derive(PartialEq, Eq, Drop)]
 pub enum Draw {
     /// This number. After the updates it is drawn, and isn't drawn again.
     Drawn { number: u64, updates: Updates },

@@ -1,7 +1,7 @@
 use record_codec::EntryRecord;
 
 /// A whole entry of the journal, and where it stands.
-#[derive(Debug, PartialEq, Eq, Drop)]
+#[derive(PartialEq, Eq, Drop)]
 pub struct FoundEntry {
     /// The journal block number of its part 0.
     pub number: u64,

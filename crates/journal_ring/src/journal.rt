@@ -2,7 +2,7 @@ use crate::FoundEntry;
 use vol_types::Listing;
 
 /// What the journal areas of a volume hold.
-#[derive(Debug, PartialEq, Eq, Drop)]
+#[derive(PartialEq, Eq, Drop)]
 pub enum Journal {
     /// No entry is whole.
     NoEntry,

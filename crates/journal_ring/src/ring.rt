@@ -20,7 +20,7 @@ use std::marker::Model;
 use vol_types::{BLOCK_SIZE, Layout};
 
 /// The ring has too few blocks left.
-#[derive(Clone, Copy, Debug, PartialEq, Eq)]
+#[derive(Clone, Copy, PartialEq, Eq)]
 pub struct RingFull {
     /// How many blocks are left: those of the journal area that hold nothing that is needed.
     pub left: u32,

@@ -75,7 +75,7 @@ fn tear(alloc: Global, devices: &mut MemDevices, place: Place, byte: u8) -> Resu
 }
 
 // What reading the block gives.
-#[derive(Clone, Copy, Debug, PartialEq, Eq)]
+#[derive(Clone, Copy, PartialEq, Eq)]
 enum Seen {
     // A block of this byte, after so many reads.
     Block(u8, u64),
@@ -170,7 +170,7 @@ fn places_make_up_for_others(rt: HostRuntime) -> Result<(), Fail> {
         ([7, 7], [true, true], Seen::Nothing([None, None])),
     ];
     for (held, failing, seen) in cases {
-        assert_eq!(rt; outcome(alloc, held, failing)?, seen);
+        assert!(rt; outcome(alloc, held, failing)? == seen);
     }
     Ok(())
 }
@@ -203,11 +203,8 @@ fn seen_on(alloc: Global, devices: &mut MemDevices) -> Result<(Seen, u64), Fail>
 #[test]
 fn failed_writes_are_named(rt: HostRuntime) -> Result<(), Fail> {
     let alloc = rt.alloc();
-    assert_eq!(rt; failed_write(alloc)?, (true, 2, Seen::Block(7, 1)));
+    assert!(rt; failed_write(alloc)? == (true, 2, Seen::Block(7, 1)));
     // A place that isn't there gives nothing, without a read.
-    assert_eq!(rt;
-        seen_on_a_short_one(alloc)?,
-        (Seen::Nothing([None, None]), 0)
-    );
+    assert!(rt; seen_on_a_short_one(alloc)? == (Seen::Nothing([None, None]), 0));
     Ok(())
 }

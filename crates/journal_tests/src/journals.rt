@@ -277,7 +277,7 @@ const TORN: [Said; 16] = [
 
 #[test]
 fn torn_parts(rt: HostRuntime) -> Result<(), Fail> {
-    assert_eq!(rt; first_other(rt.alloc(), &TORN)?, None);
+    assert!(rt; first_other(rt.alloc(), &TORN)? == None);
     Ok(())
 }
 
@@ -317,7 +317,7 @@ const COUNTING: [Said; 25] = [
 
 #[test]
 fn which_entries_count(rt: HostRuntime) -> Result<(), Fail> {
-    assert_eq!(rt; first_other(rt.alloc(), &COUNTING)?, None);
+    assert!(rt; first_other(rt.alloc(), &COUNTING)? == None);
     Ok(())
 }
 
@@ -411,8 +411,8 @@ fn each_block_is_read_once(rt: HostRuntime) -> Result<(), Fail> {
     let alloc = rt.alloc();
     let (said, calls) = read_with_fault(alloc, 512)?;
     let letters = said.ok().ok_or("no read fails")?;
-    assert_eq!(rt; letters.as_slice(), b"101213".as_slice());
-    assert_eq!(rt; calls, 512);
+    assert!(rt; letters.as_slice() == b"101213".as_slice());
+    assert!(rt; calls == 512);
     Ok(())
 }
 
@@ -421,8 +421,8 @@ fn reads_that_fail(rt: HostRuntime) -> Result<(), Fail> {
     let alloc = rt.alloc();
     for (fault, dev) in [(0, 0), (255, 0), (256, 1), (511, 1)] {
         let (said, calls) = read_with_fault(alloc, fault)?;
-        assert_eq!(rt; said.err(), Some(DiskFault::DeviceFault(dev)));
-        assert_eq!(rt; calls, fault + 1);
+        assert!(rt; said.err() == Some(DiskFault::DeviceFault(dev)));
+        assert!(rt; calls == fault + 1);
     }
     Ok(())
 }

@@ -250,7 +250,7 @@ fn right_from_new(alloc: Global, steps: &[Step]) -> Result<usize, AllocError> {
 // last byte.
 #[test]
 fn filled_to_the_last_byte(rt: HostRuntime) -> Result<(), Fail> {
-    assert_eq!(rt; right_from_new(rt.alloc(), &FILLED)?, 5);
+    assert!(rt; right_from_new(rt.alloc(), &FILLED)? == 5);
     Ok(())
 }
 
@@ -346,7 +346,7 @@ fn grow(alloc: Global, queue: &mut EntryQueue) -> Result<(usize, usize, u64), Al
 // 165 removals fill the first block but for 2 bytes. Three entries of 64 blocks are closed, and leave in their order.
 #[test]
 fn grown_by_little(rt: HostRuntime) -> Result<(), Fail> {
-    assert_eq!(rt; grown(rt.alloc())?, (6, 4, 293));
+    assert!(rt; grown(rt.alloc())? == (6, 4, 293));
     Ok(())
 }
 
@@ -495,7 +495,7 @@ fn back_to(
 // All that was committed is taken back, also when it was taken out once and put back.
 #[test]
 fn taken_back_to_the_first(rt: HostRuntime) -> Result<(), Fail> {
-    assert_eq!(rt; back_to_first(rt.alloc())?, [true, true, true, false]);
+    assert!(rt; back_to_first(rt.alloc())? == [true, true, true, false]);
     Ok(())
 }
 
@@ -536,7 +536,7 @@ fn commit_behind(
 // Once an entry is taken out, what was committed after it is taken back.
 #[test]
 fn taken_back_to_the_entry_before(rt: HostRuntime) -> Result<(), Fail> {
-    assert_eq!(rt; back_to_entry(rt.alloc())?, ([true; 4], 80));
+    assert!(rt; back_to_entry(rt.alloc())? == ([true; 4], 80));
     Ok(())
 }
 
@@ -605,7 +605,7 @@ fn first_entries_with_keys(rt: HostRuntime) -> Result<(), Fail> {
         [None, Some(9), None],
         [None, Some(9), Some(9)],
     ];
-    assert_eq!(rt; firsts_in_turn(rt.alloc())?, (rows, true));
+    assert!(rt; firsts_in_turn(rt.alloc())? == (rows, true));
     Ok(())
 }
 
@@ -645,6 +645,6 @@ fn is_next_back(
 // The changes of the one entry that is taken out are taken back from what stood when it was.
 #[test]
 fn one_entry_taken_back(rt: HostRuntime) -> Result<(), Fail> {
-    assert_eq!(rt; without_next(rt.alloc())?, (true, true));
+    assert!(rt; without_next(rt.alloc())? == (true, true));
     Ok(())
 }

@@ -11,14 +11,14 @@ use std::alloc::{AllocError, Global};
 use vol_types::{Btree, Duplicate, Listing, Pos, Update, Updates, Value, positions_are_ordered};
 
 /// Updates in the order in which they were made and, beside each, the value that its position had before it, or none.
-#[derive(Debug, PartialEq, Eq, Drop)]
+#[derive(PartialEq, Eq, Drop)]
 pub struct KeyChanges {
     pub updates: Updates,
     pub before: Listing<Option<Value>>,
 }
 
 /// An entry of the journal that isn't written yet.
-#[derive(Debug, PartialEq, Eq, Drop)]
+#[derive(PartialEq, Eq, Drop)]
 pub struct Pending {
     /// The sequence of the entry before it: its own is the next one.
     pub after: u64,

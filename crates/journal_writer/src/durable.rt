@@ -1,5 +1,5 @@
 /// The last entry of the journal that is durable.
-#[derive(Clone, Copy, Debug, PartialEq, Eq)]
+#[derive(Clone, Copy, PartialEq, Eq)]
 pub struct Durable {
     pub sequence: u64,
     /// How many commits there were up to it since format.

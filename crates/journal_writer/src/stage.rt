@@ -1,5 +1,5 @@
 /// The next step that a work on what is durable needs: the journal, or nodes that are written.
-#[derive(Clone, Copy, Debug, PartialEq, Eq)]
+#[derive(Clone, Copy, PartialEq, Eq)]
 pub enum Stage {
     /// None.
     Rest,

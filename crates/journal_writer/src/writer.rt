@@ -13,9 +13,8 @@ ghost use Rattle.journal_writer.specs.Writes.{WritesPart};
 ghost use Rattle.journal_writer.specs.declared.stage.Stage.TheVariants.{Rest, Seal, Settle, WriteEntry};
 
 use crate::flags::{first_flag, set_flags};
-use crate::{Durable, Stage};
+use crate::{Durable, KeyChanges, Pending, Stage};
 use dev_model::Devices;
-use crate::{KeyChanges, Pending};
 use geometry::DiskFault;
 use journal_ring::{FoundEntry, Ring, RingFull, entry_parts};
 use record_codec::EntryRecord;
@@ -25,7 +24,7 @@ use std::marker::Model;
 use vol_types::{Failed, Layout, Roots, layouts_are_tested};
 
 /// An entry in flight, which is being written.
-#[derive(Debug, PartialEq, Eq, Drop)]
+#[derive(PartialEq, Eq, Drop)]
 pub struct Flight {
     pub entry: Pending,
     /// The sequence of the oldest entry that it needs, up to its own.
@@ -33,7 +32,7 @@ pub struct Flight {
 }
 
 /// Why an entry isn't put in flight.
-#[derive(Debug, PartialEq, Eq, Drop)]
+#[derive(PartialEq, Eq, Drop)]
 pub enum Why {
     /// The numbers of its blocks aren't left.
     Spent,

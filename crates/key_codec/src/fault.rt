@@ -4,7 +4,7 @@ ghost use Rattle.key_codec.specs.declared.fault.KeyFault.TheVariants.{NoMemory};
 use std::alloc::{AllocError, AllocFailed};
 
 /// Why bytes don't begin with a key: the first fault from the left.
-#[derive(Clone, Copy, Debug, PartialEq, Eq)]
+#[derive(Clone, Copy, PartialEq, Eq)]
 pub enum KeyFault {
     /// The bytes end within a field.
     Short,

@@ -13,7 +13,7 @@ use std::alloc::Global;
 use vol_types::{Key, Pos, Value};
 
 /// A key that was read off the start of bytes.
-#[derive(Debug, PartialEq, Eq, Drop)]
+#[derive(PartialEq, Eq, Drop)]
 pub struct KeyRead {
     pub pos: Pos,
     /// `None` in a key that is removed.

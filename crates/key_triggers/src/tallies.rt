@@ -15,7 +15,7 @@ use std::collections::BTreeMap;
 use vol_types::{Btree, Live, Pointer, Pos, Update, Updates, Value};
 
 /// How many blocks of a bucket some values no longer use, and how many others come to use.
-#[derive(Clone, Copy, Debug, PartialEq, Eq)]
+#[derive(Clone, Copy, PartialEq, Eq)]
 pub struct Tally {
     pub taken: u64,
     pub given: u64,

@@ -32,13 +32,13 @@ fn short_pieces_are_taken_up_to_the_limit(rt: HostRuntime) -> Result<(), Fail> {
         (4, Err(TakeFault::TooLong), 5),
         (0, Err(TakeFault::TooLong), 9),
     ] {
-        assert_eq!(rt; taken(alloc, limit)?, (given, left));
+        assert!(rt; taken(alloc, limit)? == (given, left));
     }
     Ok(())
 }
 
 // How a read that fails ends, what the source counts then, and how many bytes are taken after it.
-#[derive(Clone, Copy, Debug, PartialEq, Eq)]
+#[derive(Clone, Copy, PartialEq, Eq)]
 struct FailedRead {
     fault: Option<TakeFault>,
     left: usize,
@@ -81,7 +81,7 @@ fn a_failed_read_is_told(rt: HostRuntime) -> Result<(), Fail> {
             faults: 1,
             rest: Some(left),
         };
-        assert_eq!(rt; failed_read(alloc, call)?, read, "at {call}");
+        assert!(rt; failed_read(alloc, call)? == read, "at {call}");
     }
     Ok(())
 }
@@ -96,7 +96,7 @@ fn count_of(bytes: &[u8]) -> Option<usize> {
 }
 
 // Whether the text is given, how much of it is held, and what the sink counts.
-#[derive(Clone, Copy, Debug, PartialEq, Eq)]
+#[derive(Clone, Copy, PartialEq, Eq)]
 struct Given {
     is_all: bool,
     held: Option<usize>,
@@ -135,7 +135,7 @@ fn a_failed_write_leaves_what_was_given_before(rt: HostRuntime) -> Result<(), Fa
             faults: if call == 4 { 0 } else { 1 },
             calls: if call == 4 { 4 } else { call + 1 },
         };
-        assert_eq!(rt; give_in_pieces(alloc, &devices, call)?, expected);
+        assert!(rt; give_in_pieces(alloc, &devices, call)? == expected);
     }
     Ok(())
 }
@@ -180,8 +180,8 @@ fn what_is_given_after_a_call_of_a_device_has_a_later_moment(rt: HostRuntime) ->
 #[test]
 fn a_reader_is_a_source(rt: HostRuntime) {
     let mut source = StdSource::new(Cursor::new(TEXT));
-    assert_eq!(rt; take_text(rt.alloc(), &mut source, 10), Ok(true));
-    assert_eq!(rt; source.into_inner().position(), 10);
+    assert!(rt; take_text(rt.alloc(), &mut source, 10) == Ok(true));
+    assert!(rt; source.into_inner().position() == 10);
 }
 
 /// Takes up to so many bytes in all, three a call, and then nothing.
@@ -221,7 +221,7 @@ fn a_writer_is_a_sink_until_it_takes_nothing(rt: HostRuntime) -> Result<(), Fail
     let alloc = rt.alloc();
     let devices = MemDevices::blank(alloc, &[16])?;
     for (room, outcome) in [(10, Ok(())), (8, Err(Failed))] {
-        assert_eq!(rt; written(alloc, &devices, room), (outcome, Some(room)));
+        assert!(rt; written(alloc, &devices, room) == (outcome, Some(room)));
     }
     Ok(())
 }

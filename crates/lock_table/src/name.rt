@@ -5,7 +5,7 @@ use vol_types::{Btree, Pos};
 
 /// What a node is called: its btree, its level, which is 0 for a leaf, the greatest position that it covers, and its
 /// birth, which no other node has.
-#[derive(Clone, Copy, Debug, PartialEq, Eq)]
+#[derive(Clone, Copy, PartialEq, Eq)]
 pub struct NodeName {
     pub btree: Btree,
     pub level: u8,

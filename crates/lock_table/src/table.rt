@@ -17,7 +17,7 @@ use std::collections::BTreeMap;
 use std::marker::Model;
 
 /// The mode that an actor asks for.
-#[derive(Clone, Copy, Debug, PartialEq, Eq)]
+#[derive(Clone, Copy, PartialEq, Eq)]
 pub enum Mode {
     /// To read, beside others that read and one that holds intent.
     Shared,
@@ -26,7 +26,7 @@ pub enum Mode {
 }
 
 /// The answer to an ask or an upgrade.
-#[derive(Clone, Copy, Debug, PartialEq, Eq)]
+#[derive(Clone, Copy, PartialEq, Eq)]
 pub enum Ruling {
     /// The actor holds what it asked for from now on.
     Granted,

@@ -5,7 +5,7 @@ use std::alloc::AllocError;
 use std::test::Fail;
 use vol_types::{Btree, Pos};
 
-#[derive(Clone, Copy, Debug)]
+#[derive(Clone, Copy)]
 enum Call {
     Ask(NodeName, Mode),
     Upgrade(u64),
@@ -145,18 +145,18 @@ fn right_rows(table: &mut LockTable, rows: &[Row]) -> Result<usize, AllocError> 
 #[test]
 fn calls_in_turn(rt: HostRuntime) -> Result<(), Fail> {
     let mut table = LockTable::new(rt.alloc(), 3)?;
-    assert_eq!(rt; right_rows(&mut table, &first_rows())?, 13);
-    assert_eq!(rt; right_rows(&mut table, &later_rows())?, 13);
-    assert_eq!(rt; table.other_holder(0, 11), Some(2));
-    assert_eq!(rt; table.other_reader(0, 11), None);
-    assert_eq!(rt; table.seq(11), 1);
-    assert_eq!(rt; make(&mut table, 2, Call::DropAll)?, None);
+    assert!(rt; right_rows(&mut table, &first_rows())? == 13);
+    assert!(rt; right_rows(&mut table, &later_rows())? == 13);
+    assert!(rt; table.other_holder(0, 11) == Some(2));
+    assert!(rt; table.other_reader(0, 11) == None);
+    assert!(rt; table.seq(11) == 1);
+    assert!(rt; make(&mut table, 2, Call::DropAll)? == None);
     assert!(rt; !table.is_held(11));
-    assert_eq!(rt; table.seq(11), 2);
+    assert!(rt; table.seq(11) == 2);
     // the next lock of a node goes on from there
     let [_, _, right, _] = four_nodes();
     let asked = make(&mut table, 1, Call::Ask(right, Mode::Shared))?;
-    assert_eq!(rt; asked, GRANTED);
-    assert_eq!(rt; table.seq(12), 2);
+    assert!(rt; asked == GRANTED);
+    assert!(rt; table.seq(12) == 2);
     Ok(())
 }

@@ -104,9 +104,9 @@ fn has_moved(alloc: Global, nodes: &TreeNodes) -> Result<(usize, bool), AllocErr
 fn leaf_and_root(rt: HostRuntime) -> Result<(), Fail> {
     let alloc = rt.alloc();
     let mut nodes = TreeNodes::leaf(alloc, pointer(alloc, 1, 0)?)?;
-    assert_eq!(rt; root_counts(alloc, &nodes)?, (0, 0));
+    assert!(rt; root_counts(alloc, &nodes)? == (0, 0));
     divide_leaf(alloc, &mut nodes, &at(7))?;
-    assert_eq!(rt; has_halves(alloc, &nodes)?, (2, true));
-    assert_eq!(rt; has_moved(alloc, &nodes)?, (1, true));
+    assert!(rt; has_halves(alloc, &nodes)? == (2, true));
+    assert!(rt; has_moved(alloc, &nodes)? == (1, true));
     Ok(())
 }

@@ -88,7 +88,7 @@ fn births_lead_to_nodes(rt: HostRuntime) -> Result<(), Fail> {
         None => assert!(rt; false),
         Some(index) => {
             for (birth, name) in expected() {
-                assert_eq!(rt; index.find(birth).copied(), name);
+                assert!(rt; index.find(birth).copied() == name);
             }
         }
     }
@@ -133,7 +133,7 @@ fn births_change(rt: HostRuntime) -> Result<(), Fail> {
         Some(index) => {
             let mut index = index;
             let found = [None, None, Some(name(Btree::Inodes, 0, at(7)))];
-            assert_eq!(rt; exchange_twice(&mut index)?, (true, found));
+            assert!(rt; exchange_twice(&mut index)? == (true, found));
         }
     }
     Ok(())
@@ -147,7 +147,7 @@ fn one_birth_twice(rt: HostRuntime) -> Result<(), Fail> {
         trees.push(tree(alloc, place)?)?;
     }
     match BirthIndex::of(alloc, trees.as_slice()) {
-        Err(fault) => assert_eq!(rt; fault, IndexFault::SameBirth { birth: 12 }),
+        Err(fault) => assert!(rt; fault == IndexFault::SameBirth { birth: 12 }),
         Ok(_) => assert!(rt; false),
     }
     Ok(())
@@ -237,14 +237,11 @@ fn pointers_are_exchanged(rt: HostRuntime) -> Result<(), Fail> {
         Ok(nodes) => {
             let mut nodes = nodes;
             let before = exchange_two(alloc, &mut nodes, Btree::Dirents, Btree::Counters)?;
-            assert_eq!(rt; before, Some([12, 18]));
+            assert!(rt; before == Some([12, 18]));
             let dirents = name(Btree::Dirents, 0, Pos::GREATEST);
             let counters = name(Btree::Counters, 0, Pos::GREATEST);
-            assert_eq!(rt;
-                births_found(&nodes),
-                [None, None, Some(dirents), Some(counters)]
-            );
-            assert_eq!(rt; root_births(&nodes), [Some(31), Some(13), Some(32)]);
+            assert!(rt; births_found(&nodes) == [None, None, Some(dirents), Some(counters)]);
+            assert!(rt; root_births(&nodes) == [Some(31), Some(13), Some(32)]);
         }
     }
     Ok(())

@@ -6,8 +6,8 @@ ghost use Rattle.btree_map.specs.Trees.{AreRoots};
 ghost use Rattle.tree_nodes.specs.Levels.{IsNodeOf};
 
 use btree_map::{IndexFault, KeyMap};
-use dirty_nodes::NeedSplit;
 use core_state::{Answer, Event, Failure, Halt, Memory, NoSpace, Refusal, Stage, Work};
+use dirty_nodes::NeedSplit;
 use journal_ring::{FoundEntry, RingFull};
 use record_codec::EntryRecord;
 use std::alloc::{AllocError, Global};

@@ -25,7 +25,7 @@ impl From<AllocError> for NodeFault {
 }
 
 /// Why the blocks of a bucket don't hold a node.
-#[derive(Clone, Copy, Debug, PartialEq, Eq)]
+#[derive(Clone, Copy, PartialEq, Eq)]
 pub enum SetFault {
     /// This block of the bucket is at fault.
     BadBlock(u8),

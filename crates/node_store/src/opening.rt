@@ -6,7 +6,7 @@ use std::alloc::{AllocError, Global};
 use vol_types::{Bytes, Listing};
 
 /// A block that opened: its head and its payload.
-#[derive(Debug, Drop)]
+#[derive(Drop)]
 pub struct OpenBlock {
     pub head: Head,
     pub payload: Bytes,

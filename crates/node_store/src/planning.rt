@@ -12,7 +12,7 @@ use vol_digest::digest;
 use vol_types::{BLOCK_SIZE, Bytes, Duplicate, Layout, NodePtr, Places};
 
 /// The sealed blocks of a set of a node, which are the same for each of its places.
-#[derive(Debug, Drop)]
+#[derive(Drop)]
 pub struct Blocked {
     /// The first block of the node's bucket on each device.
     pub places: Places,

@@ -15,7 +15,7 @@ use vol_types::{Bytes, Duplicate, Listing};
 pub(crate) const BUCKET: u8 = 16;
 
 /// A set of a node as its bucket holds it.
-#[derive(Debug, Drop)]
+#[derive(Drop)]
 pub struct StoredSet {
     /// The block of the bucket at which it begins.
     pub block: u8,
@@ -27,7 +27,7 @@ pub struct StoredSet {
 }
 
 /// The sets that a bucket holds, in their order.
-#[derive(Debug, Drop)]
+#[derive(Drop)]
 pub struct StoredSets {
     pub sets: Listing<StoredSet>,
     /// The first block behind the last set.

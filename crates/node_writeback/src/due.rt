@@ -2,9 +2,9 @@ ghost use Rattle.std.specs.List.{filter};
 ghost use Rattle.std.specs.Prelude.{◌≡◌, slice_get};
 ghost use Rattle.node_writeback.specs.Due.{is_due, is_frozen, is_pinned_up_to, leaf_due};
 
+use crate::FrozenNode;
 use btree_map::KeyMap;
 use dirty_nodes::DirtyNodes;
-use crate::FrozenNode;
 use vol_types::Btree;
 
 /// The btrees in the order of their numbers.

@@ -18,13 +18,13 @@ ghost use Rattle.vol_types.specs.Positions.{greatest_pos, least_pos};
 ghost use Rattle.vol_types.specs.Sets.{set_length_of};
 ghost use Rattle.vol_types.specs.Standing.{MayStand};
 
+use crate::NodeWriter;
 use crate::durable::{durable_leaf, first_undurable};
 use btree_map::KeyMap;
 use bucket_pool::{Pool, PoolFault};
 use dirty_nodes::{DirtyNodes, NeedSplit};
 use journal_writer::{EntryQueue, Pending};
 use node_mem::{NodeMem, middles_halve, nodes_are_sets};
-use crate::NodeWriter;
 use record_codec::SetRecord;
 use std::alloc::{AllocError, Global};
 use vol_types::{Btree, Layout, NODE_LIMIT, NodePtr, Places};
@@ -33,7 +33,7 @@ use vol_types::{Btree, Layout, NODE_LIMIT, NodePtr, Places};
 const SESSION_BIRTHS: u64 = 1 << 32;
 
 /// Why a leaf isn't frozen.
-#[derive(Debug, PartialEq, Eq, Drop)]
+#[derive(PartialEq, Eq, Drop)]
 pub enum FreezeFault {
     /// No birth is left in the session, or a node that another program wrote has the next one.
     Spent,

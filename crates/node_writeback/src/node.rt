@@ -2,7 +2,7 @@ use node_store::Blocked;
 use vol_types::{Btree, NodePtr};
 
 /// A node that is frozen: what is written of it, and where.
-#[derive(Debug, Drop)]
+#[derive(Drop)]
 pub struct FrozenNode {
     pub btree: Btree,
     /// The birth of the node that it takes the place of.
@@ -14,7 +14,7 @@ pub struct FrozenNode {
 }
 
 /// A frozen node of which blocks are left to be written.
-#[derive(Debug, Drop)]
+#[derive(Drop)]
 pub struct UnfinishedNode {
     pub node: FrozenNode,
     /// How many blocks are written, fewer than 16.

@@ -5,11 +5,11 @@ ghost use Rattle.dirty_nodes.specs.Dirty.{moved_pin};
 ghost use Rattle.node_writeback.specs.Placing.{MayMove, exchange_of, exchanges_of, fresh_places, moved_pins, places_of};
 ghost use Rattle.vol_types.specs.Maps.{IsMap, value_at};
 
+use crate::FrozenNode;
 use birth_index::Exchange;
 use btree_map::NodeName;
 use bucket_pool::Pool;
 use dirty_nodes::DirtyNodes;
-use crate::FrozenNode;
 use std::alloc::{AllocError, Global};
 use vol_types::{Duplicate, NodePtr, Pos};
 

@@ -102,5 +102,5 @@ fn is_filled_and_copied(alloc: Global) -> bool {
 #[test]
 fn traces_are_copied(rt: HostRuntime) {
     assert!(rt; is_filled_and_copied(rt.alloc()));
-    assert_eq!(rt; Op::Subs.class(), Class::Reads);
+    assert!(rt; Op::Subs.class() == Class::Reads);
 }

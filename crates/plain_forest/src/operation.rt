@@ -1,5 +1,5 @@
 /// Why the forest refuses an operation.
-#[derive(Clone, Copy, Debug, PartialEq, Eq)]
+#[derive(Clone, Copy, PartialEq, Eq)]
 pub enum Cause {
     /// A name of the path, or its subvolume's name, is none that a volume keeps, or there are too many names.
     BadPath,

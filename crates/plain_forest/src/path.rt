@@ -12,7 +12,7 @@ pub const MAX_NAMES: usize = 32;
 pub const MAX_NAME_LENGTH: usize = 255;
 
 /// A place in the forest: a subvolume's name, and the names that lead from its root. Without names it is the root.
-#[derive(Debug, PartialEq, Eq, Drop)]
+#[derive(PartialEq, Eq, Drop)]
 pub struct Path {
     pub sub: Bytes,
     pub names: NameList,

@@ -294,7 +294,7 @@ fn first_wrong(alloc: Global, drawn: &mut Drawn) -> Result<Option<u64>, Fail> {
 fn drawn_files(rt: HostRuntime) -> Result<(), Fail> {
     let alloc = rt.alloc();
     let mut drawn = Drawn::new(alloc)?;
-    assert_eq!(rt; first_wrong(alloc, &mut drawn)?, None);
+    assert!(rt; first_wrong(alloc, &mut drawn)? == None);
     assert!(rt; digest_of(&drawn.shown) == 0xa4f8_b52a_2c39_c987);
     Ok(())
 }

@@ -147,7 +147,7 @@ fn write(
 }
 
 /// A change of the file in an id, where it has this size: two bytes at an offset, in one block, or a truncation.
-#[derive(Clone, Copy, Debug, PartialEq, Eq)]
+#[derive(Clone, Copy, PartialEq, Eq)]
 enum Step {
     Write {
         id: u32,
@@ -316,13 +316,13 @@ fn cut_and_grown_below_a_snapshot(rt: HostRuntime) -> Result<(), Fail> {
     let alloc = rt.alloc();
     let mut disk = no_disk(alloc);
     let (source, copy, found) = seen_after(alloc, &mut disk, &STEPS)?;
-    assert_eq!(rt; source, [Some((0x68, 0x69)), Some((0x6a, 0)), None]);
-    assert_eq!(rt; copy, [Some((0x68, 0)), None, None]);
-    assert_eq!(rt; found, (2, 1));
+    assert!(rt; source == [Some((0x68, 0x69)), Some((0x6a, 0)), None]);
+    assert!(rt; copy == [Some((0x68, 0)), None, None]);
+    assert!(rt; found == (2, 1));
     let (_, _, found) = seen_after(alloc, &mut disk, &FURTHER_ON)?;
-    assert_eq!(rt; found, (4, 1));
+    assert!(rt; found == (4, 1));
     let (_, copy, _) = seen_after(alloc, &mut disk, &OVER_ZEROS)?;
-    assert_eq!(rt; copy, [Some((0x68, 3)), None, None]);
+    assert!(rt; copy == [Some((0x68, 3)), None, None]);
     Ok(())
 }
 
@@ -341,7 +341,7 @@ const SIZES: [(u64, u64, u64); 8] = [
 #[test]
 fn truncations_in_steps(rt: HostRuntime) -> Result<(), Fail> {
     for (size, new, cut) in SIZES {
-        assert_eq!(rt; cut_size(size, new), cut);
+        assert!(rt; cut_size(size, new) == cut);
     }
     Ok(())
 }
@@ -400,10 +400,10 @@ fn shown_at_first(alloc: Global, disk: &mut Disk) -> Result<(u64, Option<(u8, u8
 fn hidden_by_holes(rt: HostRuntime) -> Result<(), Fail> {
     let alloc = rt.alloc();
     let mut disk = no_disk(alloc);
-    assert_eq!(rt; shown_at_first(alloc, &mut disk)?, (1, Some((1, 2))));
+    assert!(rt; shown_at_first(alloc, &mut disk)? == (1, Some((1, 2))));
     for (end, blocks, shown) in HOLES {
         let found = hidden_by(alloc, &mut disk, end, blocks)?;
-        assert_eq!(rt; found, (u64::from(blocks), shown));
+        assert!(rt; found == (u64::from(blocks), shown));
     }
     Ok(())
 }

@@ -108,7 +108,7 @@ fn draws(rt: HostRuntime) -> Result<(), Fail> {
         assert!(rt; client < 16);
         let mut view = counters(alloc, client, next)?;
         let found = draws_so(alloc, &mut view, client, wanted)?;
-        assert_eq!(rt; found, (true, 1), "client {client} at {next}");
+        assert!(rt; found == (true, 1), "client {client} at {next}");
     }
     Ok(())
 }
@@ -125,7 +125,7 @@ fn missing_counter(rt: HostRuntime) -> Result<(), Fail> {
 }
 
 /// What an update does to an inode: it puts one, hides it, or takes its key away.
-#[derive(Clone, Copy, Debug, PartialEq, Eq)]
+#[derive(Clone, Copy, PartialEq, Eq)]
 enum Step {
     Put,
     Hidden,

@@ -41,7 +41,7 @@ fn links_of(alloc: Global, names: &[u8]) -> Result<LinkList, AllocError> {
 }
 
 /// What an id has of its own: nothing, a whiteout, or some names.
-#[derive(Clone, Copy, Debug, PartialEq, Eq)]
+#[derive(Clone, Copy, PartialEq, Eq)]
 enum Own {
     Nothing,
     Whiteout,
@@ -140,7 +140,7 @@ fn name_a(alloc: Global) -> Result<Bytes, AllocError> {
 }
 
 /// What adding `a` comes to: its names are put, or it isn't added.
-#[derive(Clone, Copy, Debug, PartialEq, Eq)]
+#[derive(Clone, Copy, PartialEq, Eq)]
 enum Added {
     Put(&'static [u8]),
     Exists,

@@ -15,7 +15,7 @@ use vol_types::{Btree, FileKind, Inode, Keys, Pos, Value};
 const NUMBER: u64 = 5;
 
 /// What an id has of its own there.
-#[derive(Clone, Copy, Debug, PartialEq, Eq)]
+#[derive(Clone, Copy, PartialEq, Eq)]
 enum Own {
     Nothing,
     Whiteout,
@@ -236,7 +236,7 @@ fn long_chains(rt: HostRuntime) -> Result<(), Fail> {
         (8192, 50),
         (8192, 5000),
     ] {
-        assert_eq!(rt; first_wrong(rt.alloc(), ids, one_of)?, None);
+        assert!(rt; first_wrong(rt.alloc(), ids, one_of)? == None);
     }
     Ok(())
 }

@@ -19,7 +19,7 @@ use std::alloc::{AllocError, Global};
 use vol_types::{Bytes, NodePtr, Roots, Update, Updates};
 
 /// An entry of the journal.
-#[derive(Debug, PartialEq, Eq, Drop)]
+#[derive(PartialEq, Eq, Drop)]
 pub struct EntryRecord {
     pub sequence: u64,
     /// The oldest entry that is needed besides this one, by its sequence.

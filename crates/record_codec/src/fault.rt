@@ -6,7 +6,7 @@ use key_codec::KeyFault;
 use std::alloc::{AllocError, AllocFailed};
 
 /// Why bytes aren't a set or an entry: the first fault from the left.
-#[derive(Clone, Copy, Debug, PartialEq, Eq)]
+#[derive(Clone, Copy, PartialEq, Eq)]
 pub enum RecordFault {
     /// The bytes end too early, wherever they do: in a key or in another field.
     Short,

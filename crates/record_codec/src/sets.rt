@@ -16,7 +16,7 @@ use std::alloc::{AllocError, Global};
 use vol_types::{Btree, Bytes, Key, Keys, Pos, Value};
 
 /// A set of keys of a node, which its bucket holds.
-#[derive(Debug, PartialEq, Eq, Drop)]
+#[derive(PartialEq, Eq, Drop)]
 pub struct SetRecord {
     /// The birth of the node.
     pub birth: u64,
@@ -31,7 +31,7 @@ pub struct SetRecord {
 }
 
 /// What a set says of its node, before its keys.
-#[derive(Clone, Copy, Debug, PartialEq, Eq)]
+#[derive(Clone, Copy, PartialEq, Eq)]
 pub struct SetHead {
     /// The birth of the node.
     pub birth: u64,

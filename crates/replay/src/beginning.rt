@@ -21,7 +21,7 @@ use vol_types::{BLOCK_SIZE, Bytes, Layout};
 const LAST_SESSION: u64 = 4_294_967_295;
 
 /// Why no session was begun.
-#[derive(Clone, Copy, Debug, PartialEq, Eq)]
+#[derive(Clone, Copy, PartialEq, Eq)]
 pub enum BeginFault {
     /// The volume has had its last session: no number is left.
     Spent,

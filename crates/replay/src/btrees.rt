@@ -17,7 +17,7 @@ use tree_nodes::{LevelNodes, TreeNodes};
 use vol_types::{Births, Ends, Listing, NodePtr, Pos, Value};
 
 /// Why lists of what was found make no btrees.
-#[derive(Clone, Copy, Debug, PartialEq, Eq)]
+#[derive(Clone, Copy, PartialEq, Eq)]
 pub enum Unmade {
     /// They aren't those of a key map.
     NotBtrees,

@@ -16,9 +16,9 @@ ghost use Rattle.replay.specs.Volumes.{found_in};
 use crate::btrees::{Unmade, key_map};
 use crate::{Loaded, found_btrees_are_a_key_map};
 use dev_model::Devices;
+use image_reader::{FoundVolume, read_plain};
 use image_view::MountFault;
 use journal_ring::FoundEntry;
-use image_reader::{FoundVolume, read_plain};
 use std::alloc::Global;
 use vol_types::{Listing, Place};
 

@@ -13,7 +13,7 @@ use std::alloc::{AllocError, AllocFailed, Global};
 use vol_types::Listing;
 
 /// A line of a script that is to be run.
-#[derive(Debug, PartialEq, Eq, Drop)]
+#[derive(PartialEq, Eq, Drop)]
 pub struct Line {
     /// Its number, counted from 1 over all lines of the text.
     pub line: u32,
@@ -27,7 +27,7 @@ pub struct Line {
 pub type Script = Listing<Line>;
 
 /// Why a line can't be run.
-#[derive(Clone, Copy, Debug, PartialEq, Eq)]
+#[derive(Clone, Copy, PartialEq, Eq)]
 pub enum LineFault {
     /// It has no verb that the program runs.
     BadVerb,
@@ -40,7 +40,7 @@ pub enum LineFault {
 }
 
 /// Why a text is no script.
-#[derive(Clone, Copy, Debug, PartialEq, Eq)]
+#[derive(Clone, Copy, PartialEq, Eq)]
 pub enum ScriptFault {
     /// The first line that can't be run, by its number, and why.
     Bad { line: u32, cause: LineFault },
@@ -49,7 +49,7 @@ pub enum ScriptFault {
 }
 
 /// Why a part of a line can't be read.
-#[derive(Clone, Copy, Debug, PartialEq, Eq)]
+#[derive(Clone, Copy, PartialEq, Eq)]
 pub enum ReadFault {
     /// The line has the fault.
     Faulty(LineFault),

@@ -3,7 +3,7 @@ ghost use Rattle.script_text.specs.Verbs.{is_supported, verb_word};
 ghost use Rattle.script_text.specs.declared.verb.Verb.{Verb as AVerb};
 
 /// A verb of a script.
-#[derive(Clone, Copy, Debug, PartialEq, Eq)]
+#[derive(Clone, Copy, PartialEq, Eq)]
 pub enum Verb {
     Mkdir,
     Mkfile,

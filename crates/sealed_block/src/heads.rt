@@ -18,7 +18,7 @@ pub const SESSION: u8 = 4;
 
 /// What a block says of itself. A kind, an owner and a number tell where the block belongs; what they count depends on
 /// the kind.
-#[derive(Clone, Copy, Debug, PartialEq, Eq)]
+#[derive(Clone, Copy, PartialEq, Eq)]
 pub struct Head {
     /// What the record is: one of the four constants of kinds.
     pub kind: u8,

@@ -30,7 +30,7 @@ static WAYS: [(bool, Pick); 6] = [
 ];
 
 /// Which device call fails, counted from the first one of the session; whether all later ones fail too; and what is left of what isn't settled.
-#[derive(Clone, Copy, Debug, PartialEq, Eq)]
+#[derive(Clone, Copy, PartialEq, Eq)]
 struct Case {
     call: u64,
     stays: bool,
@@ -61,7 +61,7 @@ struct Left {
 }
 
 /// What was tried: how many calls, each on a volume of its own.
-#[derive(Clone, Copy, Debug, PartialEq, Eq)]
+#[derive(Clone, Copy, PartialEq, Eq)]
 struct Tally {
     calls: u64,
     sessions: u64,
@@ -327,7 +327,7 @@ fn what_is_left_of_one_device_has_what_was_acknowledged(rt: HostRuntime) -> Resu
         newer: 22,
         files: 4765,
     };
-    assert_eq!(rt; tried(rt.alloc(), 1, 7)?, (None, expected));
+    assert!(rt; tried(rt.alloc(), 1, 7)? == (None, expected));
     Ok(())
 }
 
@@ -339,6 +339,6 @@ fn what_is_left_of_two_devices_has_what_was_acknowledged(rt: HostRuntime) -> Res
         newer: 29,
         files: 3938,
     };
-    assert_eq!(rt; tried(rt.alloc(), 2, 17)?, (None, expected));
+    assert!(rt; tried(rt.alloc(), 2, 17)? == (None, expected));
     Ok(())
 }

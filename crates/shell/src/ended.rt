@@ -1,7 +1,6 @@
 use crate::early_end::EarlyEnd;
 use crate::shorts::Shorts;
-use forest_ops::Trace;
-use forest_ops::Acks;
+use forest_ops::{Acks, Trace};
 
 /// How a run ended.
 #[derive(Drop)]

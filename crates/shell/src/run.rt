@@ -19,9 +19,7 @@ use crate::prepare::{Plan, prepare};
 use crate::shorts::Shorts;
 use crate::task::{Task, read_task};
 use dev_model::{Devices, Gate};
-use forest_ops::Trace;
-use forest_ops::Acks;
-use vol_session::{fresh_volumes_may_run, runs_are_safe};
+use forest_ops::{Acks, Trace};
 use script_text::Line;
 use std::alloc::Global;
 use std::marker::Brand;
@@ -29,6 +27,7 @@ use std::rc::RcStr;
 use text_io::{Sink, Source, give_all};
 use vol_core::Opening;
 use vol_format::format;
+use vol_session::{fresh_volumes_may_run, runs_are_safe};
 use vol_types::{Bytes, Layout};
 use volume::{Finished, VolState};
 

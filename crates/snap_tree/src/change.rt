@@ -13,7 +13,7 @@ use std::collections::BTreeMap;
 use vol_types::{Btree, Snap, Update, Updates, Value};
 
 /// The record that an id had, and the one that it gets.
-#[derive(Clone, Copy, Debug)]
+#[derive(Clone, Copy)]
 pub(crate) struct Change {
     pub(crate) old: Option<Snap>,
     pub(crate) new: Option<Snap>,

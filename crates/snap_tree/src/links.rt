@@ -15,7 +15,7 @@ use vol_types::Snap;
 pub(crate) const LEVELS: usize = 32;
 
 /// The ancestors 1, 2, 4 and so on above an id, and 0 where there is none.
-#[derive(Clone, Copy, Debug)]
+#[derive(Clone, Copy)]
 pub(crate) struct Links {
     above: [u32; 32],
 }

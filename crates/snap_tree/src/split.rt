@@ -4,7 +4,7 @@ ghost use Rattle.snap_tree.specs.Splits.{snap_update, leaf_under, interior_over}
 use vol_types::{Btree, Pos, Snap, SnapState, Update, Updates, Value};
 
 /// The two ids that a snapshot draws, and what it does to the records of ids.
-#[derive(Debug, Drop)]
+#[derive(Drop)]
 pub struct Split {
     /// The id in which the source goes on.
     pub source: u32,

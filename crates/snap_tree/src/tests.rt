@@ -104,7 +104,7 @@ const ANCESTORS: [(u32, u32, bool); 12] = [
 fn ancestors(rt: HostRuntime) -> Result<(), Fail> {
     let tree = tree_of(rt.alloc(), &TREES)?;
     for (a, b, stands) in ANCESTORS {
-        assert_eq!(rt; tree.is_ancestor(a, b), stands);
+        assert!(rt; tree.is_ancestor(a, b) == stands);
     }
     Ok(())
 }
@@ -155,9 +155,9 @@ const COPIES: [(u32, u32, Result<u32, SnapFault>); 6] = [
 fn splits(rt: HostRuntime) -> Result<(), Fail> {
     let alloc = rt.alloc();
     let tree = tree_of(alloc, &TREES)?;
-    assert_eq!(rt; is_tree_split(alloc, &tree), Ok(true));
+    assert!(rt; is_tree_split(alloc, &tree) == Ok(true));
     for (id, next, copy) in COPIES {
-        assert_eq!(rt; copy_of(&tree, id, next), copy);
+        assert!(rt; copy_of(&tree, id, next) == copy);
     }
     Ok(())
 }
@@ -242,13 +242,13 @@ fn are_records(tree: &SnapTree, rows: &[Row]) -> bool {
 fn records(rt: HostRuntime) -> Result<(), Fail> {
     let alloc = rt.alloc();
     let tree = tree_of(alloc, &TREES)?;
-    assert_eq!(rt; tree.len(), 6);
-    assert_eq!(rt; tree.live_leaves(), 3);
+    assert!(rt; tree.len() == 6);
+    assert!(rt; tree.live_leaves() == 3);
     assert!(rt; !tree.is_empty());
     assert!(rt; SnapTree::new(alloc).is_empty());
     assert!(rt; are_records(&tree, &TREES));
     for (id, parent) in [(95, Some(98)), (98, Some(100)), (97, None), (94, None)] {
-        assert_eq!(rt; tree.parent(id), parent);
+        assert!(rt; tree.parent(id) == parent);
     }
     Ok(())
 }
@@ -315,7 +315,7 @@ fn updates(rt: HostRuntime) -> Result<(), Fail> {
     let alloc = rt.alloc();
     let mut tree = tree_of(alloc, &TREES)?;
     let gone = four_go(alloc, &mut tree);
-    assert_eq!(rt; gone, Ok((true, [true; 3], 8, 5)));
+    assert!(rt; gone == Ok((true, [true; 3], 8, 5)));
     Ok(())
 }
 
@@ -345,7 +345,7 @@ fn refused_updates(rt: HostRuntime) -> Result<(), Fail> {
     let alloc = rt.alloc();
     let mut tree = tree_of(alloc, &TREES)?;
     for (row, gone) in REFUSED {
-        assert_eq!(rt; are_refused(alloc, &mut tree, row, gone), Ok(true));
+        assert!(rt; are_refused(alloc, &mut tree, row, gone) == Ok(true));
     }
     Ok(())
 }
@@ -463,7 +463,7 @@ fn many_ids(rt: HostRuntime) -> Result<(), Fail> {
     let alloc = rt.alloc();
     // 4,096 ids up are one link, and 13 are three
     for (is_long, links) in [(true, 1), (false, 3)] {
-        assert_eq!(rt; searched(alloc, is_long)?, (None, links, 4097));
+        assert!(rt; searched(alloc, is_long)? == (None, links, 4097));
     }
     Ok(())
 }
@@ -541,8 +541,8 @@ fn untold_in(tree: &mut SnapTree, cases: &[TakenOut]) -> Result<Option<u32>, Sna
 #[test]
 fn removals(rt: HostRuntime) -> Result<(), Fail> {
     let alloc = rt.alloc();
-    assert_eq!(rt; first_untold(alloc, true, &LONG)?, None);
-    assert_eq!(rt; first_untold(alloc, false, &WIDE)?, None);
+    assert!(rt; first_untold(alloc, true, &LONG)? == None);
+    assert!(rt; first_untold(alloc, false, &WIDE)? == None);
     Ok(())
 }
 
@@ -562,7 +562,7 @@ fn root_links(alloc: Global, tree: &SnapTree) -> Result<usize, SnapFault> {
 fn few_links(rt: HostRuntime) -> Result<(), Fail> {
     let alloc = rt.alloc();
     let tree = tree_of(alloc, &TREES)?;
-    assert_eq!(rt; split_links(&tree), Ok(2));
-    assert_eq!(rt; root_links(alloc, &tree), Ok(1));
+    assert!(rt; split_links(&tree) == Ok(2));
+    assert!(rt; root_links(alloc, &tree) == Ok(1));
     Ok(())
 }

@@ -1,12 +1,12 @@
 //! What is found in an image, as numbers that another program can compute; and whether it was loaded as it was read.
 
-use image_view::MountFault;
 use image_reader::{FoundBtree, FoundVolume};
+use image_view::MountFault;
 use replay::Loaded;
 use vol_types::{Btree, Pos, Value};
 
 /// What was found. The first number is that of the fault, or 0.
-#[derive(Clone, Copy, Debug, PartialEq, Eq)]
+#[derive(Clone, Copy, PartialEq, Eq)]
 pub struct Outcome(pub u64, pub u64, pub u64);
 
 /// A number that hangs on all before it.

@@ -4,8 +4,8 @@ use crate::outcomes::{Outcome, do_agree, mixed, outcome_of};
 use crate::spoiling::{restore, spoil};
 use crate::tables::volume;
 use dev_model::MemDevices;
-use image_view::MountFault;
 use image_reader::read_plain;
+use image_view::MountFault;
 use replay::load;
 use std::alloc::Global;
 use std::test::Fail;
@@ -44,8 +44,8 @@ fn spoiled_images(rt: HostRuntime) -> Result<(), Fail> {
         all = mixed(mixed(mixed(all, fault), first), second);
         restore(alloc, &mut devices, &mut kept, &touched)?;
     }
-    assert_eq!(rt; counts, [102, 37, 23, 20, 25, 23, 27, 43]);
-    assert_eq!(rt; all, 0xf9b9_495d_b708_6691);
+    assert!(rt; counts == [102, 37, 23, 20, 25, 23, 27, 43]);
+    assert!(rt; all == 0xf9b9_495d_b708_6691);
     Ok(())
 }
 
@@ -74,10 +74,10 @@ fn failed_reads(rt: HostRuntime) -> Result<(), Fail> {
         (871, 1),
     ] {
         let fault = Some(MountFault::DeviceFault(dev));
-        assert_eq!(rt; load_failing(alloc, read)?, (fault, read.wrapping_add(1)));
+        assert!(rt; load_failing(alloc, read)? == (fault, read.wrapping_add(1)));
     }
     for read in [520u64, 536, 872] {
-        assert_eq!(rt; load_failing(alloc, read)?, (None, 872));
+        assert!(rt; load_failing(alloc, read)? == (None, 872));
     }
     Ok(())
 }

@@ -27,7 +27,7 @@ pub trait Source {
 }
 
 /// Why not all bytes of a source were taken.
-#[derive(Clone, Copy, Debug, PartialEq, Eq)]
+#[derive(Clone, Copy, PartialEq, Eq)]
 pub enum TakeFault {
     /// A call of the source failed.
     ReadFault,

@@ -15,7 +15,7 @@ use std::collections::BTreeMap;
 use vol_types::{Listing, Pos, Value, wide};
 
 /// The end of a leaf, and how many bytes it takes on disk as one set, or 2^32 - 1 where they are more.
-#[derive(Clone, Copy, Debug, PartialEq, Eq)]
+#[derive(Clone, Copy, PartialEq, Eq)]
 pub struct LeafSize {
     pub end: Pos,
     pub size: u32,

@@ -13,7 +13,7 @@ use std::marker::Model;
 use vol_types::{Duplicate, Listing, NodePtr, Pos, wide};
 
 /// Levels that aren't those of a btree.
-#[derive(Clone, Copy, Debug, PartialEq, Eq)]
+#[derive(Clone, Copy, PartialEq, Eq)]
 pub struct NotATree;
 
 /// The nodes of a btree, level by level, of which level 0 has the leaves. There are at most 8 levels. Each look costs a

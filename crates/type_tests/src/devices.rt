@@ -65,7 +65,7 @@ fn a_crash_leaves_what_is_picked(rt: HostRuntime) -> Result<(), Fail> {
     for (failing, expected) in rows.iter() {
         for (pick, bytes) in PICKS.iter().zip(expected.iter()) {
             let found = left(alloc, &[*failing], *pick)?;
-            assert_eq!(rt; found, (Some(*bytes), Some((0, 0))));
+            assert!(rt; found == (Some(*bytes), Some((0, 0))));
         }
     }
     Ok(())
@@ -126,9 +126,9 @@ fn a_failed_write_leaves_what_it_is_to(rt: HostRuntime) -> Result<(), Fail> {
         [(2, 1), (2, 1), (1, 1), (2, 1)],
     ];
     for (leaves, expected) in PICKS.iter().zip(rows.iter()) {
-        assert_eq!(rt; left_by_failure(alloc, *leaves)?, Some(expected[0]));
+        assert!(rt; left_by_failure(alloc, *leaves)? == Some(expected[0]));
         for (pick, bytes) in PICKS.iter().zip(expected[1..].iter()) {
-            assert_eq!(rt; left_by_crash(alloc, *leaves, *pick)?, Some(*bytes));
+            assert!(rt; left_by_crash(alloc, *leaves, *pick)? == Some(*bytes));
         }
     }
     Ok(())
@@ -167,7 +167,7 @@ fn calls_fail_where_they_are_to(rt: HostRuntime) -> Result<(), Fail> {
     let alloc = rt.alloc();
     for failing in 0..4 {
         let fails = [failing == 0, failing == 1, failing == 2, failing == 3, true];
-        assert_eq!(rt; outcome(alloc, failing)?, (fails, 5, 0));
+        assert!(rt; outcome(alloc, failing)? == (fails, 5, 0));
     }
     Ok(())
 }
@@ -198,7 +198,7 @@ fn new_blocks_may_be_gone_until_a_flush(rt: HostRuntime) -> Result<(), Fail> {
     ];
     for (failing, expected) in rows.iter() {
         for (pick, bytes) in PICKS.iter().zip(expected.iter()) {
-            assert_eq!(rt; left_of_new(alloc, *failing, *pick)?, *bytes);
+            assert!(rt; left_of_new(alloc, *failing, *pick)? == *bytes);
         }
     }
     Ok(())
@@ -211,7 +211,7 @@ fn a_patch_stays(rt: HostRuntime) -> Result<(), Fail> {
     let mut devices = MemDevices::blank(alloc, &[4])?;
     devices.patch(&Place { dev: 0, block: 1 }, &twos)?;
     let mut after = devices.restart(Pick::NoneWritten)?;
-    assert_eq!(rt; ends(&mut after, alloc, 0, 1)?, Some((2, 2)));
+    assert!(rt; ends(&mut after, alloc, 0, 1)? == Some((2, 2)));
     NoGate.at(0, 1);
     Ok(())
 }

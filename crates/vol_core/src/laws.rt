@@ -2,9 +2,12 @@ ghost use Rattle.vol_core.specs.CoreLaws.{CoreLaws, FoundLaws};
 
 use birth_index::exchanges_are_kept;
 use bucket_pool::nodes_keep_their_buckets;
-use crash_safety::{entries_of_leaves_are_safe, leaves_are_written_safely};
+use crash_safety::{
+    entries_are_written_safely, entries_of_leaves_are_safe,
+    entries_with_new_nodes_are_written_safely, flushed_devices_are_settled,
+    leaves_are_written_safely,
+};
 use dirty_nodes::changed_pins_are_known;
-use journal_writer::waiting_changes_lead_from_durable_keys;
 use image_view::{
     crashes_leave_the_next_entry_or_not, mending_changes_nothing, needed_entries_are_counted,
     updates_of_leaves_join_the_keys,
@@ -12,10 +15,7 @@ use image_view::{
 use journal_ring::{
     leading_entries_are_needed, mended_entries_stay_whole, whole_entries_are_made_of_blocks,
 };
-use crash_safety::{
-    entries_are_written_safely, entries_with_new_nodes_are_written_safely,
-    flushed_devices_are_settled,
-};
+use journal_writer::waiting_changes_lead_from_durable_keys;
 use node_mem::keys_are_merged;
 use node_writeback::leaves_are_put_in_place;
 use replay::{found_btrees_are_a_key_map, updates_change_nodes};

@@ -37,11 +37,11 @@ mod tests {
     // The digest of `abc` stands in FIPS 180-4's examples; that of `a` was computed by coreutils' sha256sum.
     #[test]
     fn known_digests(rt: HostRuntime) -> Result<(), Fail> {
-        assert_eq!(rt; short(b"abc"), 0xba78_16bf_8f01_cfea);
-        assert_eq!(rt; short(b"a"), 0xca97_8112_ca1b_bdca);
-        assert_eq!(rt; slot(b"a"), 0x654b_c089_650d_dee5);
+        assert!(rt; short(b"abc") == 0xba78_16bf_8f01_cfea);
+        assert!(rt; short(b"a") == 0xca97_8112_ca1b_bdca);
+        assert!(rt; slot(b"a") == 0x654b_c089_650d_dee5);
         let whole = digest(b"abc");
-        assert_eq!(rt; whole.get(31).copied(), Some(0xad));
+        assert!(rt; whole.get(31).copied() == Some(0xad));
         Ok(())
     }
 }

@@ -21,7 +21,7 @@ use vol_types::{
 
 /// The blocks that metadata devices of a fresh volume have besides zeros, superblocks and the session: the block of the first
 /// entry, and the buckets of the nine roots.
-#[derive(Debug, Drop)]
+#[derive(Drop)]
 pub struct FreshBlocks {
     pub entry: Bytes,
     pub roots: Listing<Blocked>,

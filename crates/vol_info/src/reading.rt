@@ -16,9 +16,9 @@ use crate::btrees::facts_of_btrees;
 use crate::facts::{Facts, JournalFacts};
 use crate::space::facts_of_devices;
 use dev_model::Devices;
+use image_reader::{FoundVolume, read_plain};
 use image_view::MountFault;
 use journal_ring::FoundEntry;
-use image_reader::{FoundVolume, read_plain};
 use std::alloc::{AllocError, Global};
 
 /// What is told of the volume in the image that the devices hold, or the first fault of that. It reads what `read_plain` does, writes

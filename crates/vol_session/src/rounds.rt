@@ -7,10 +7,9 @@ ghost use Rattle.vol_session.specs.Left.{works_left};
 ghost use Rattle.vol_session.specs.Writeback.{MayStopSync};
 ghost use Rattle.vol_session.specs.Rounds.{Goes, GoesWell, IsDue, IsNext, IsOfDue, IsOfJournal, IsSeen, event_of, outcome_of, stop_of};
 
-use crate::Stop;
+use crate::{Session, Stop};
 use dev_model::Devices;
 use vol_core::{Answer, Event, Opening, Refusal, Stage, Work};
-use crate::Session;
 
 /// What is kept of what is in memory holds.
 pub(crate) fn see<D: Devices, O: Opening>(session: &Session<D, O>)

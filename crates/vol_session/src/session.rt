@@ -24,11 +24,10 @@ ghost use Rattle.vol_session.specs.Survivors.{BeginsWell, Survive};
 ghost use Rattle.vol_types.specs.declared.positions.Btree.TheVariants.{Extents};
 
 use dev_model::Devices;
+use forest_ops::{Ack, Acks, Entry, Op, Reply, Trace};
 use journal_writer::waiting_changes_lead_from_durable_keys;
-use forest_ops::{Entry, Op, Reply, Trace};
 use node_writeback::leaves_are_put_in_place;
 use replay::{Loaded, found_btrees_are_a_key_map};
-use forest_ops::{Ack, Acks};
 use std::alloc::{AllocError, Global};
 use std::marker::Model;
 use vol_core::{Answer, Core, Event, Memory, Opening, Unopened};

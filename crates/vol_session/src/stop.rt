@@ -1,7 +1,7 @@
 use vol_core::{Halt, NoSpace, Refusal};
 
 /// Why a work ends before it is done.
-#[derive(Debug, PartialEq, Eq, Drop)]
+#[derive(PartialEq, Eq, Drop)]
 pub enum Stop {
     /// A write or a flush of this device failed, so that the session stops writing.
     DeviceFault(u8),

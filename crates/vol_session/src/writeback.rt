@@ -4,11 +4,10 @@ ghost use Rattle.dev_model.specs.Frames.{GoOn, after_writes};
 ghost use Rattle.vol_core.specs.Rested.{IsRested};
 ghost use Rattle.vol_session.specs.Writeback.{IsWorked, MayStopSync, StopsWith, stopped_by};
 
-use crate::Stop;
 use crate::rounds::{ask, is_synced, make, next_stage};
+use crate::{Session, Stop};
 use dev_model::Devices;
 use vol_core::{Opening, Stage, Work};
-use crate::Session;
 
 /// Makes all commits durable: entries are written and flushed until they are. It costs what is written, and a flush of each device that has something
 /// unsettled. Where client 0 has no operation and all commits are durable already, no device is called, also where the session has stopped writing.

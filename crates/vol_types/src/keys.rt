@@ -7,7 +7,7 @@ use crate::{Btree, Duplicate, LinkList, Pos, SubList, Value};
 use std::alloc::{AllocError, Global};
 
 /// A position with its value, or with none where it is removed.
-#[derive(Debug, PartialEq, Eq, Drop)]
+#[derive(PartialEq, Eq, Drop)]
 pub struct Key {
     pub pos: Pos,
     pub value: Option<Value>,
@@ -23,7 +23,7 @@ impl Duplicate for Key {
 }
 
 /// What a commit does to one position of a btree. Level 0 is that of the leaves.
-#[derive(Debug, PartialEq, Eq, Drop)]
+#[derive(PartialEq, Eq, Drop)]
 pub struct Update {
     pub btree: Btree,
     pub level: u8,

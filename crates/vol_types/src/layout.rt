@@ -7,7 +7,7 @@ use crate::{BUCKET_BLOCKS, Blocks, Duplicate, Places, Reads};
 use std::alloc::{AllocError, Global};
 
 /// How a volume lies on its devices.
-#[derive(Debug, PartialEq, Eq, Drop)]
+#[derive(PartialEq, Eq, Drop)]
 pub struct Layout {
     pub id: [u8; 16],
     /// For each device its number of blocks.

@@ -93,7 +93,7 @@ pub type Ends = Listing<NodeEnd>;
 pub type Births = Listing<u64>;
 
 /// A name with a flag. What the flag means depends on the list that it stands in.
-#[derive(Debug, PartialEq, Eq, Drop)]
+#[derive(PartialEq, Eq, Drop)]
 pub struct FlaggedName {
     pub name: Bytes,
     pub flag: u8,

@@ -16,7 +16,7 @@ impl Duplicate for Place {
 
 /// Where a copy of an extent lies: its first block, with the generation of that block's bucket. A bucket that was
 /// given to others since has a greater generation.
-#[derive(Clone, Copy, Debug, PartialEq, Eq, PartialOrd, Ord)]
+#[derive(Clone, Copy, PartialEq, Eq, PartialOrd, Ord)]
 pub struct Pointer {
     pub place: Place,
     pub generation: u32,
@@ -29,7 +29,7 @@ impl Duplicate for Pointer {
 }
 
 /// Where a node of a btree lies. A place is the first block of a bucket.
-#[derive(Debug, PartialEq, Eq, Drop)]
+#[derive(PartialEq, Eq, Drop)]
 pub struct NodePtr {
     pub birth: u64,
     pub level: u8,
@@ -47,7 +47,7 @@ impl Duplicate for NodePtr {
 }
 
 /// Up to where a node's bucket is written: the node's birth, and the first block after its last set.
-#[derive(Clone, Copy, Debug, PartialEq, Eq)]
+#[derive(Clone, Copy, PartialEq, Eq)]
 pub struct NodeEnd {
     pub birth: u64,
     pub block: u8,

@@ -5,7 +5,7 @@ use std::alloc::{AllocError, Global};
 
 /// Where a key stands in its btree. Positions are in the order of their inodes, then of their offsets, then of their
 /// snapshots.
-#[derive(Clone, Copy, Debug, PartialEq, Eq, PartialOrd, Ord)]
+#[derive(Clone, Copy, PartialEq, Eq, PartialOrd, Ord)]
 pub struct Pos {
     pub inode: u64,
     pub offset: u64,
@@ -65,7 +65,7 @@ impl Duplicate for Pos {
 }
 
 /// The btrees of a volume.
-#[derive(Clone, Copy, Debug, PartialEq, Eq, PartialOrd, Ord)]
+#[derive(Clone, Copy, PartialEq, Eq, PartialOrd, Ord)]
 pub enum Btree {
     /// What the blocks of files hold, under the file's number and the end of the extent.
     Extents,

@@ -2,7 +2,7 @@ use crate::{Btree, Duplicate, Keys, Pos};
 use std::alloc::{AllocError, Global};
 
 /// What a transaction asks a btree for.
-#[derive(Clone, Copy, Debug, PartialEq, Eq)]
+#[derive(Clone, Copy, PartialEq, Eq)]
 pub enum Query {
     /// The key at a position.
     At { btree: Btree, pos: Pos },
@@ -19,7 +19,7 @@ impl Duplicate for Query {
 }
 
 /// A query with its answer, which is empty where there is no such key.
-#[derive(Debug, PartialEq, Eq, Drop)]
+#[derive(PartialEq, Eq, Drop)]
 pub struct Look {
     pub query: Query,
     pub answer: Keys,

@@ -7,7 +7,7 @@ use crate::{Btree, Bytes, Digests, Duplicate, LinkList, NodePtr, Pointers, Pos, 
 use std::alloc::{AllocError, Global};
 
 /// What a number of an inode stands for.
-#[derive(Clone, Copy, Debug, PartialEq, Eq)]
+#[derive(Clone, Copy, PartialEq, Eq)]
 pub enum FileKind {
     File,
     Directory,
@@ -44,7 +44,7 @@ impl Duplicate for FileKind {
 }
 
 /// What a snapshot id is in its tree.
-#[derive(Clone, Copy, Debug, PartialEq, Eq)]
+#[derive(Clone, Copy, PartialEq, Eq)]
 pub enum SnapState {
     /// A subvolume's current id.
     LiveLeaf,
@@ -87,7 +87,7 @@ impl Duplicate for SnapState {
 }
 
 /// A file or a directory. A directory has one link and the size 0.
-#[derive(Clone, Copy, Debug, PartialEq, Eq)]
+#[derive(Clone, Copy, PartialEq, Eq)]
 pub struct Inode {
     pub kind: FileKind,
     pub links: u32,
@@ -102,7 +102,7 @@ impl Duplicate for Inode {
 }
 
 /// A name of a directory, and the inode that it leads to.
-#[derive(Debug, PartialEq, Eq, Drop)]
+#[derive(PartialEq, Eq, Drop)]
 pub struct Link {
     pub number: u64,
     pub kind: FileKind,
@@ -120,7 +120,7 @@ impl Duplicate for Link {
 }
 
 /// Blocks of a file that are written: where their copies lie, and the digest of each block.
-#[derive(Debug, PartialEq, Eq, Drop)]
+#[derive(PartialEq, Eq, Drop)]
 pub struct Extent {
     pub pointers: Pointers,
     pub digests: Digests,
@@ -136,7 +136,7 @@ impl Duplicate for Extent {
 }
 
 /// A subvolume: its current snapshot id, the number of its root directory, and its name.
-#[derive(Debug, PartialEq, Eq, Drop)]
+#[derive(PartialEq, Eq, Drop)]
 pub struct Sub {
     pub id: u32,
     pub root: u64,
@@ -156,7 +156,7 @@ impl Duplicate for Sub {
 }
 
 /// A snapshot id in its tree. 0 stands for no parent and for no child.
-#[derive(Clone, Copy, Debug, PartialEq, Eq)]
+#[derive(Clone, Copy, PartialEq, Eq)]
 pub struct Snap {
     pub parent: u32,
     pub first_child: u32,
@@ -171,7 +171,7 @@ impl Duplicate for Snap {
 }
 
 /// A bucket that was used: its generation, and how many of its blocks are.
-#[derive(Clone, Copy, Debug, PartialEq, Eq)]
+#[derive(Clone, Copy, PartialEq, Eq)]
 pub struct Live {
     pub generation: u32,
     pub blocks: u8,
@@ -184,7 +184,7 @@ impl Duplicate for Live {
 }
 
 /// What stands at a position.
-#[derive(Debug, PartialEq, Eq, Drop)]
+#[derive(PartialEq, Eq, Drop)]
 pub enum Value {
     Inode(Inode),
     /// The names of a directory that share a slot, rising by their bytes.

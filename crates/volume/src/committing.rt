@@ -16,9 +16,8 @@ use forest_ops::{Op, Reply};
 use fs_plan::Plan;
 use std::alloc::{AllocError, Global};
 use vol_core::{Answer, Event, Halt, Opening, Refusal};
-use vol_session::{Session, Uncommitted};
+use vol_session::{Session, Stop, Uncommitted, checkpoint};
 use vol_types::Updates;
-use vol_session::{Stop, checkpoint};
 
 /// Makes the change that a plan of client 0's operation says. Where the journal or the buckets are short, a checkpoint is made first.
 pub(crate) fn make<D: Devices, O: Opening>(

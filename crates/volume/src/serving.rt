@@ -13,14 +13,12 @@ ghost use Rattle.volume.specs.States.{IsAtRest, halt_told};
 use crate::committing::make;
 use crate::planner::planned;
 use dev_model::Devices;
-use forest_ops::{Op, Reply};
+use forest_ops::{Halt, Op, Reply};
 use fs_plan::Plan;
-use forest_ops::Halt;
 use std::alloc::{AllocError, Global};
 use vol_core::{Answer, Event, Opening, Refusal};
-use vol_session::Session;
+use vol_session::{Session, Stop, sync_all};
 use vol_types::{Counts, Duplicate, Short};
-use vol_session::{Stop, sync_all};
 
 /// Answers an operation of client 0, where the history has room for its entry.
 pub(crate) fn answer<D: Devices, O: Opening>(

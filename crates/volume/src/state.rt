@@ -17,9 +17,8 @@ ghost use Rattle.volume.specs.States.{AreUnspent, halt_told, halted_device};
 
 use crate::serving::{answer, halt_of};
 use dev_model::Devices;
-use forest_ops::{Op, Reply, Trace};
+use forest_ops::{Acks, Halt, Op, Reply, Trace};
 use replay::Loaded;
-use forest_ops::{Acks, Halt};
 use std::alloc::{AllocError, Global};
 use std::marker::Model;
 use vol_core::{Opening, Unopened};

@@ -1,7 +1,7 @@
-use std::test::Fail;
 use crash_runs::{
     EMPTY_RUN, FORMAT_ONE, FORMAT_TWO, ID_TEXT, NONE_WRITTEN, Start, Step, Trial, other_step,
 };
+use std::test::Fail;
 
 static TWO_DEVICES: [Step; 6] = [
     Step::Run(FORMAT_TWO),
@@ -18,7 +18,7 @@ static TWO_DEVICES: [Step; 6] = [
 #[test]
 fn two_devices_are_formatted_and_run(rt: HostRuntime) -> Result<(), Fail> {
     let blank = Start::Blank(&[1024, 1024]);
-    assert_eq!(rt; other_step(rt.alloc(), blank, &TWO_DEVICES)?, None);
+    assert!(rt; other_step(rt.alloc(), blank, &TWO_DEVICES)? == None);
     Ok(())
 }
 
@@ -51,7 +51,7 @@ static LONGEST_JOURNAL: [Step; 2] = [
 #[test]
 fn the_longest_journal_is_formatted(rt: HostRuntime) -> Result<(), Fail> {
     let blank = Start::Blank(&[1024]);
-    assert_eq!(rt; other_step(rt.alloc(), blank, &LONGEST_JOURNAL)?, None);
+    assert!(rt; other_step(rt.alloc(), blank, &LONGEST_JOURNAL)? == None);
     Ok(())
 }
 
@@ -78,6 +78,6 @@ static TWICE: [Step; 8] = [
 #[test]
 fn a_volume_is_formatted_again(rt: HostRuntime) -> Result<(), Fail> {
     let blank = Start::Blank(&[1024]);
-    assert_eq!(rt; other_step(rt.alloc(), blank, &TWICE)?, None);
+    assert!(rt; other_step(rt.alloc(), blank, &TWICE)? == None);
     Ok(())
 }

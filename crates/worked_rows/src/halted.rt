@@ -1,6 +1,6 @@
+use crash_runs::{EMPTY_RUN, MOUNTING, Start, Step, Trial, fails_so, other_step};
 use std::alloc::{AllocError, Global};
 use std::test::Fail;
-use crash_runs::{EMPTY_RUN, MOUNTING, Start, Step, Trial, fails_so, other_step};
 
 // The second sync fails. After it come a name that was there before, one that was made since, a new one, a sync and a
 // listing.

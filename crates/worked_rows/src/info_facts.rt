@@ -1,5 +1,5 @@
-use std::test::Fail;
 use crash_runs::{EMPTY_RUN, ID_TEXT, NONE_WRITTEN, Start, Step, Trial, other_step};
+use std::test::Fail;
 
 // A call of `info`. The source isn't asked, and there is no history.
 const INFO: Trial = Trial {
@@ -47,7 +47,7 @@ static FRESH_TWICE: [Step; 3] = [
 
 #[test]
 fn a_fresh_volume_is_told(rt: HostRuntime) -> Result<(), Fail> {
-    assert_eq!(rt; other_step(rt.alloc(), Start::One, &FRESH_TWICE)?, None);
+    assert!(rt; other_step(rt.alloc(), Start::One, &FRESH_TWICE)? == None);
     Ok(())
 }
 
@@ -95,7 +95,7 @@ static SESSIONS: [Step; 4] = [
 
 #[test]
 fn what_a_session_left_is_told(rt: HostRuntime) -> Result<(), Fail> {
-    assert_eq!(rt; other_step(rt.alloc(), Start::Two, &SESSIONS)?, None);
+    assert!(rt; other_step(rt.alloc(), Start::Two, &SESSIONS)? == None);
     Ok(())
 }
 
@@ -142,6 +142,6 @@ static THREE_DEVICES: [Step; 2] = [
 #[test]
 fn a_device_without_metadata_is_told(rt: HostRuntime) -> Result<(), Fail> {
     let blank = Start::Blank(&[1040, 1040, 1040]);
-    assert_eq!(rt; other_step(rt.alloc(), blank, &THREE_DEVICES)?, None);
+    assert!(rt; other_step(rt.alloc(), blank, &THREE_DEVICES)? == None);
     Ok(())
 }

@@ -1,5 +1,5 @@
-use std::test::Fail;
 use crash_runs::{ALL_WRITTEN, EMPTY_RUN, Start, Step, Trial, fails_so, other_row, other_step};
+use std::test::Fail;
 
 // A call of `info`, without a history. The source fails where it is asked.
 const INFO: Trial = Trial {
@@ -44,9 +44,9 @@ static WITHOUT_AN_ENTRY: [Step; 3] = [Step::Wipe(0, 16, 16), ALL_WRITTEN, NO_ENT
 #[test]
 fn other_images_are_refused(rt: HostRuntime) -> Result<(), Fail> {
     let alloc = rt.alloc();
-    assert_eq!(rt; other_step(alloc, Start::Blank(&[1024]), &BLANK)?, None);
-    assert_eq!(rt; other_step(alloc, Start::Two, &WITHOUT_A_NODE)?, None);
-    assert_eq!(rt; other_step(alloc, Start::One, &WITHOUT_AN_ENTRY)?, None);
+    assert!(rt; other_step(alloc, Start::Blank(&[1024]), &BLANK)? == None);
+    assert!(rt; other_step(alloc, Start::Two, &WITHOUT_A_NODE)? == None);
+    assert!(rt; other_step(alloc, Start::One, &WITHOUT_AN_ENTRY)? == None);
     Ok(())
 }
 
@@ -94,7 +94,7 @@ static OTHER_WORDS: [&[Step]; 3] = [
 
 #[test]
 fn other_arguments_are_refused(rt: HostRuntime) -> Result<(), Fail> {
-    assert_eq!(rt; other_row(rt.alloc(), Start::One, &OTHER_WORDS)?, None);
+    assert!(rt; other_row(rt.alloc(), Start::One, &OTHER_WORDS)? == None);
     Ok(())
 }
 
@@ -123,6 +123,6 @@ static FAILED_OUTPUTS: [&[Step]; 2] = [
 // Where the output fails at once nothing is printed, and where it fails later the first bytes are.
 #[test]
 fn a_failed_output_is_status_5(rt: HostRuntime) -> Result<(), Fail> {
-    assert_eq!(rt; other_row(rt.alloc(), Start::One, &FAILED_OUTPUTS)?, None);
+    assert!(rt; other_row(rt.alloc(), Start::One, &FAILED_OUTPUTS)? == None);
     Ok(())
 }

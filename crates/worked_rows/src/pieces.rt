@@ -1,6 +1,6 @@
+use crash_runs::{EMPTY_RUN, Start, Trial, ends_so};
 use std::alloc::{AllocError, Global};
 use std::test::Fail;
-use crash_runs::{EMPTY_RUN, Start, Trial, ends_so};
 
 // A run of a script of 30 bytes whose source fails: no line of the script runs, those that were read neither.
 const STOPPED: Trial = Trial {

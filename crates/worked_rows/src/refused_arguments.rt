@@ -1,6 +1,6 @@
+use crash_runs::{EMPTY_RUN, ID_TEXT, Start, Step, Trial, other_step};
 use std::alloc::{AllocError, Global};
 use std::test::Fail;
-use crash_runs::{EMPTY_RUN, ID_TEXT, Start, Step, Trial, other_step};
 
 // A run that is refused for its arguments: nothing is touched, neither the source, which would fail, nor a device, of which each
 // call would fail. So no moment passes.

@@ -1,9 +1,9 @@
 //! The root of the inodes with keys in rising and in falling order. The blocks were packed by Python's struct module by the tables of the
 //! format, and their digests are those of its hashlib.
 
+use crash_runs::{ALL_WRITTEN, EMPTY_RUN, Start, Step, Trial, other_step};
 use std::alloc::{AllocError, Global};
 use std::test::Fail;
-use crash_runs::{ALL_WRITTEN, EMPTY_RUN, Start, Step, Trial, other_step};
 
 // The magic; kind 3, version 1, part 0 of 1; the volume's id; the birth of the root of btree 1, block 0 of its bucket, sequence 1, and 124
 // bytes of payload.
