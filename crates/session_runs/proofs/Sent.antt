@@ -8,7 +8,7 @@ use Rattle.forest_ops.specs.contracts.operation.Entry as Entry
 use Rattle.forest_ops.specs.contracts.operation.Op as Op
 use Rattle.forest_ops.specs.contracts.operation.Reply as Reply
 use Rattle.forest_ops.specs.contracts.acks.Ack as Ack
-use Rattle.vol_core.proofs.Sent.{Core-send}
+use Rattle.vol_core.proofs.Sendable.{Core-send}
 use Rattle.vol_core.specs.declared.opening.Opening as opening
 use Rattle.vol_session.specs.contracts.session.Session as Session
 use Rattle.volume.specs.contracts.state.VolState as VolState

@@ -7,9 +7,10 @@ use Rattle.std.proofs.lemmas.Option.{slice_get_within}
 use Rattle.std.specs.Prelude.{All, slice_index_or, unwrap_or}
 use Rattle.bucket_pool.specs.NodeBuckets.{MayHoldNode}
 use Rattle.bucket_pool.specs.Opening.{space_of}
-use Rattle.core_state.specs.Opening.{IsOpened, keys_of_buckets, opened_by}
+use Rattle.core_state.specs.Opening.{IsOpened}
+use Rattle.core_volume.specs.Opening.{keys_of_buckets, opened_by}
 use Rattle.core_state.specs.States.{State}
-use Rattle.core_state.specs.Volumes.{Volume}
+use Rattle.core_volume.specs.Volumes.{Volume}
 use Rattle.dev_model.specs.Devices.{DevicesState, now}
 use Rattle.dev_model.specs.Disk.{Image, IsDisk, block_at}
 use Rattle.geometry.specs.Layouts.{have_room, is_layout_of}

@@ -9,9 +9,10 @@ use Rattle.std.proofs.lemmas.Bool.{and_parts}
 use Rattle.btree_map.specs.Trees.{keys_in}
 use Rattle.bucket_pool.specs.NodeBuckets.{HoldsNode, MayHoldNode}
 use Rattle.crash_safety.specs.KeptLeaves.{HoldsOwn, KeepsLeaves}
-use Rattle.core_state.specs.Opening.{IsOpened, keys_of_buckets, opened_by}
+use Rattle.core_state.specs.Opening.{IsOpened}
+use Rattle.core_volume.specs.Opening.{keys_of_buckets, opened_by}
 use Rattle.core_state.specs.States.{State}
-use Rattle.core_state.specs.Volumes.{Volume}
+use Rattle.core_volume.specs.Volumes.{Volume}
 use Rattle.dev_model.specs.Devices.{DevicesState, now}
 use Rattle.dev_model.specs.Disk.{Image, IsDisk, as_read}
 use Rattle.journal_writer.specs.Changes.{no_changes}

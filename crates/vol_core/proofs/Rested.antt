@@ -9,10 +9,10 @@ use Rattle.std.specs.Prelude.{◌&&◌, ◌||◌, ◌==◌, nat_lt, All, Contain
 use Rattle.birth_index.specs.Births.{levels_of}
 use Rattle.birth_index.specs.NameLaws.{birth_itself}
 use Rattle.btree_map.specs.Sizes.{all_btrees}
-use Rattle.core_state.specs.Commits.{AreIntended}
-use Rattle.core_state.specs.Rulings.{IsFull}
-use Rattle.core_state.specs.Sealing.{oldest_needed}
-use Rattle.core_state.specs.Volumes.{IsVolume, Volume, birth_due, can_let_go, last_sealed, needs_entry, node_stage_by}
+use Rattle.core_volume.specs.Commits.{AreIntended}
+use Rattle.core_volume.specs.Rulings.{IsFull}
+use Rattle.core_volume.specs.Sealing.{oldest_needed}
+use Rattle.core_volume.specs.Volumes.{IsVolume, Volume, birth_due, can_let_go, last_sealed, needs_entry, node_stage_by}
 use Rattle.dev_model.specs.Devices.{DevicesState}
 use Rattle.journal_writer.specs.Queues.{blocks_with, first_of, growth, last_block, oldest}
 use Rattle.journal_writer.specs.declared.changes.Pending.{Pending}

@@ -9,9 +9,10 @@ use Rattle.std.specs.Prelude.{◌==◌, slice_get, slice_index_or}
 use Rattle.birth_index.specs.Exchanges.{HaveOneNode}
 use Rattle.btree_map.specs.Trees.{Trees}
 use Rattle.dirty_nodes.specs.Dirty.{changed_nodes, with_pins}
-use Rattle.core_state.specs.Opening.{IsOpened, opened_by, updates_in}
+use Rattle.core_state.specs.Opening.{IsOpened}
+use Rattle.core_volume.specs.Opening.{opened_by, updates_in}
 use Rattle.core_state.specs.States.{State}
-use Rattle.core_state.specs.Volumes.{Volume}
+use Rattle.core_volume.specs.Volumes.{Volume}
 use Rattle.dev_model.specs.Devices.{DevicesState, now}
 use Rattle.dev_model.specs.Disk.{Image, as_read}
 use Rattle.journal_writer.specs.Writers.{starts_of}

@@ -13,15 +13,15 @@ use Rattle.birth_index.specs.NameLaws.{birth_itself, one_birth}
 use Rattle.btree_map.specs.Sizes.{all_btrees}
 use Rattle.btree_map.specs.Trees.{IsTrees, Trees, keys_in}
 use Rattle.dirty_nodes.specs.Dirty.{changed_nodes, paths_of, with_pins}
-use Rattle.core_state.specs.Checkpoints.{AreInPlace, IsLeafFrozen, after_refused, given_up, with_block}
-use Rattle.core_state.specs.Commits.{IsCommitted}
-use Rattle.core_state.specs.HoldLaws.{pinned-each}
-use Rattle.core_state.specs.Rulings.{IsFull, entry_of, kept_blocks}
-use Rattle.core_state.specs.Sealing.{IsFlown, next_record, oldest_needed, settled_volume, with_writer}
-use Rattle.core_state.specs.Volumes.{IsFlightHeld, IsVolume, KeepParts, Volume, birth_due, can_let_go, commits_of, halted_at, in_flight, is_below, last_sealed, needed_by, needs_entry, node_stage_by, undurable_in}
-use Rattle.core_state.specs.declared.answer.Halt.{Halt}
-use Rattle.core_state.specs.declared.answer.Refusal.{Refusal}
-use Rattle.core_state.specs.declared.answer.Refusal.TheVariants as refusals
+use Rattle.core_volume.specs.Checkpoints.{AreInPlace, IsLeafFrozen, after_refused, given_up, with_block}
+use Rattle.core_volume.specs.Commits.{IsCommitted}
+use Rattle.core_volume.specs.HoldLaws.{pinned-each}
+use Rattle.core_volume.specs.Rulings.{IsFull, entry_of, kept_blocks}
+use Rattle.core_volume.specs.Sealing.{IsFlown, next_record, oldest_needed, settled_volume, with_writer}
+use Rattle.core_volume.specs.Volumes.{IsFlightHeld, IsVolume, KeepParts, Volume, birth_due, can_let_go, commits_of, halted_at, in_flight, is_below, last_sealed, needed_by, needs_entry, node_stage_by, undurable_in}
+use Rattle.core_actors.specs.declared.answer.Halt.{Halt}
+use Rattle.core_actors.specs.declared.answer.Refusal.{Refusal}
+use Rattle.core_actors.specs.declared.answer.Refusal.TheVariants as refusals
 use Rattle.dev_model.specs.Devices.{DevicesState}
 use Rattle.journal_writer.specs.Changes.{changes_of}
 use Rattle.journal_writer.specs.FirstLaws.{first-behind, waiting-behind}

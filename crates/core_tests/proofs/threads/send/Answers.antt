@@ -7,7 +7,7 @@ use Rattle.core_tests.specs.contracts.threads.Returned as Returned
 use Rattle.dev_model.specs.contracts.memory.MemDevices as MemDevices
 use Rattle.dev_model.specs.contracts.memory.MemDevicesDevices.TheImpl.{ghosts}
 use Rattle.dev_model.specs.declared.devices.Devices as devices
-use Rattle.vol_core.proofs.Sent.{Core-send}
+use Rattle.vol_core.proofs.Sendable.{Core-send}
 use Rattle.vol_core.specs.declared.opening.Opening as opening
 use Rattle.core_tests.proofs.threads.send.Goals as goal
 
