@@ -60,19 +60,14 @@ fn is_stray(word: &[u8]) -> bool
 fn format_command<'a>(alloc: Global) -> Result<Command<'a>, AllocError>
     ensures { IfOk result (λ command. app_of command ≡ format_app) }
 {
-    let id = option_named(alloc, "id").required(true);
-    let blocks = option_named(alloc, "blocks").required(true);
-    let journal = option_named(alloc, "journal");
-    let data_replicas = option_named(alloc, "data-replicas");
-    let meta_replicas = option_named(alloc, "meta-replicas");
     Command::new(alloc, "format")
         .no_binary_name(true)
         .disable_help_flag(true)
-        .arg(id)?
-        .arg(blocks)?
-        .arg(journal)?
-        .arg(data_replicas)?
-        .arg(meta_replicas)
+        .arg(option_named(alloc, "id").required(true))?
+        .arg(option_named(alloc, "blocks").required(true))?
+        .arg(option_named(alloc, "journal"))?
+        .arg(option_named(alloc, "data-replicas"))?
+        .arg(option_named(alloc, "meta-replicas"))
 }
 
 // An option with a value, under its long name alone.

@@ -136,6 +136,11 @@ failed_write_told start devices new_devices steps new_steps pick dev block bytes
 pub changes_otherwise : {S T E F : Type 0} (e : E) (f : F) (partly wholly : List Disk → Type 0) (old new : DevicesState) → ChangesDisks {T = S} (Err e) partly wholly old new → ChangesDisks {T = T} (Err f) partly wholly old new
 changes_otherwise e f partly wholly old new changes = record { later = changes.later; past = changes.past; inside = changes.inside; after = changes.after; takes_time = tt }
 
+-- where no step is added, the same is told
+pub none_told : {T E : Type 0} (result : Result T E) (start devices new_devices : List Disk) (steps new_steps : List Step) → OnErr result (AddsNone devices new_devices steps new_steps) → OnErr result (replayed new_steps start ≡ replayed steps start)
+none_told (Ok x) start devices new_devices steps new_steps none = tt
+none_told (Err e) start devices new_devices steps new_steps none = same_state start steps new_steps none.log
+
 -- a step that does nothing, or none
 pub replays_nothing : {T E : Type 0} (result : Result T E) (start disks : List Disk) (steps new_steps : List Step) → OnOk result (new_steps ≡ steps ++ Nothing ∷ []) → OnErr result (new_steps ≡ steps) → disks ≡ after_steps steps start → disks ≡ after_steps new_steps start
 replays_nothing (Ok x) start disks steps new_steps more none replays = replays ∙ sym (ap (λ s. after_steps s start) more ∙ after_push steps Nothing start)

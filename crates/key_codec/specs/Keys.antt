@@ -1,5 +1,5 @@
 -- What a key is on disk: its position, the number of its kind, and the fields of its value.
-use Rattle.std.specs.Prelude.{ℕ, ◌-◌, List, [], ◌∷◌, length, Option, Some, None, Result, Ok, Err}
+use Rattle.std.specs.Prelude.{⊤, ℕ, ◌-◌, List, [], ◌∷◌, length, Option, Some, None, Result, Ok, Err}
 use Rattle.std.specs.List.{slice_get}
 use Rattle.vol_types.specs.declared.keys.Key.{Key}
 use Rattle.vol_types.specs.declared.positions.Pos.{Pos}
@@ -34,6 +34,36 @@ fields_of (Some (Back extent)) = kinds.position.encode extent
 fields_of (Some Gone) = []
 fields_of (Some (Counter next)) = u64_le.encode next
 fields_of (Some (Node node)) = kinds.node_fields.encode node
+
+-- The value has a list.
+abbrev pub HasList : Value → Type 0
+HasList (Names links) = ⊤
+HasList (Extent extent) = ⊤
+HasList (Subs subs) = ⊤
+HasList (Node node) = ⊤
+HasList (Inode inode) = ⊥
+HasList (Hole blocks) = ⊥
+HasList White = ⊥
+HasList (Snap snap) = ⊥
+HasList (Live live) = ⊥
+HasList (Back extent) = ⊥
+HasList Gone = ⊥
+HasList (Counter next) = ⊥
+
+-- The value is an inode, a hole or a snapshot id.
+abbrev pub IsRecord : Value → Type 0
+IsRecord (Inode inode) = ⊤
+IsRecord (Hole blocks) = ⊤
+IsRecord (Snap snap) = ⊤
+IsRecord (Names links) = ⊥
+IsRecord (Extent extent) = ⊥
+IsRecord White = ⊥
+IsRecord (Subs subs) = ⊥
+IsRecord (Live live) = ⊥
+IsRecord (Back extent) = ⊥
+IsRecord Gone = ⊥
+IsRecord (Counter next) = ⊥
+IsRecord (Node node) = ⊥
 
 -- The key has a encoding: its position and the fields of its value have their widths, and are in range.
 pub record IsKey (pos : Pos) (value : Option Value) : Type 0 where

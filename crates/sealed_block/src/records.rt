@@ -64,9 +64,11 @@ fn join_blocks(alloc: Global, parts: &[[u8; BLOCK_SIZE]]) -> Result<Bytes, JoinF
     };
     let joined = payloads_of(alloc, parts, &first)?;
     if parts.len() < first.parts as usize {
+        drop(joined);
         return Err(JoinFault::Foreign(parts.len() as u16));
     }
     if !are_same(&digest(joined.as_slice()), &first.whole) {
+        drop(joined);
         return Err(JoinFault::Digest);
     }
     Ok(joined)

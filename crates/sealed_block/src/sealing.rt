@@ -1,4 +1,5 @@
-ghost use Rattle.std.specs.Prelude.{◌≡◌, ◌+◌, ◌-◌, ◌≤◌, ◌++◌, length, take, replicate};
+ghost use Rattle.std.specs.Prelude.{◌≡◌, ◌+◌, ◌-◌, ◌≤◌, ◌<◌, ◌^◌, ◌++◌, ◌∷◌, [], codes, length, take, replicate};
+ghost use Rattle.std.specs.Int.{w16, w32, w64, to_le_bytes};
 ghost use Rattle.sha2.specs.Sha256.{sha256};
 ghost use Rattle.sealed_block.specs.Blocks.{AreBytes, HasWidths, IsInRanges, Opens, covered, head_bytes, encoding};
 
@@ -46,17 +47,41 @@ pub(crate) fn put_head(head: &Head, into: &mut [u8])
     ensures written { take 96 into.new ≡ head_bytes head.now }
     ensures widths { HasWidths head.now }
 {
+    put_names(head, into);
+    put_numbers(head, into);
+    put(into, 60, &[0; 4]);
+    put(into, 64, &head.whole);
+}
+
+// Writes what comes before the owner over the first 32 bytes.
+fn put_names(head: &Head, into: &mut [u8])
+    requires { 32 ≤ length into.old }
+    ensures written { take 32 into.new ≡ codes "bvolseal" ++ head.now.kind ∷ head.now.version ∷ 0 ∷ 0 ∷ []
+        ++ to_le_bytes w16 head.now.part ++ to_le_bytes w16 head.now.parts ++ head.now.id }
+    ensures id { length head.now.id ≡ 16 }
+    ensures id_bytes { AreBytes head.now.id }
+{
     put(into, 0, b"bvolseal");
     put(into, 8, &[head.kind, head.version, 0, 0]);
     put(into, 12, &head.part.to_le_bytes());
     put(into, 14, &head.parts.to_le_bytes());
     put(into, 16, &head.id);
+}
+
+// Writes the numbers from the owner to the length after the first 32 bytes.
+fn put_numbers(head: &Head, into: &mut [u8])
+    requires { 60 ≤ length into.old }
+    ensures written { take 60 into.new ≡ take 32 into.old ++ to_le_bytes w64 head.now.owner
+        ++ to_le_bytes w64 head.now.number ++ to_le_bytes w64 head.now.sequence
+        ++ to_le_bytes w32 head.now.length }
+    ensures owner { head.now.owner < 2 ^ 64 }
+    ensures number { head.now.number < 2 ^ 64 }
+    ensures sequence { head.now.sequence < 2 ^ 64 }
+{
     put(into, 32, &head.owner.to_le_bytes());
     put(into, 40, &head.number.to_le_bytes());
     put(into, 48, &head.sequence.to_le_bytes());
     put(into, 56, &head.length.to_le_bytes());
-    put(into, 60, &[0; 4]);
-    put(into, 64, &head.whole);
 }
 
 // Writes the bytes after the first `at` ones.
