@@ -1,6 +1,6 @@
 use Rattle.birth_index.specs.Births.{root_named}
-use Rattle.map_rows.proofs.Unused.{for_roots}
-use Rattle.map_rows.proofs.maps.divide_root.Goals as goal
+use Rattle.btree_tests.proofs.Unused.{for_roots}
+use Rattle.btree_tests.proofs.maps.divide_root.Goals as goal
 
 pub divide_root-requires-clause-births : goal.divide_root-requires-clause-births
 divide_root-requires-clause-births c =

@@ -3,8 +3,8 @@ use Rattle.std.specs.Prelude.{IsSome}
 use Rattle.std.specs.Ordering.{nat_cmp}
 use Rattle.dirty_nodes.specs.Dirty.{with_pins}
 use Rattle.vol_types.specs.Maps.{value_at}
-use Rattle.map_rows.proofs.Pinned.{pinned}
-use Rattle.map_rows.proofs.dirty.change.Goals as goal
+use Rattle.btree_tests.proofs.Pinned.{pinned}
+use Rattle.btree_tests.proofs.dirty.change.Goals as goal
 
 pub returns-clause-pinned : goal.returns-clause-pinned
 returns-clause-pinned c =

@@ -1,6 +1,6 @@
 use Rattle.birth_index.specs.declared.name.NodeName.{NodeName}
-use Rattle.map_rows.proofs.Unused.{for_halves}
-use Rattle.map_rows.proofs.maps.divide.Goals as goal
+use Rattle.btree_tests.proofs.Unused.{for_halves}
+use Rattle.btree_tests.proofs.maps.divide.Goals as goal
 
 pub divide-requires-clause-births : goal.divide-requires-clause-births
 divide-requires-clause-births c =
