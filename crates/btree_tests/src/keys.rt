@@ -101,11 +101,7 @@ fn sizes_fit(alloc: Global, keys: &TreeKeys, changes: &[Key]) -> Result<bool, Al
 fn are_before(before: &[Option<Value>]) -> bool {
     matches!(
         before,
-        [
-            Some(Value::White),
-            Some(Value::Counter { next: 4 }),
-            None
-        ]
+        [Some(Value::White), Some(Value::Counter { next: 4 }), None]
     )
 }
 

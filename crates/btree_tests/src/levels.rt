@@ -132,11 +132,7 @@ fn divisions(rt: HostRuntime) -> Result<(), Fail> {
 
 // The position of an offset, or the greatest position for 0.
 fn end_pos(end: u64) -> Pos {
-    if end == 0 {
-        Pos::GREATEST
-    } else {
-        at(end)
-    }
+    if end == 0 { Pos::GREATEST } else { at(end) }
 }
 
 fn put_node(alloc: Global, nodes: &mut LevelNodes, end: u64, level: u8) -> Result<(), AllocError> {

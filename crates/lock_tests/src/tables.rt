@@ -182,29 +182,89 @@ static FIRST_ROWS: [Row; 13] = [
     (1, Call::Ask(ROOT, Mode::Shared), GRANTED),
     (0, Call::Ask(LEFT, Mode::Shared), GRANTED),
     (0, Call::Ask(LEFT, Mode::Intent), GRANTED),
-    (1, Call::Ask(LEFT, Mode::Intent), Some(Ruling::Wait { node: 11, holder: 0 })),
+    (
+        1,
+        Call::Ask(LEFT, Mode::Intent),
+        Some(Ruling::Wait {
+            node: 11,
+            holder: 0,
+        }),
+    ),
     (1, Call::Ask(LEFT, Mode::Shared), GRANTED),
-    (0, Call::Upgrade(11), Some(Ruling::Restart { node: 11, holder: 1 })),
+    (
+        0,
+        Call::Upgrade(11),
+        Some(Ruling::Restart {
+            node: 11,
+            holder: 1,
+        }),
+    ),
     (1, Call::Ask(RIGHT, Mode::Intent), GRANTED),
-    (0, Call::Ask(RIGHT, Mode::Intent), Some(Ruling::Wait { node: 12, holder: 1 })),
-    (1, Call::Ask(LEFT, Mode::Intent), Some(Ruling::Restart { node: 11, holder: 0 })),
+    (
+        0,
+        Call::Ask(RIGHT, Mode::Intent),
+        Some(Ruling::Wait {
+            node: 12,
+            holder: 1,
+        }),
+    ),
+    (
+        1,
+        Call::Ask(LEFT, Mode::Intent),
+        Some(Ruling::Restart {
+            node: 11,
+            holder: 0,
+        }),
+    ),
     (1, Call::DropAll, None),
     (0, Call::Upgrade(11), GRANTED),
-    (1, Call::Ask(LEFT, Mode::Shared), Some(Ruling::Wait { node: 11, holder: 0 })),
+    (
+        1,
+        Call::Ask(LEFT, Mode::Shared),
+        Some(Ruling::Wait {
+            node: 11,
+            holder: 0,
+        }),
+    ),
 ];
 
 static LATER_ROWS: [Row; 13] = [
     (1, Call::Ask(OTHER, Mode::Intent), GRANTED),
-    (1, Call::Ask(LEFT, Mode::Shared), Some(Ruling::Restart { node: 11, holder: 0 })),
+    (
+        1,
+        Call::Ask(LEFT, Mode::Shared),
+        Some(Ruling::Restart {
+            node: 11,
+            holder: 0,
+        }),
+    ),
     (0, Call::Lower(11), None),
     (1, Call::Ask(LEFT, Mode::Shared), GRANTED),
     (0, Call::Ask(OTHER, Mode::Shared), GRANTED),
-    (0, Call::Ask(OTHER, Mode::Intent), Some(Ruling::Restart { node: 5, holder: 1 })),
-    (2, Call::Ask(LEFT, Mode::Intent), Some(Ruling::Wait { node: 11, holder: 0 })),
+    (
+        0,
+        Call::Ask(OTHER, Mode::Intent),
+        Some(Ruling::Restart { node: 5, holder: 1 }),
+    ),
+    (
+        2,
+        Call::Ask(LEFT, Mode::Intent),
+        Some(Ruling::Wait {
+            node: 11,
+            holder: 0,
+        }),
+    ),
     (2, Call::Upgrade(11), None),
     (0, Call::DropAll, None),
     (2, Call::Ask(LEFT, Mode::Intent), GRANTED),
-    (2, Call::Upgrade(11), Some(Ruling::Restart { node: 11, holder: 1 })),
+    (
+        2,
+        Call::Upgrade(11),
+        Some(Ruling::Restart {
+            node: 11,
+            holder: 1,
+        }),
+    ),
     (1, Call::DropAll, None),
     (2, Call::Upgrade(11), GRANTED),
 ];
@@ -224,11 +284,13 @@ fn right_rows(table: &mut LockTable, rows: &[Row]) -> Result<usize, AllocError> 
 fn are_right(table: &mut LockTable) -> Result<bool, AllocError> {
     let first = right_rows(table, &FIRST_ROWS)?;
     let later = right_rows(table, &LATER_ROWS)?;
-    Ok(first == 13
-        && later == 13
-        && table.other_holder(0, 11) == Some(2)
-        && table.other_reader(0, 11) == None
-        && table.seq(11) == 1)
+    Ok(
+        first == 13
+            && later == 13
+            && table.other_holder(0, 11) == Some(2)
+            && table.other_reader(0, 11) == None
+            && table.seq(11) == 1,
+    )
 }
 
 // Whether the locks of nodes go on from their sequences once the last one is dropped.

@@ -352,11 +352,13 @@ fn are_seen(alloc: Global, disk: &mut Disk) -> Result<bool, Fail> {
     let (source, copy, first) = seen_after(alloc, disk, &STEPS)?;
     let (_, _, further) = seen_after(alloc, disk, &FURTHER_ON)?;
     let (_, over, _) = seen_after(alloc, disk, &OVER_ZEROS)?;
-    Ok(source == [Some((0x68, 0x69)), Some((0x6a, 0)), None]
-        && copy == [Some((0x68, 0)), None, None]
-        && first == (2, 1)
-        && further == (4, 1)
-        && over == [Some((0x68, 3)), None, None])
+    Ok(
+        source == [Some((0x68, 0x69)), Some((0x6a, 0)), None]
+            && copy == [Some((0x68, 0)), None, None]
+            && first == (2, 1)
+            && further == (4, 1)
+            && over == [Some((0x68, 3)), None, None],
+    )
 }
 
 /// A file of `hi`, to whose second block `j` is written: its first block is written anew, in one extent with the second. Below a

@@ -115,7 +115,8 @@ fn first_other() -> Option<u32> {
     let mut number: u32 = 0;
     for look in LOOKS.iter() {
         let query = reach(7, look.first, look.last, look.longest);
-        if asks_for(&query, EXTENT_AT) != look.has_extent || asks_for(&query, HOLE_AT) != look.has_hole
+        if asks_for(&query, EXTENT_AT) != look.has_extent
+            || asks_for(&query, HOLE_AT) != look.has_hole
         {
             return Some(number);
         }

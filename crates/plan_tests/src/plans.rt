@@ -208,12 +208,7 @@ fn path_of(alloc: Global, sub: &[u8], names: &[&'static [u8]]) -> Result<Path, A
 /// A name with its flag.
 type Flagged = (&'static [u8], u8);
 
-fn push_flag(
-    alloc: Global,
-    list: &mut FlagList,
-    name: &[u8],
-    flag: u8,
-) -> Result<(), AllocError> {
+fn push_flag(alloc: Global, list: &mut FlagList, name: &[u8], flag: u8) -> Result<(), AllocError> {
     let name = Bytes::from_slice(alloc, name)?;
     list.push(FlaggedName { name, flag })?;
     Ok(())

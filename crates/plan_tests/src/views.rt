@@ -23,19 +23,20 @@ static ROWS: [Row; 9] = [
     (&[(10, true)], 10, Some(10), 1, false),
     (&[(30, true)], 10, Some(30), 1, true),
     (&[(20, true), (30, true)], 10, Some(30), 2, true),
-    (&[(20, true), (25, false), (30, true)], 10, Some(30), 3, true),
+    (
+        &[(20, true), (25, false), (30, true)],
+        10,
+        Some(30),
+        3,
+        true,
+    ),
     (&[(20, true), (25, true)], 10, None, 3, false),
     (&[(10, false), (30, true)], 10, None, 1, true),
     (&[(10, true)], 20, None, 1, false),
     (&[(30, false)], 10, None, 1, false),
 ];
 
-fn put(
-    keys: &mut PlainKeys,
-    number: u64,
-    snapshot: u32,
-    value: Value,
-) -> Result<(), AllocError> {
+fn put(keys: &mut PlainKeys, number: u64, snapshot: u32, value: Value) -> Result<(), AllocError> {
     let pos = Pos {
         inode: 0,
         offset: number,
@@ -59,7 +60,11 @@ fn put_all(keys: &mut PlainKeys, held: &[(u32, bool)]) -> Result<(), AllocError>
     put(keys, NUMBER - 1, 30, Value::White)?;
     put(keys, NUMBER + 1, 10, Value::White)?;
     for (id, is_shown) in held {
-        let value = if *is_shown { inode_of(*id) } else { Value::White };
+        let value = if *is_shown {
+            inode_of(*id)
+        } else {
+            Value::White
+        };
         put(keys, NUMBER, *id, value)?;
     }
     Ok(())
