@@ -1,5 +1,5 @@
 //! What stands in memory of a volume's btrees, and pins: nodes with their keys, leaves, levels, births, exchanges of pointers,
-//! updates of the nodes above, key maps, and what a commit needs. The crate holds tests alone.
+//! updates of the nodes above, key maps, trees of ids, and what a commit needs. The crate holds tests alone.
 #![tactic(auto)]
 
 #[cfg(test)]
@@ -26,3 +26,5 @@ mod pins;
 mod pointers;
 #[cfg(test)]
 mod splits;
+#[cfg(test)]
+mod trees;

@@ -4,19 +4,16 @@ ghost use Rattle.std.specs.Prelude.{IfOk, All};
 ghost use Rattle.snap_tree.specs.Snaps.{IsSnapKey};
 ghost use Rattle.snap_tree.specs.Updates.{IsFitting};
 
-use super::*;
-use crate::change::changes_of;
-use crate::split::{leaf_under, snap_update};
-use crate::stale::stale_of;
+use snap_tree::{SnapFault, SnapTree, Steps};
 use std::alloc::{AllocError, Global};
 use std::test::Fail;
-use vol_types::{Duplicate, Key, Keys, Snap, SnapState, Update, Updates};
+use vol_types::{Btree, Duplicate, Key, Keys, Pos, Snap, SnapState, Update, Updates, Value};
 
 /// An id with its parent, its children and its state.
 type Row = (u32, u32, u32, u32, SnapState);
 
 /// Two trees: 100 over 99 and 98, with 98 over 96 and 95; and 97 alone.
-const TREES: [Row; 6] = [
+static TREES: [Row; 6] = [
     (95, 98, 0, 0, SnapState::DeadLeaf),
     (96, 98, 0, 0, SnapState::LiveLeaf),
     (97, 0, 0, 0, SnapState::LiveLeaf),
@@ -32,6 +29,28 @@ fn snap_of(row: Row) -> Snap {
         first_child,
         second_child,
         state,
+    }
+}
+
+fn id_pos(id: u32) -> Pos
+    ensures { result ≡ record { inode = 0; offset = id; snapshot = 0 } }
+{
+    Pos {
+        inode: 0,
+        offset: u64::from(id),
+        snapshot: 0,
+    }
+}
+
+fn update_of(row: Row) -> Update
+    ensures fits { IsFitting result }
+    ensures key { IsSnapKey (record { pos = result.pos; value = result.value }) }
+{
+    Update {
+        btree: Btree::Snapshots,
+        level: 0,
+        pos: id_pos(row.0),
+        value: Some(Value::Snap(snap_of(row))),
     }
 }
 
@@ -52,11 +71,13 @@ fn snap_keys(alloc: Global, rows: &[Row]) -> Result<Keys, AllocError>
 // The trees that rows are.
 fn tree_of(alloc: Global, rows: &[Row]) -> Result<SnapTree, SnapFault> {
     let keys = snap_keys(alloc, rows)?;
-    SnapTree::of(alloc, &keys)
+    let tree = SnapTree::of(alloc, &keys);
+    drop(keys);
+    tree
 }
 
 /// The chain of each id of the two trees but one.
-const CHAINS: [(u32, &[u32]); 5] = [
+static CHAINS: [(u32, &[u32]); 5] = [
     (95, &[95, 98, 100]),
     (96, &[96, 98, 100]),
     (97, &[97]),
@@ -64,28 +85,47 @@ const CHAINS: [(u32, &[u32]); 5] = [
     (100, &[100]),
 ];
 
+/// Ids that aren't there.
+static NO_IDS: [u32; 3] = [0, 94, 101];
+
 // Whether an id has this chain.
 fn has_chain(tree: &SnapTree, id: u32, chain: &[u32]) -> bool {
     match tree.chain(id) {
-        Ok(found) => found.as_slice() == chain,
+        Ok(found) => {
+            let same = found.as_slice() == chain;
+            drop(found);
+            same
+        }
         Err(_) => false,
     }
 }
 
-#[test]
-fn chains(rt: HostRuntime) -> Result<(), Fail> {
-    let tree = tree_of(rt.alloc(), &TREES)?;
-    for (id, chain) in CHAINS {
-        assert!(rt; has_chain(&tree, id, chain));
+fn has_no_chain(tree: &SnapTree, id: u32) -> bool {
+    match tree.chain(id) {
+        Ok(found) => {
+            drop(found);
+            false
+        }
+        Err(fault) => fault == SnapFault::NoNode,
     }
-    for id in [0, 94, 101] {
-        assert!(rt; matches!(tree.chain(id), Err(SnapFault::NoNode)));
+}
+
+fn have_chains(tree: &SnapTree) -> bool {
+    for (id, chain) in CHAINS.iter() {
+        if !has_chain(tree, *id, chain) {
+            return false;
+        }
     }
-    Ok(())
+    for id in NO_IDS.iter() {
+        if !has_no_chain(tree, *id) {
+            return false;
+        }
+    }
+    true
 }
 
 /// Two ids, and whether the first one is an ancestor of the second one.
-const ANCESTORS: [(u32, u32, bool); 12] = [
+static ANCESTORS: [(u32, u32, bool); 12] = [
     (100, 95, true),
     (98, 95, true),
     (95, 95, true),
@@ -100,24 +140,50 @@ const ANCESTORS: [(u32, u32, bool); 12] = [
     (94, 94, false),
 ];
 
-#[test]
-fn ancestors(rt: HostRuntime) -> Result<(), Fail> {
-    let tree = tree_of(rt.alloc(), &TREES)?;
-    for (a, b, stands) in ANCESTORS {
-        assert!(rt; tree.is_ancestor(a, b) == stands);
+fn have_ancestors(tree: &SnapTree) -> bool {
+    for (a, b, stands) in ANCESTORS.iter() {
+        if tree.is_ancestor(*a, *b) != *stands {
+            return false;
+        }
     }
-    Ok(())
+    true
 }
 
-fn update_of(row: Row) -> Update
-    ensures fits { IsFitting result }
-    ensures key { IsSnapKey (record { pos = result.pos; value = result.value }) }
-{
-    snap_update(row.0, snap_of(row))
+/// Ids with their parents.
+static PARENTS: [(u32, Option<u32>); 4] = [(95, Some(98)), (98, Some(100)), (97, None), (94, None)];
+
+fn have_parents(tree: &SnapTree) -> bool {
+    for (id, parent) in PARENTS.iter() {
+        if tree.parent(*id) != *parent {
+            return false;
+        }
+    }
+    true
+}
+
+// Whether a tree has the records of these rows, in their order.
+fn are_records(tree: &SnapTree, rows: &[Row]) -> bool {
+    let mut rest = rows.iter();
+    for (id, snap) in tree.iter() {
+        let Some(row) = rest.next() else { return false };
+        if *id != row.0 || snap_of(*row) != *snap {
+            return false;
+        }
+    }
+    rest.next().is_none()
+}
+
+// Whether a tree has these records.
+fn has_records(tree: &SnapTree) -> bool {
+    tree.len() == 6
+        && tree.live_leaves() == 3
+        && !tree.is_empty()
+        && are_records(tree, &TREES)
+        && have_parents(tree)
 }
 
 /// The records after a snapshot of 96.
-const SPLIT: [Row; 3] = [
+static SPLIT: [Row; 3] = [
     (96, 98, 90, 89, SnapState::Interior),
     (90, 96, 0, 0, SnapState::LiveLeaf),
     (89, 96, 0, 0, SnapState::LiveLeaf),
@@ -126,23 +192,29 @@ const SPLIT: [Row; 3] = [
 // Whether a snapshot of 96 draws 90 and 89, and makes these updates.
 fn is_split(tree: &SnapTree, updates: &Updates) -> Result<bool, SnapFault> {
     let split = tree.split_leaf(96, 90)?;
-    Ok(split.source == 90 && split.copy == 89 && split.updates == *updates)
+    let good = split.source == 90 && split.copy == 89 && split.updates == *updates;
+    drop(split);
+    Ok(good)
 }
 
 // Whether it does so in the two trees.
 fn is_tree_split(alloc: Global, tree: &SnapTree) -> Result<bool, SnapFault> {
     let updates = put_updates(alloc, &SPLIT)?;
-    is_split(tree, &updates)
+    let good = is_split(tree, &updates);
+    drop(updates);
+    good
 }
 
 // The id of a copy.
 fn copy_of(tree: &SnapTree, id: u32, next: u32) -> Result<u32, SnapFault> {
     let split = tree.split_leaf(id, next)?;
-    Ok(split.copy)
+    let copy = split.copy;
+    drop(split);
+    Ok(copy)
 }
 
 /// Ids with what is drawn for them, and the copies' ids or why there are none.
-const COPIES: [(u32, u32, Result<u32, SnapFault>); 6] = [
+static COPIES: [(u32, u32, Result<u32, SnapFault>); 6] = [
     (97, 2, Ok(1)),
     (95, 90, Err(SnapFault::NotLeaf)),
     (98, 90, Err(SnapFault::NotLeaf)),
@@ -151,20 +223,33 @@ const COPIES: [(u32, u32, Result<u32, SnapFault>); 6] = [
     (96, 0, Err(SnapFault::IdsSpent)),
 ];
 
-#[test]
-fn splits(rt: HostRuntime) -> Result<(), Fail> {
-    let alloc = rt.alloc();
-    let tree = tree_of(alloc, &TREES)?;
-    assert!(rt; is_tree_split(alloc, &tree) == Ok(true));
-    for (id, next, copy) in COPIES {
-        assert!(rt; copy_of(&tree, id, next) == copy);
+fn are_copies(tree: &SnapTree) -> bool {
+    for (id, next, copy) in COPIES.iter() {
+        if copy_of(tree, *id, *next) != *copy {
+            return false;
+        }
     }
+    true
+}
+
+// Whether all that is looked up in the two trees is so.
+fn is_right(alloc: Global, tree: &SnapTree) -> Result<bool, SnapFault> {
+    let looks = has_records(tree) && have_chains(tree) && have_ancestors(tree);
+    Ok(looks && is_tree_split(alloc, tree)? && are_copies(tree))
+}
+
+#[test]
+fn two_trees(rt: HostRuntime) -> Result<(), Fail> {
+    let tree = tree_of(rt.alloc(), &TREES)?;
+    let good = is_right(rt.alloc(), &tree);
+    drop(tree);
+    assert!(rt; good?);
     Ok(())
 }
 
 /// Records that make no tree: a parent that is missing, one that is the id itself, and one below it; and a first child that is
 /// missing, and a second one.
-const NO_TREES: [[Row; 2]; 5] = [
+static NO_TREES: [[Row; 2]; 5] = [
     [
         (7, 9, 0, 0, SnapState::LiveLeaf),
         (8, 0, 7, 0, SnapState::Interior),
@@ -187,13 +272,24 @@ const NO_TREES: [[Row; 2]; 5] = [
     ],
 ];
 
-#[test]
-fn no_trees(rt: HostRuntime) {
-    let alloc = rt.alloc();
-    for rows in NO_TREES {
-        let tree = tree_of(alloc, &rows);
-        assert!(rt; matches!(tree, Err(SnapFault::NoNode)));
+// Whether rows make no tree.
+fn makes_none(alloc: Global, rows: &[Row]) -> bool {
+    match tree_of(alloc, rows) {
+        Ok(tree) => {
+            drop(tree);
+            false
+        }
+        Err(fault) => fault == SnapFault::NoNode,
     }
+}
+
+#[test]
+fn no_trees(rt: HostRuntime) -> Result<(), Fail> {
+    let alloc = rt.alloc();
+    for rows in NO_TREES.iter() {
+        assert!(rt; makes_none(alloc, rows));
+    }
+    Ok(())
 }
 
 // The updates that give ids these records, and then take one away, if it isn't 0.
@@ -221,36 +317,12 @@ fn put_updates(alloc: Global, rows: &[Row]) -> Result<Updates, AllocError>
 fn removal(id: u32) -> Update
     ensures { IsFitting result }
 {
-    let mut update = snap_update(id, leaf_under(0));
-    update.value = None;
-    update
-}
-
-// Whether a tree has the records of these rows, in their order.
-fn are_records(tree: &SnapTree, rows: &[Row]) -> bool {
-    let mut rest = rows.iter();
-    for (id, snap) in tree.iter() {
-        let Some(row) = rest.next() else { return false };
-        if *id != row.0 || snap_of(*row) != *snap {
-            return false;
-        }
+    Update {
+        btree: Btree::Snapshots,
+        level: 0,
+        pos: id_pos(id),
+        value: None,
     }
-    rest.next().is_none()
-}
-
-#[test]
-fn records(rt: HostRuntime) -> Result<(), Fail> {
-    let alloc = rt.alloc();
-    let tree = tree_of(alloc, &TREES)?;
-    assert!(rt; tree.len() == 6);
-    assert!(rt; tree.live_leaves() == 3);
-    assert!(rt; !tree.is_empty());
-    assert!(rt; SnapTree::new(alloc).is_empty());
-    assert!(rt; are_records(&tree, &TREES));
-    for (id, parent) in [(95, Some(98)), (98, Some(100)), (97, None), (94, None)] {
-        assert!(rt; tree.parent(id) == parent);
-    }
-    Ok(())
 }
 
 // Whether updates are made, and the chain of 89 is this afterwards.
@@ -258,7 +330,7 @@ fn goes(tree: &mut SnapTree, updates: &Updates, chain: &[u32]) -> Result<bool, S
     requires { All IsFitting updates.now }
 {
     tree.apply(updates)?;
-    Ok(tree.chain(89)?.as_slice() == chain)
+    Ok(has_chain(tree, 89, chain))
 }
 
 // Whether ids are given these records, another one is taken away, if it isn't 0, and the chain of 89 is this afterwards.
@@ -270,52 +342,64 @@ fn rows_go(
     chain: &[u32],
 ) -> Result<bool, SnapFault> {
     let updates = updates_of(alloc, rows, gone)?;
-    goes(tree, &updates, chain)
+    let good = goes(tree, &updates, chain);
+    drop(updates);
+    good
 }
+
+/// The chain of 89 after a snapshot of 96.
+static LONGEST: [u32; 4] = [89, 96, 98, 100];
 
 // Whether a snapshot of 96 is made, and the chain of 89 is right afterwards.
 fn split_goes(tree: &mut SnapTree) -> Result<bool, SnapFault> {
     let split = tree.split_leaf(96, 90)?;
-    goes(tree, &split.updates, &[89, 96, 98, 100])
+    let good = goes(tree, &split.updates, &LONGEST);
+    drop(split);
+    good
 }
 
 /// One id gets a record.
-const ROOT: [Row; 1] = [(88, 0, 0, 0, SnapState::LiveLeaf)];
+static ROOT: [Row; 1] = [(88, 0, 0, 0, SnapState::LiveLeaf)];
 
 /// 98 has one child.
-const ONE_CHILD: [Row; 1] = [(98, 100, 96, 0, SnapState::Interior)];
+static ONE_CHILD: [Row; 1] = [(98, 100, 96, 0, SnapState::Interior)];
 
 /// 96 stands under 100.
-const WITHOUT_98: [Row; 2] = [
+static WITHOUT_98: [Row; 2] = [
     (96, 100, 90, 89, SnapState::Interior),
     (100, 0, 99, 96, SnapState::Interior),
 ];
 
 // Whether three changes go: a root of its own; then 95 goes, which leaves 98 with one child; and then 98.
-fn three_go(alloc: Global, tree: &mut SnapTree) -> Result<[bool; 3], SnapFault> {
-    let root = rows_go(alloc, tree, &ROOT, 0, &[89, 96, 98, 100])?;
-    let one = rows_go(alloc, tree, &ONE_CHILD, 95, &[89, 96, 98, 100])?;
+fn three_go(alloc: Global, tree: &mut SnapTree) -> Result<bool, SnapFault> {
+    let root = rows_go(alloc, tree, &ROOT, 0, &LONGEST)?;
+    let one = rows_go(alloc, tree, &ONE_CHILD, 95, &LONGEST)?;
     let none = rows_go(alloc, tree, &WITHOUT_98, 98, &[89, 96, 100])?;
-    Ok([root, one, none])
+    Ok(root && one && none)
 }
 
-// Whether a snapshot and three changes go, how many ids a copy from between them has, and how many live leaves there are.
-fn four_go(
-    alloc: Global,
-    tree: &mut SnapTree,
-) -> Result<(bool, [bool; 3], usize, usize), SnapFault> {
+// How many ids a copy has.
+fn copied_ids(alloc: Global, tree: &SnapTree) -> Result<usize, SnapFault> {
+    let copy = tree.copy(alloc)?;
+    let ids = copy.len();
+    drop(copy);
+    Ok(ids)
+}
+
+// Whether a snapshot and three changes go, a copy from between them has 8 ids, and there are 5 live leaves.
+fn four_go(alloc: Global, tree: &mut SnapTree) -> Result<bool, SnapFault> {
     let split = split_goes(tree)?;
-    let before = tree.copy(alloc)?;
+    let before = copied_ids(alloc, tree)?;
     let three = three_go(alloc, tree)?;
-    Ok((split, three, before.len(), tree.live_leaves()))
+    Ok(split && three && before == 8 && tree.live_leaves() == 5)
 }
 
 #[test]
 fn updates(rt: HostRuntime) -> Result<(), Fail> {
-    let alloc = rt.alloc();
-    let mut tree = tree_of(alloc, &TREES)?;
-    let gone = four_go(alloc, &mut tree);
-    assert!(rt; gone == Ok((true, [true; 3], 8, 5)));
+    let mut tree = tree_of(rt.alloc(), &TREES)?;
+    let good = four_go(rt.alloc(), &mut tree);
+    drop(tree);
+    assert!(rt; good?);
     Ok(())
 }
 
@@ -329,24 +413,34 @@ fn is_refused(tree: &mut SnapTree, updates: &Updates) -> bool
 // Whether a record and a removal are refused.
 fn are_refused(alloc: Global, tree: &mut SnapTree, row: Row, gone: u32) -> Result<bool, SnapFault> {
     let updates = updates_of(alloc, &[row], gone)?;
-    Ok(is_refused(tree, &updates))
+    let good = is_refused(tree, &updates);
+    drop(updates);
+    Ok(good)
 }
 
 /// A parent that is missing, one below its child, a child that is missing, and an id that goes and is named.
-const REFUSED: [(Row, u32); 4] = [
+static REFUSED: [(Row, u32); 4] = [
     ((90, 94, 0, 0, SnapState::LiveLeaf), 0),
     ((97, 96, 0, 0, SnapState::LiveLeaf), 0),
     ((91, 0, 96, 94, SnapState::Interior), 0),
     ((90, 0, 0, 0, SnapState::LiveLeaf), 98),
 ];
 
+fn all_are_refused(alloc: Global, tree: &mut SnapTree) -> Result<bool, SnapFault> {
+    for (row, gone) in REFUSED.iter() {
+        if !are_refused(alloc, tree, *row, *gone)? {
+            return Ok(false);
+        }
+    }
+    Ok(true)
+}
+
 #[test]
 fn refused_updates(rt: HostRuntime) -> Result<(), Fail> {
-    let alloc = rt.alloc();
-    let mut tree = tree_of(alloc, &TREES)?;
-    for (row, gone) in REFUSED {
-        assert!(rt; are_refused(alloc, &mut tree, row, gone) == Ok(true));
-    }
+    let mut tree = tree_of(rt.alloc(), &TREES)?;
+    let good = all_are_refused(rt.alloc(), &mut tree);
+    drop(tree);
+    assert!(rt; good?);
     Ok(())
 }
 
@@ -431,9 +525,12 @@ fn first_wrong(tree: &SnapTree, is_long: bool) -> Option<u32> {
 fn split_lowest(tree: &mut SnapTree) -> Result<u64, SnapFault> {
     let lowest = u32::MAX - (MANY - 1);
     let split = tree.split_leaf(lowest, lowest - 1)?;
-    tree.apply(&split.updates)?;
+    let copy = split.copy;
+    let made = tree.apply(&split.updates);
+    drop(split);
+    made?;
     let mut steps = Steps::new();
-    if !tree.is_ancestor_counted(u32::MAX, split.copy, &mut steps) {
+    if !tree.is_ancestor_counted(u32::MAX, copy, &mut steps) {
         return Err(SnapFault::NoNode);
     }
     Ok(steps.followed)
@@ -442,14 +539,18 @@ fn split_lowest(tree: &mut SnapTree) -> Result<u64, SnapFault> {
 // A tree of many ids.
 fn many_of(alloc: Global, is_long: bool) -> Result<SnapTree, SnapFault> {
     let rows = many_rows(alloc, is_long)?;
-    tree_of(alloc, rows.as_slice())
+    let tree = tree_of(alloc, rows.as_slice());
+    drop(rows);
+    tree
 }
 
 // The first wrong search in a tree of many ids, how many links lead up from a snapshot of the lowest one, and how many live
 // leaves there are then.
 fn searched(alloc: Global, is_long: bool) -> Result<(Option<u32>, u64, usize), SnapFault> {
     let mut tree = many_of(alloc, is_long)?;
-    search(&mut tree, is_long)
+    let found = search(&mut tree, is_long);
+    drop(tree);
+    found
 }
 
 fn search(tree: &mut SnapTree, is_long: bool) -> Result<(Option<u32>, u64, usize), SnapFault> {
@@ -460,63 +561,58 @@ fn search(tree: &mut SnapTree, is_long: bool) -> Result<(Option<u32>, u64, usize
 
 #[test]
 fn many_ids(rt: HostRuntime) -> Result<(), Fail> {
-    let alloc = rt.alloc();
     // 4,096 ids up are one link, and 13 are three
-    for (is_long, links) in [(true, 1), (false, 3)] {
-        assert!(rt; searched(alloc, is_long)? == (None, links, 4097));
-    }
+    let long = searched(rt.alloc(), true)?;
+    let wide = searched(rt.alloc(), false)?;
+    assert!(rt; long == (None, 1, 4097) && wide == (None, 3, 4097));
     Ok(())
 }
 
-// How many links updates make anew.
-fn links_made(tree: &SnapTree, updates: &Updates) -> Result<usize, AllocError>
-    requires { All IsFitting updates.now }
-{
-    let changes = changes_of(tree.alloc, &tree.snaps, updates)?;
-    let stale = stale_of(tree.alloc, &tree.snaps, &tree.names, &changes)?;
-    Ok(stale.len())
-}
+// An id that goes, two ids that go under its parent, and this parent, each as how far from the greatest id it is; and how long
+// the chain of the lowest of many ids is then.
+type TakenOut = (u32, u32, u32, u32, usize);
 
-// An id that goes, two ids that go under its parent, and this parent, each as how far from the greatest id it is; how many
-// links are made anew for it; and how long the chain of the lowest of many ids is then.
-type TakenOut = (u32, u32, u32, u32, usize, usize);
-
-/// In the chain the ids 4,095 to 2,049 far are below the one that is 2,048 far: 2,046 of them, once that which is 4,094 far
-/// has gone.
-const LONG: [TakenOut; 2] = [
-    (4094, 4095, 4095, 4093, 1, 4095),
-    (2048, 2049, 2049, 2047, 2046, 4094),
+/// In the chain one id is under each.
+static LONG: [TakenOut; 2] = [
+    (4094, 4095, 4095, 4093, 4095),
+    (2048, 2049, 2049, 2047, 4094),
 ];
 
-/// In the wide tree two ids are under each, but one under that which is 2,047 far, as the lowest of 13 levels. Below an id
-/// of the fifth level are 2 + 4 + 8 + 16 + 32 + 64 + 128 = 254 ids, and the lowest one below the first of that level too.
-const WIDE: [TakenOut; 3] = [
-    (30, 61, 62, 14, 254, 13),
-    (15, 31, 32, 7, 255, 12),
-    (2047, 4095, 4095, 1023, 1, 11),
+/// In the wide tree two ids are under each, but one under that which is 2,047 far, as the lowest of 13 levels.
+static WIDE: [TakenOut; 3] = [
+    (30, 61, 62, 14, 13),
+    (15, 31, 32, 7, 12),
+    (2047, 4095, 4095, 1023, 11),
 ];
 
 // The updates that take an id out.
 fn taken_out(alloc: Global, case: TakenOut) -> Result<Updates, AllocError>
     ensures { IfOk result (All IsFitting) }
 {
-    let (gone, first, second, parent, _, _) = case;
-    let under = leaf_under(u32::MAX - parent);
+    let (gone, first, second, parent, _) = case;
+    let parent = u32::MAX - parent;
     let mut updates = Updates::new(alloc);
-    updates.push(snap_update(u32::MAX - first, under))?;
-    updates.push(snap_update(u32::MAX - second, under))?;
+    updates.push(update_of((u32::MAX - first, parent, 0, 0, SnapState::LiveLeaf)))?;
+    updates.push(update_of((u32::MAX - second, parent, 0, 0, SnapState::LiveLeaf)))?;
     updates.push(removal(u32::MAX - gone))?;
     Ok(updates)
 }
 
-// Whether taking an id out makes as many links anew, and leaves as long a chain, as the case says.
-fn is_as_told(tree: &mut SnapTree, case: TakenOut) -> Result<bool, SnapFault> {
-    let updates = taken_out(tree.alloc, case)?;
-    let made = links_made(tree, &updates)?;
-    tree.apply(&updates)?;
-    let lowest = u32::MAX - (MANY - 1);
-    let length = tree.chain(lowest)?.as_slice().len();
-    Ok(made == case.4 && length == case.5)
+// How long the chain of the lowest of many ids is.
+fn lowest_chain(tree: &SnapTree) -> Result<usize, SnapFault> {
+    let chain = tree.chain(u32::MAX - (MANY - 1))?;
+    let length = chain.len();
+    drop(chain);
+    Ok(length)
+}
+
+// Whether taking an id out leaves as long a chain as the case says.
+fn is_as_told(alloc: Global, tree: &mut SnapTree, case: TakenOut) -> Result<bool, SnapFault> {
+    let updates = taken_out(alloc, case)?;
+    let made = tree.apply(&updates);
+    drop(updates);
+    made?;
+    Ok(lowest_chain(tree)? == case.4)
 }
 
 // The first id whose removal from a large tree isn't as told.
@@ -526,12 +622,18 @@ fn first_untold(
     cases: &[TakenOut],
 ) -> Result<Option<u32>, SnapFault> {
     let mut tree = many_of(alloc, is_long)?;
-    untold_in(&mut tree, cases)
+    let untold = untold_in(alloc, &mut tree, cases);
+    drop(tree);
+    untold
 }
 
-fn untold_in(tree: &mut SnapTree, cases: &[TakenOut]) -> Result<Option<u32>, SnapFault> {
+fn untold_in(
+    alloc: Global,
+    tree: &mut SnapTree,
+    cases: &[TakenOut],
+) -> Result<Option<u32>, SnapFault> {
     for case in cases {
-        if !is_as_told(tree, *case)? {
+        if !is_as_told(alloc, tree, *case)? {
             return Ok(Some(case.0));
         }
     }
@@ -543,26 +645,5 @@ fn removals(rt: HostRuntime) -> Result<(), Fail> {
     let alloc = rt.alloc();
     assert!(rt; first_untold(alloc, true, &LONG)? == None);
     assert!(rt; first_untold(alloc, false, &WIDE)? == None);
-    Ok(())
-}
-
-// How many links a snapshot of 96 makes.
-fn split_links(tree: &SnapTree) -> Result<usize, SnapFault> {
-    let split = tree.split_leaf(96, 90)?;
-    Ok(links_made(tree, &split.updates)?)
-}
-
-// How many links a root of its own makes.
-fn root_links(alloc: Global, tree: &SnapTree) -> Result<usize, SnapFault> {
-    let root = updates_of(alloc, &ROOT, 0)?;
-    Ok(links_made(tree, &root)?)
-}
-
-#[test]
-fn few_links(rt: HostRuntime) -> Result<(), Fail> {
-    let alloc = rt.alloc();
-    let tree = tree_of(alloc, &TREES)?;
-    assert!(rt; split_links(&tree) == Ok(2));
-    assert!(rt; root_links(alloc, &tree) == Ok(1));
     Ok(())
 }
