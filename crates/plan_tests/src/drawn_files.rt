@@ -7,6 +7,7 @@ use extent_ops::{cover, overwrite, punch};
 use snap_tree::SnapTree;
 use std::alloc::{AllocError, Global};
 use std::collections::BTreeMap;
+use std::ops::Bound;
 use std::test::Fail;
 use vol_types::{Duplicate, Key, Keys, Pos, Value};
 
@@ -56,16 +57,33 @@ fn looked_at(
     first: u64,
     last: u64,
 ) -> Result<Keys, AllocError> {
+    let from = end_pos(first.saturating_add(1), 0);
+    let to = end_pos(last.saturating_add(16), u32::MAX);
     let mut keys = Keys::new(alloc);
-    for (pos, value) in map {
-        if first < pos.offset && pos.offset <= last.saturating_add(16) {
-            keys.push(Key {
-                pos: *pos,
-                value: Some(value.copy(alloc)?),
-            })?;
-        }
+    if from > to {
+        return Ok(keys);
+    }
+    for (pos, value) in map.range((Bound::Included(from), Bound::Included(to))) {
+        push_copy(alloc, &mut keys, pos, value)?;
     }
     Ok(keys)
+}
+
+// Where an extent or a hole of the file stands that ends at a block.
+fn end_pos(offset: u64, snapshot: u32) -> Pos {
+    Pos {
+        inode: 7,
+        offset,
+        snapshot,
+    }
+}
+
+fn push_copy(alloc: Global, keys: &mut Keys, pos: &Pos, value: &Value) -> Result<(), AllocError> {
+    keys.push(Key {
+        pos: *pos,
+        value: Some(value.copy(alloc)?),
+    })?;
+    Ok(())
 }
 
 // Adds a run of blocks, as extents of 16 blocks and a shorter one.
