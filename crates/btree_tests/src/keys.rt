@@ -1,561 +1,172 @@
-//! The keys of a btree beside a plain sorted list and a plain list of ends: random puts, removals and cuts, and several
-//! changes at once, also where memory runs out on the way (`rt try --test --fail-alloc N`).
+//! The keys of a btree: what stands beside an offset, leaves and their sizes where they are cut and joined, several changes at
+//! once, and keys that are made of a map.
 
 ghost use Rattle.std.specs.Prelude.{All, IfOk};
 ghost use Rattle.vol_types.specs.Ranges.{IsKeyValue};
 
-use crate::plain::{
-    Plain, at, is_found, offset_of, plain_at, plain_from, plain_put, plain_up_to, random, value_of,
-    was,
-};
-use node_mem::NodeMem;
+use crate::looks::{at, count, offset_of};
 use std::alloc::{AllocError, Global};
 use std::collections::BTreeMap;
 use std::test::Fail;
 use tree_keys::{LeafSize, TreeKeys};
-use vol_types::{Duplicate, Key, Listing, Pos, Value};
+use vol_types::{Duplicate, Key, Keys, Pos, Value};
 
-// The offsets at which leaves end, in order. One more ends at the greatest position.
-type Ends = Vec<u64>;
-
-// The end of the leaf that covers an offset, or none where it is the last leaf.
-fn plain_end(ends: &[u64], offset: u64) -> Option<u64> {
-    for end in ends {
-        if *end >= offset {
-            return Some(*end);
-        }
-    }
-    None
+fn put_white(keys: &mut TreeKeys, offset: u64) -> Result<(), AllocError> {
+    keys.put(&at(offset), Some(Value::White))?;
+    Ok(())
 }
 
-// The last end before an offset.
-fn plain_before(ends: &[u64], offset: u64) -> Option<u64> {
-    let mut before = None;
-    for end in ends {
-        if *end < offset {
-            before = Some(*end);
-        }
+// Puts whiteouts at 2, 5 and 9, and cuts after offset 5.
+fn fill(keys: &mut TreeKeys) -> Result<(), AllocError> {
+    put_white(keys, 2)?;
+    put_white(keys, 5)?;
+    put_white(keys, 9)?;
+    if !keys.is_end(&at(5)) {
+        keys.cut(&at(5))?;
     }
-    before
+    Ok(())
 }
 
-fn end_pos(end: Option<u64>) -> Pos {
-    match end {
-        None => Pos::GREATEST,
-        Some(offset) => at(offset),
-    }
+// Whether what stands beside an offset and in a range is found.
+fn finds_all(keys: &TreeKeys) -> bool {
+    keys.len() == 3
+        && offset_of(keys.next_from(&at(5))) == Some(5)
+        && offset_of(keys.next_after(&at(5))) == Some(9)
+        && offset_of(keys.last_up_to(&at(4))) == Some(2)
+        && count(keys.range(&at(3), &at(9))) == 2
 }
 
-fn start_pos(before: Option<u64>) -> Option<Pos> {
-    match before {
-        None => Some(Pos::LEAST),
-        Some(offset) => at(offset).next(),
-    }
+// Whether the leaves are those before the changes: 56 bytes, and 21 for each whiteout.
+fn has_leaves(keys: &TreeKeys) -> bool {
+    keys.leaf_of(&at(4)) == at(5)
+        && keys.leaf_of(&at(6)) == Pos::GREATEST
+        && Some(keys.start_of(&Pos::GREATEST)) == at(5).next()
+        && keys.size(&at(5)) == Some(98)
+        && keys.size(&Pos::GREATEST) == Some(77)
+        && keys.size(&at(4)).is_none()
+        && keys.middle(&at(5)) == Some(at(2))
 }
 
-// The bytes of a leaf: 56, and 21, 25 or 29 for each of its keys.
-fn plain_size(plain: &[(u64, u64)], ends: &[u64], end: Option<u64>) -> Option<u32> {
-    let mut size: u32 = 56;
-    for (place, number) in plain {
-        if plain_end(ends, *place) == end {
-            size = size.wrapping_add(21 + 4 * (*number % 3) as u32);
-        }
-    }
-    Some(size)
+// Whether the first leaf as a node has two keys.
+fn has_node(alloc: Global, keys: &TreeKeys) -> Result<bool, AllocError> {
+    let node = keys.leaf(alloc, &at(5))?;
+    let good = node.len() == 2 && node.size() == 98 && node.greatest() == at(5);
+    drop(node);
+    Ok(good)
 }
 
-// Whether a leaf is found with this end, and the size that the lists give it.
-fn is_end_of_size(
-    keys: &TreeKeys,
-    found: Option<&Pos>,
-    plain: &[(u64, u64)],
-    ends: &[u64],
-    end: Option<u64>,
-) -> bool {
-    match found {
+fn push_key(keys: &mut Keys, offset: u64, value: Option<Value>) -> Result<(), AllocError>
+    requires value { IsKeyValue value }
+    requires in_range { All (λ key. IsKeyValue key.value) keys.old }
+    ensures { All (λ key. IsKeyValue key.value) keys.new }
+{
+    keys.push(Key {
+        pos: at(offset),
+        value,
+    })?;
+    Ok(())
+}
+
+// Two changes of one position, and one of another in the second leaf.
+fn some_changes(alloc: Global) -> Result<Keys, AllocError>
+    ensures { IfOk result (All (λ key. IsKeyValue key.value)) }
+{
+    let mut keys = Keys::new(alloc);
+    push_key(&mut keys, 5, Some(Value::Counter { next: 4 }))?;
+    push_key(&mut keys, 5, None)?;
+    push_key(&mut keys, 7, Some(Value::White))?;
+    Ok(keys)
+}
+
+fn is_of_size(leaf: Option<&LeafSize>, end: Pos, size: u32) -> bool {
+    match leaf {
         None => false,
-        Some(pos) => *pos == end_pos(end) && keys.size(pos) == plain_size(plain, ends, end),
+        Some(leaf) => leaf.end == end && leaf.size == size,
     }
 }
 
-// Whether the leaves and their sizes are those of the lists.
-fn has_sizes(keys: &TreeKeys, plain: &[(u64, u64)], ends: &[u64]) -> bool {
-    let mut found = keys.ends();
-    for end in ends {
-        if !is_end_of_size(keys, found.next(), plain, ends, Some(*end)) {
-            return false;
-        }
-    }
-    is_end_of_size(keys, found.next(), plain, ends, None) && found.next().is_none()
+// Whether the leaves would have these sizes after the changes.
+fn sizes_fit(alloc: Global, keys: &TreeKeys, changes: &[Key]) -> Result<bool, AllocError>
+    requires { All (λ key. IsKeyValue key.value) changes.now }
+{
+    let sizes = keys.sizes_after(alloc, changes)?;
+    let fit = sizes.len() == 2
+        && is_of_size(sizes.get(0), at(5), 77)
+        && is_of_size(sizes.get(1), Pos::GREATEST, 98);
+    drop(sizes);
+    Ok(fit)
 }
 
-// Whether the values of a range are those of the list, and all that the list has there.
-fn has_range(keys: &TreeKeys, plain: &[(u64, u64)], first: u64, last: u64) -> bool {
-    let mut found = keys.range(&at(first), &at(last));
-    for (place, number) in plain {
-        if first <= *place && *place <= last && !is_found(found.next(), *place, *number) {
-            return false;
-        }
-    }
-    found.next().is_none()
-}
-
-// Whether the neighbours of an offset are those of the list.
-fn has_next(keys: &TreeKeys, plain: &[(u64, u64)], offset: u64) -> bool {
-    let after = offset.saturating_add(1);
-    offset_of(keys.next_from(&at(offset))) == plain_from(plain, offset)
-        && offset_of(keys.next_after(&at(offset))) == plain_from(plain, after)
-        && offset_of(keys.last_up_to(&at(offset))) == plain_up_to(plain, offset)
-}
-
-// Whether they are, and its leaf is that of the list of ends.
-fn has_neighbours(keys: &TreeKeys, plain: &[(u64, u64)], ends: &[u64], offset: u64) -> bool {
-    let end = end_pos(plain_end(ends, offset));
-    has_next(keys, plain, offset)
-        && keys.leaf_of(&at(offset)) == end
-        && Some(keys.start_of(&end)) == start_pos(plain_before(ends, offset))
-}
-
-// Whether the node of the leaf that covers an offset is that of the lists.
-fn has_leaf(
-    alloc: Global,
-    keys: &TreeKeys,
-    plain: &[(u64, u64)],
-    ends: &[u64],
-    offset: u64,
-) -> Result<bool, AllocError> {
-    let end = plain_end(ends, offset);
-    let node = keys.leaf(alloc, &end_pos(end))?;
-    let good = node.greatest() == end_pos(end)
-        && Some(node.least()) == start_pos(plain_before(ends, offset))
-        && Some(node.size()) == plain_size(plain, ends, end)
-        && keys.middle(&end_pos(end)) == node.middle();
-    Ok(good && is_node_of(&node, plain, ends, end))
-}
-
-fn is_node_of(node: &NodeMem, plain: &[(u64, u64)], ends: &[u64], end: Option<u64>) -> bool {
-    let mut found = node.iter();
-    for (place, number) in plain {
-        if plain_end(ends, *place) == end && !is_found(found.next(), *place, *number) {
-            return false;
-        }
-    }
-    found.next().is_none()
-}
-
-// Whether all is that of the lists.
-fn has_all(keys: &TreeKeys, plain: &[(u64, u64)], ends: &[u64]) -> bool {
-    keys.len() == plain.len() && has_range(keys, plain, 0, u64::MAX) && has_sizes(keys, plain, ends)
-}
-
-// Whether the value that is put at an offset replaces that of a number, or none.
-fn put_over(
-    keys: &mut TreeKeys,
-    offset: u64,
-    number: u64,
-    old: Option<u64>,
-) -> Result<bool, AllocError> {
-    let before = keys.put(&at(offset), Some(value_of(number)))?;
-    Ok(was(&before, old))
-}
-
-// Puts the value of a number or removes one, and says whether the one before was that of the list.
-fn put_one(
-    keys: &mut TreeKeys,
-    plain: &[(u64, u64)],
-    offset: u64,
-    number: Option<u64>,
-) -> Result<bool, AllocError> {
-    let old = plain_at(plain, offset);
-    match number {
-        None => Ok(was(&keys.remove(&at(offset)), old)),
-        Some(number) => put_over(keys, offset, number, old),
-    }
-}
-
-// The list with one more end, unless it has that one.
-fn with_end(alloc: Global, ends: &[u64], offset: u64) -> Result<Ends, AllocError> {
-    let mut changed = Vec::new(alloc);
-    for end in ends {
-        if *end < offset {
-            changed.push(*end)?;
-        }
-    }
-    changed.push(offset)?;
-    for end in ends {
-        if *end > offset {
-            changed.push(*end)?;
-        }
-    }
-    Ok(changed)
-}
-
-// Cuts at an offset that is no end, and adds it to the list.
-fn cut_one(
-    alloc: Global,
-    keys: &mut TreeKeys,
-    ends: &[u64],
-    offset: u64,
-) -> Result<Ends, AllocError> {
-    let changed = with_end(alloc, ends, offset)?;
-    let pos = at(offset);
-    if !keys.is_end(&pos) {
-        keys.cut(&pos)?;
-    }
-    Ok(changed)
-}
-
-// Whether what is looked up at an offset, and between another and it, is that of the lists, and with `deep` all that there is.
-fn is_same(
-    alloc: Global,
-    keys: &TreeKeys,
-    plain: &[(u64, u64)],
-    ends: &[u64],
-    between: (u64, u64),
-    deep: bool,
-) -> Result<bool, AllocError> {
-    let (first, offset) = between;
-    if !has_neighbours(keys, plain, ends, offset) || !has_range(keys, plain, first, offset) {
-        return Ok(false);
-    }
-    Ok(!deep || has_all(keys, plain, ends) && has_leaf(alloc, keys, plain, ends, offset)?)
-}
-
-// One random put or removal, and whether all that is looked up then is that of the lists.
-fn goes_on(
-    alloc: Global,
-    keys: &mut TreeKeys,
-    plain: &[(u64, u64)],
-    ends: &[u64],
-    seed: u64,
-) -> Result<Option<Plain>, AllocError> {
-    let (offset, number) = ((seed >> 32) % 400, (seed >> 12) % 100_000);
-    let number = if (seed >> 60) < 6 { None } else { Some(number) };
-    if !put_one(keys, plain, offset, number)? {
-        return Ok(None);
-    }
-    let plain = plain_put(alloc, plain, offset, number)?;
-    let between = (offset, (seed >> 41) % 400);
-    let deep = (seed >> 50) % 16 == 0;
-    let good = is_same(alloc, keys, &plain, ends, between, deep)?;
-    Ok(if good { Some(plain) } else { None })
-}
-
-// The map of the list.
-fn map_of(alloc: Global, plain: &[(u64, u64)]) -> Result<BTreeMap<Pos, Value>, AllocError> {
-    let mut map = BTreeMap::new(alloc);
-    for (place, number) in plain {
-        map.insert(at(*place), value_of(*number))?;
-    }
-    Ok(map)
-}
-
-// The positions of the ends, which lack the last one where that is asked for.
-fn positions_of(alloc: Global, ends: &[u64], whole: bool) -> Result<Vec<Pos>, AllocError> {
-    let mut positions = Vec::new(alloc);
-    for end in ends {
-        positions.push(at(*end))?;
-    }
-    if whole {
-        positions.push(Pos::GREATEST)?;
-    }
-    Ok(positions)
-}
-
-// The keys that are made of the lists, if they are.
-fn made(
-    alloc: Global,
-    plain: &[(u64, u64)],
-    ends: &[u64],
-    whole: bool,
-) -> Result<Option<TreeKeys>, AllocError> {
-    let positions = positions_of(alloc, ends, whole)?;
-    TreeKeys::of(alloc, map_of(alloc, plain)?, positions.as_slice())
-}
-
-// Whether the keys that are made of the lists are those of the lists.
-fn makes(alloc: Global, plain: &[(u64, u64)], ends: &[u64]) -> Result<bool, AllocError> {
-    if made(alloc, plain, ends, false)?.is_some() {
-        return Ok(false);
-    }
-    Ok(match made(alloc, plain, ends, true)? {
-        None => false,
-        Some(keys) => has_all(&keys, plain, ends),
-    })
-}
-
-// Whether a copy of the keys is that of the lists.
-fn copies(
-    alloc: Global,
-    keys: &TreeKeys,
-    plain: &[(u64, u64)],
-    ends: &[u64],
-) -> Result<bool, AllocError> {
-    let copy = keys.copy(alloc)?;
-    Ok(has_all(&copy, plain, ends))
-}
-
-// Random steps and cuts from no keys on, and whether the keys are those of the lists after each.
-fn takes_steps(
-    alloc: Global,
-    keys: &mut TreeKeys,
-    plain: &mut Plain,
-    ends: &mut Ends,
-) -> Result<bool, AllocError> {
-    let mut seed: u64 = 17;
-    for step in 0..4_000 {
-        seed = random(seed);
-        match goes_on(alloc, keys, plain, ends, seed)? {
-            None => return Ok(false),
-            Some(changed) => *plain = changed,
-        }
-        if step % 250 == 249 {
-            *ends = cut_one(alloc, keys, ends, (seed >> 23) % 400)?;
-        }
-    }
-    Ok(true)
-}
-
-// Whether the keys, a copy of them, and those that are made of the lists are all that of the lists.
-fn ends_well(
-    alloc: Global,
-    keys: &TreeKeys,
-    plain: &[(u64, u64)],
-    ends: &[u64],
-) -> Result<bool, AllocError> {
-    Ok(
-        has_all(keys, plain, ends)
-            && copies(alloc, keys, plain, ends)?
-            && makes(alloc, plain, ends)?,
+// Whether these are the values before each of the changes.
+fn are_before(before: &[Option<Value>]) -> bool {
+    matches!(
+        before,
+        [Some(Value::White), Some(Value::Counter { next: 4 }), None]
     )
 }
 
-// Random steps and cuts, and how many keys and ends there are then, or none where the keys aren't those of the lists.
-fn goes_all_steps(
-    alloc: Global,
-    keys: &mut TreeKeys,
-) -> Result<Option<(usize, usize)>, AllocError> {
-    let mut plain: Plain = Vec::new(alloc);
-    let mut ends: Ends = Vec::new(alloc);
-    let good = takes_steps(alloc, keys, &mut plain, &mut ends)?
-        && ends_well(alloc, keys, &plain, &ends)?;
-    Ok(if good {
-        Some((plain.len(), ends.len()))
-    } else {
-        None
-    })
-}
-
-#[test]
-fn random_steps(rt: HostRuntime) -> Result<(), Fail> {
-    let alloc = rt.alloc();
-    let mut keys = TreeKeys::new(alloc)?;
-    match goes_all_steps(alloc, &mut keys)? {
-        None => assert!(rt; false),
-        Some((keys, ends)) => {
-            assert!(rt; keys > 200);
-            assert!(rt; ends > 10);
-        }
-    }
-    Ok(())
-}
-
-// Random changes, some of them of one position, with what they make of the list and what each finds there.
-#[derive(Drop)]
-struct Script {
-    changes: Listing<Key>,
-    found: Vec<Option<u64>>,
-    plain: Plain,
-    seed: u64,
-}
-
-fn key(offset: u64, number: Option<u64>) -> Key
-    ensures { IsKeyValue result.value }
+// Makes the changes at once, and says whether their positions had what they had to have.
+fn puts_all(alloc: Global, keys: &mut TreeKeys, changes: &[Key]) -> Result<bool, AllocError>
+    requires { All (λ key. IsKeyValue key.value) changes.now }
 {
-    Key {
-        pos: at(offset),
-        value: match number {
-            None => None,
-            Some(number) => Some(value_of(number)),
-        },
-    }
+    let before = keys.put_all(alloc, changes)?;
+    let good = are_before(before.as_slice());
+    drop(before);
+    Ok(good)
 }
 
-// Makes a change of the list, and adds what it finds there.
-fn change_plain(
-    alloc: Global,
-    found: &mut Vec<Option<u64>>,
-    plain: &mut Plain,
-    offset: u64,
-    number: Option<u64>,
-) -> Result<(), AllocError> {
-    found.push(plain_at(plain, offset))?;
-    *plain = plain_put(alloc, plain, offset, number)?;
-    Ok(())
+fn changes_all(alloc: Global, keys: &mut TreeKeys) -> Result<bool, AllocError> {
+    let changes = some_changes(alloc)?;
+    let fit = sizes_fit(alloc, keys, changes.as_slice());
+    let puts = puts_all(alloc, keys, changes.as_slice());
+    drop(changes);
+    Ok(fit? && puts?)
 }
 
-// Draws one more change.
-fn add_change(alloc: Global, script: &mut Script) -> Result<(), AllocError>
-    requires { All (λ change. IsKeyValue change.value) script.old.changes }
-    ensures { All (λ change. IsKeyValue change.value) script.new.changes }
-{
-    let seed = random(script.seed);
-    let (offset, number) = ((seed >> 32) % 60, (seed >> 12) % 100_000);
-    let number = if (seed >> 60) < 6 { None } else { Some(number) };
-    script.seed = seed;
-    script.changes.push(key(offset, number))?;
-    change_plain(alloc, &mut script.found, &mut script.plain, offset, number)
-}
-
-fn make_script(
-    alloc: Global,
-    plain: &[(u64, u64)],
-    count: u64,
-    seed: u64,
-) -> Result<Script, AllocError>
-    ensures { IfOk result (λ script. All (λ change. IsKeyValue change.value) script.changes) }
-{
-    let plain = plain_put(alloc, plain, 1_000, None)?;
-    let mut script = Script {
-        changes: Listing::new(alloc),
-        found: Vec::new(alloc),
-        plain,
-        seed,
-    };
-    for _ in 0..count {
-        add_change(alloc, &mut script)?;
-    }
-    Ok(script)
-}
-
-fn found_all(before: &[Option<Value>], found: &[Option<u64>]) -> bool {
-    let mut left = found.iter();
-    for value in before {
-        match left.next() {
-            None => return false,
-            Some(number) => {
-                if !was(value, *number) {
-                    return false;
-                }
-            }
-        }
-    }
-    left.next().is_none()
-}
-
-fn touches(changes: &[Key], ends: &[u64], end: Option<u64>) -> bool {
-    for change in changes {
-        if plain_end(ends, change.pos.offset) == end {
-            return true;
-        }
-    }
-    false
-}
-
-// Whether it is the size that a leaf has after the changes.
-fn is_size_after(
-    found: Option<&LeafSize>,
-    script: &Script,
-    ends: &[u64],
-    end: Option<u64>,
-) -> bool {
-    match found {
-        None => false,
-        Some(leaf) => {
-            leaf.end == end_pos(end) && Some(leaf.size) == plain_size(&script.plain, ends, end)
-        }
-    }
-}
-
-// Whether the sizes are those of the leaves that the changes touch, in order.
-fn sized_all(sizes: &[LeafSize], script: &Script, ends: &[u64]) -> bool {
-    let changes = script.changes.as_slice();
-    let mut left = sizes.iter();
-    for end in ends {
-        let end = Some(*end);
-        if touches(changes, ends, end) && !is_size_after(left.next(), script, ends, end) {
-            return false;
-        }
-    }
-    if touches(changes, ends, None) && !is_size_after(left.next(), script, ends, None) {
-        return false;
-    }
-    left.next().is_none()
-}
-
-// Makes the changes, and says whether all is that of the lists: before them where memory ran out, and then again.
-fn makes_all(
-    alloc: Global,
-    keys: &mut TreeKeys,
-    plain: &[(u64, u64)],
-    ends: &[u64],
-    script: &Script,
-) -> Result<bool, AllocError>
-    requires { All (λ change. IsKeyValue change.value) script.now.changes }
-{
-    let sizes = keys.sizes_after(alloc, script.changes.as_slice())?;
-    if !sized_all(sizes.as_slice(), script, ends) {
+// Whether the keys, whose leaves are joined, have three whiteouts in one leaf, and a copy has them.
+fn joins(alloc: Global, keys: &mut TreeKeys) -> Result<bool, AllocError> {
+    let end = at(5);
+    if !keys.is_end(&end) || end >= Pos::GREATEST {
         return Ok(false);
     }
-    let before = match keys.put_all(alloc, script.changes.as_slice()) {
-        Ok(before) => before,
-        Err(_) => {
-            if !has_all(keys, plain, ends) {
-                return Ok(false);
-            }
-            keys.put_all(alloc, script.changes.as_slice())?
-        }
-    };
-    Ok(found_all(before.as_slice(), &script.found) && has_all(keys, &script.plain, ends))
+    keys.join(&end);
+    let copy = keys.copy(alloc)?;
+    let good = copy.len() == 3 && copy.size(&Pos::GREATEST) == Some(119);
+    drop(copy);
+    Ok(good)
 }
 
-// Makes random changes at once, and gives the list after them and the next seed, or none where all isn't that of the lists.
-fn goes_round(
-    alloc: Global,
-    keys: &mut TreeKeys,
-    plain: &[(u64, u64)],
-    ends: &[u64],
-    count: u64,
-    seed: u64,
-) -> Result<Option<(Plain, u64)>, AllocError> {
-    let script = make_script(alloc, plain, count, seed)?;
-    if !makes_all(alloc, keys, plain, ends, &script)? {
-        return Ok(None);
-    }
-    Ok(Some((script.plain, script.seed)))
-}
-
-// Rounds of changes and cuts, and how many keys and ends there are then, or none where the keys aren't those of the lists.
-fn goes_all_rounds(
-    alloc: Global,
-    keys: &mut TreeKeys,
-) -> Result<Option<(usize, usize)>, AllocError> {
-    let mut plain: Plain = Vec::new(alloc);
-    let mut ends: Ends = Vec::new(alloc);
-    let mut seed: u64 = 23;
-    for round in 0..120 {
-        let Some((changed, next)) = goes_round(alloc, keys, &plain, &ends, round % 20, seed)? else {
-            return Ok(None);
-        };
-        plain = changed;
-        if round % 15 == 14 {
-            ends = cut_one(alloc, keys, &ends, (seed >> 23) % 60)?;
-        }
-        seed = next;
-    }
-    Ok(Some((plain.len(), ends.len())))
+fn goes_all_steps(alloc: Global, keys: &mut TreeKeys) -> Result<bool, AllocError> {
+    fill(keys)?;
+    let finds = finds_all(keys) && has_leaves(keys) && has_node(alloc, keys)?;
+    let changes = changes_all(alloc, keys)?;
+    Ok(finds && changes && joins(alloc, keys)?)
 }
 
 #[test]
-fn changes_at_once(rt: HostRuntime) -> Result<(), Fail> {
+fn steps(rt: HostRuntime) -> Result<(), Fail> {
+    let mut keys = TreeKeys::new(rt.alloc())?;
+    let good = goes_all_steps(rt.alloc(), &mut keys);
+    drop(keys);
+    assert!(rt; good?);
+    Ok(())
+}
+
+// Whether keys are made of one whiteout with leaves of these ends.
+fn are_made(alloc: Global, ends: &[Pos]) -> Result<bool, AllocError> {
+    let mut map = BTreeMap::new(alloc);
+    map.insert(at(2), Value::White)?;
+    let made = TreeKeys::of(alloc, map, ends)?;
+    let good = made.is_some();
+    drop(made);
+    Ok(good)
+}
+
+// The last end is the greatest position.
+#[test]
+fn keys_of_a_map(rt: HostRuntime) -> Result<(), Fail> {
     let alloc = rt.alloc();
-    let mut keys = TreeKeys::new(alloc)?;
-    match goes_all_rounds(alloc, &mut keys)? {
-        None => assert!(rt; false),
-        Some((keys, ends)) => {
-            assert!(rt; keys > 20);
-            assert!(rt; ends > 5);
-        }
-    }
+    let good = are_made(alloc, &[at(5), Pos::GREATEST])? && !are_made(alloc, &[at(5)])?;
+    assert!(rt; good);
     Ok(())
 }

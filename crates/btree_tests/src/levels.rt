@@ -1,203 +1,11 @@
-//! Random divisions and replacements beside plain lists of ranges, and levels that make a tree or none.
+//! Divisions and replacements from one leaf on, and levels that make a tree or none.
 
-use crate::plain::{NODE_PLACES, pointer, random};
+use crate::looks::at;
+use crate::pointers::{NODE_PLACES, pointer};
 use std::alloc::{AllocError, Global};
 use std::test::Fail;
 use tree_nodes::{LevelNodes, TreeNodes};
 use vol_types::{Duplicate, Listing, NodePtr, Places, Pos};
-
-const MOST: u64 = u64::MAX;
-
-const TOP: u32 = u32::MAX;
-
-/// An inode, an offset and a snapshot.
-type Parts = (u64, u64, u32);
-
-/// Positions in their order, each with the one that follows it.
-static PLACES: [(Parts, Parts); 12] = [
-    ((0, 0, 0), (0, 0, 1)),
-    ((0, 0, 1), (0, 0, 2)),
-    ((0, 0, 7), (0, 0, 8)),
-    ((0, 0, TOP), (0, 1, 0)),
-    ((0, 1, 0), (0, 1, 1)),
-    ((0, 9, TOP), (0, 10, 0)),
-    ((0, MOST, 3), (0, MOST, 4)),
-    ((0, MOST, TOP), (1, 0, 0)),
-    ((1, 0, 0), (1, 0, 1)),
-    ((5, 5, 5), (5, 5, 6)),
-    ((MOST, 0, TOP), (MOST, 1, 0)),
-    ((MOST, MOST, 8), (MOST, MOST, 9)),
-];
-
-fn at(parts: Parts) -> Pos {
-    let (inode, offset, snapshot) = parts;
-    Pos {
-        inode,
-        offset,
-        snapshot,
-    }
-}
-
-// What a node covers, and its birth.
-#[derive(Clone, Copy, PartialEq, Eq)]
-struct Range {
-    first: Pos,
-    last: Pos,
-    birth: u64,
-}
-
-// The ranges of up to three levels.
-#[derive(Drop)]
-struct Plain {
-    leaves: Vec<Range>,
-    middle: Vec<Range>,
-    top: Vec<Range>,
-}
-
-// Adds both parts of a range that is cut.
-fn push_parts(
-    after: &mut Vec<Range>,
-    range: &Range,
-    at: Pos,
-    next: Pos,
-    birth: u64,
-) -> Result<(), AllocError> {
-    let first = Range {
-        first: range.first,
-        last: at,
-        birth,
-    };
-    let second = Range {
-        first: next,
-        last: range.last,
-        birth: birth.wrapping_add(1),
-    };
-    after.push(first)?;
-    after.push(second)?;
-    Ok(())
-}
-
-// The ranges of a level with two, of the next births, in the place of the one that has a position inside.
-fn cut(
-    alloc: Global,
-    row: &[Range],
-    place: (Parts, Parts),
-    birth: u64,
-) -> Result<Vec<Range>, AllocError> {
-    let (at, next) = (at(place.0), at(place.1));
-    let mut after = Vec::new(alloc);
-    for range in row {
-        if range.first <= at && at < range.last {
-            push_parts(&mut after, range, at, next, birth)?;
-        } else {
-            after.push(*range)?;
-        }
-    }
-    Ok(after)
-}
-
-// Whether one of the ranges ends at a position.
-fn ends(row: &[Range], at: Pos) -> bool {
-    for range in row {
-        if range.last == at {
-            return true;
-        }
-    }
-    false
-}
-
-fn is_node(found: Option<&NodePtr>, range: &Range) -> bool {
-    match found {
-        None => false,
-        Some(node) => node.birth == range.birth,
-    }
-}
-
-fn is_at(found: Option<(&Pos, &NodePtr)>, range: &Range) -> bool {
-    match found {
-        None => false,
-        Some((at, node)) => *at == range.last && node.birth == range.birth,
-    }
-}
-
-// Whether a level has just these ranges, and each look finds them.
-fn has_row(tree: &TreeNodes, level: u8, row: &[Range]) -> bool {
-    for range in row {
-        let at = &range.last;
-        if !is_node(tree.get(level, at), range) || tree.least(level, at) != range.first {
-            return false;
-        }
-        if !is_at(tree.node_at(level, at), range)
-            || !is_at(tree.node_at(level, &range.first), range)
-        {
-            return false;
-        }
-    }
-    match tree.level(level) {
-        None => false,
-        Some(nodes) => nodes.len() == row.len(),
-    }
-}
-
-// The ends and the births of the ranges within another.
-fn within(alloc: Global, row: &[Range], outer: &Range) -> Result<Vec<(Pos, u64)>, AllocError> {
-    let mut inner = Vec::new(alloc);
-    for range in row {
-        if outer.first <= range.first && range.last <= outer.last {
-            inner.push((range.last, range.birth))?;
-        }
-    }
-    Ok(inner)
-}
-
-// The ends and the births of the children of a node.
-fn children(
-    alloc: Global,
-    tree: &TreeNodes,
-    level: u8,
-    at: &Pos,
-) -> Result<Vec<(Pos, u64)>, AllocError> {
-    let mut inner = Vec::new(alloc);
-    if level == 0 || level >= tree.height() {
-        return Ok(inner);
-    }
-    for (at, node) in tree.children(level, at) {
-        inner.push((*at, node.birth))?;
-    }
-    Ok(inner)
-}
-
-// Whether the children of each node are the ranges of the level below within its own.
-fn have_children(
-    alloc: Global,
-    tree: &TreeNodes,
-    level: u8,
-    row: &[Range],
-    below: &[Range],
-) -> Result<bool, AllocError> {
-    for range in row {
-        if children(alloc, tree, level, &range.last)? != within(alloc, below, range)? {
-            return Ok(false);
-        }
-    }
-    Ok(true)
-}
-
-// Whether the tree is that of the plain levels, of which those from its height on are empty.
-fn is_same(alloc: Global, tree: &TreeNodes, plain: &Plain) -> Result<bool, AllocError> {
-    let (leaves, middle, top) = (&plain.leaves, &plain.middle, &plain.top);
-    let height = tree.height();
-    if !has_row(tree, 0, leaves) || (height == 1) != middle.is_empty() {
-        return Ok(false);
-    }
-    if height > 1 && !(has_row(tree, 1, middle) && have_children(alloc, tree, 1, middle, leaves)?) {
-        return Ok(false);
-    }
-    if height == 3 {
-        return Ok(has_row(tree, 2, top) && have_children(alloc, tree, 2, top, middle)?);
-    }
-    Ok(top.is_empty())
-}
 
 // Replaces a node where there is one, and gives its old birth.
 fn replace(
@@ -259,217 +67,72 @@ fn divide_root(
     Ok(Some(old.birth))
 }
 
-// The ranges with another birth for the one that has a position.
-fn renamed(alloc: Global, row: &[Range], at: Pos, birth: u64) -> Result<Vec<Range>, AllocError> {
-    let mut after = Vec::new(alloc);
-    for range in row {
-        let is_it = range.first <= at && at <= range.last;
-        after.push(Range {
-            first: range.first,
-            last: range.last,
-            birth: if is_it { birth } else { range.birth },
-        })?;
-    }
-    Ok(after)
+// Divides the one leaf of a tree, divides the second one, and replaces the first. It gives the births of those that are gone.
+fn grow(alloc: Global, tree: &mut TreeNodes) -> Result<[Option<u64>; 3], AllocError> {
+    let root = divide_root(alloc, tree, &at(7), 2)?;
+    let leaf = divide(alloc, tree, 0, &at(9), 5)?;
+    let first = replace(alloc, tree, 0, &at(7), 8)?;
+    Ok([root, leaf, first])
 }
 
-// The birth of the range that has a position, or has it before its last one.
-fn birth_at(row: &[Range], at: Pos, inside: bool) -> Option<u64> {
-    for range in row {
-        if range.first <= at && at <= range.last && !(inside && at == range.last) {
-            return Some(range.birth);
+/// The ends of the leaves then, and their births. 0 stands for the greatest position.
+static CHILDREN: [(u64, u64); 3] = [(7, 8), (9, 5), (0, 6)];
+
+fn is_at(found: Option<(&Pos, &NodePtr)>, end: u64, birth: u64) -> bool {
+    match found {
+        None => false,
+        Some((pos, node)) => *pos == end_pos(end) && node.birth == birth,
+    }
+}
+
+fn has_children(tree: &TreeNodes) -> bool {
+    if tree.height() != 2 {
+        return false;
+    }
+    let mut found = tree.children(1, &Pos::GREATEST);
+    for (end, birth) in CHILDREN.iter() {
+        if !is_at(found.next(), *end, *birth) {
+            return false;
         }
     }
-    None
+    found.next().is_none()
 }
 
-// Replaces the node of a level that covers a position.
-fn replace_step(
-    alloc: Global,
-    tree: &mut TreeNodes,
-    row: &mut Vec<Range>,
-    level: u8,
-    at: Pos,
-    birth: u64,
-) -> Result<bool, AllocError> {
-    let Some((greatest, _)) = tree.node_at(level, &at) else {
-        return Ok(false);
-    };
-    let greatest = *greatest;
-    let old = replace(alloc, tree, level, &greatest, birth)?;
-    let planned = birth_at(row, at, false);
-    *row = renamed(alloc, row, at, birth)?;
-    Ok(old == planned)
+// Whether a tree is the one that was grown.
+fn is_grown(tree: &TreeNodes) -> bool {
+    has_children(tree)
+        && is_at(tree.node_at(0, &at(8)), 9, 5)
+        && tree.get(0, &at(8)).is_none()
+        && Some(tree.least(0, &at(9))) == at(7).next()
+        && tree.root().birth == 4
 }
 
-// Divides the node of a level that covers a position where it may be, under a new root where it is the root, and gives its old
-// birth.
-fn divide_under(
-    alloc: Global,
-    tree: &mut TreeNodes,
-    level: u8,
-    at: &Pos,
-    birth: u64,
-    grows: bool,
-) -> Result<Option<u64>, AllocError> {
-    if grows {
-        divide_root(alloc, tree, at, birth)
-    } else {
-        divide(alloc, tree, level, at, birth)
-    }
-}
-
-fn push_root(above: &mut Vec<Range>, birth: u64) -> Result<(), AllocError> {
-    let root = Range {
-        first: Pos::LEAST,
-        last: Pos::GREATEST,
-        birth,
-    };
-    above.push(root)?;
-    Ok(())
-}
-
-// Does so, and changes the ranges of the level, and of the one above it where that is new.
-fn divide_step(
-    alloc: Global,
-    tree: &mut TreeNodes,
-    row: &mut Vec<Range>,
-    above: &mut Vec<Range>,
-    level: u8,
-    place: (Parts, Parts),
-    birth: u64,
-) -> Result<Option<u64>, AllocError> {
-    let grows = usize::from(level) + 1 == usize::from(tree.height());
-    let old = divide_under(alloc, tree, level, &at(place.0), birth, grows)?;
-    if old.is_some() {
-        *row = cut(alloc, row, place, birth)?;
-    }
-    if grows && old.is_some() {
-        push_root(above, birth.wrapping_add(2))?;
-    }
-    Ok(old)
-}
-
-// The birth that goes where a position may divide a range, which it may where a range below ends.
-fn planned(row: &[Range], below: Option<&[Range]>, at: Pos) -> Option<u64> {
-    let ends_below = match below {
-        Some(below) => ends(below, at),
-        None => true,
-    };
-    if ends_below {
-        birth_at(row, at, true)
-    } else {
-        None
-    }
-}
-
-// Divides a leaf, and says whether it went as with the plain levels.
-fn divide_leaf(
-    alloc: Global,
-    tree: &mut TreeNodes,
-    plain: &mut Plain,
-    place: (Parts, Parts),
-    birth: u64,
-) -> Result<bool, AllocError> {
-    let old = planned(&plain.leaves, None, at(place.0));
-    let (row, above) = (&mut plain.leaves, &mut plain.middle);
-    let found = divide_step(alloc, tree, row, above, 0, place, birth)?;
-    Ok(found == old)
-}
-
-// Divides a node above the leaves, and says whether it went so.
-fn divide_middle(
-    alloc: Global,
-    tree: &mut TreeNodes,
-    plain: &mut Plain,
-    place: (Parts, Parts),
-    birth: u64,
-) -> Result<bool, AllocError> {
-    let old = planned(&plain.middle, Some(&plain.leaves), at(place.0));
-    let (row, above) = (&mut plain.middle, &mut plain.top);
-    let found = divide_step(alloc, tree, row, above, 1, place, birth)?;
-    Ok(found == old)
-}
-
-// One random step, and whether it went so.
-fn goes_on(
-    alloc: Global,
-    tree: &mut TreeNodes,
-    plain: &mut Plain,
-    seed: u64,
-    birth: u64,
-) -> Result<bool, AllocError> {
-    let place = PLACES[((seed >> 40) % 12) as usize];
-    let height = tree.height();
-    match (seed >> 50) % 6 {
-        0 | 1 => divide_leaf(alloc, tree, plain, place, birth),
-        2 if height > 1 => divide_middle(alloc, tree, plain, place, birth),
-        3 if height > 1 => replace_step(alloc, tree, &mut plain.middle, 1, at(place.0), birth),
-        4 if height > 2 => replace_step(alloc, tree, &mut plain.top, 2, at(place.0), birth),
-        _ => replace_step(alloc, tree, &mut plain.leaves, 0, at(place.0), birth),
-    }
-}
-
-// The plain levels of one leaf.
-fn one_leaf(alloc: Global) -> Result<Plain, AllocError> {
-    let mut leaves = Vec::new(alloc);
-    leaves.push(Range {
-        first: Pos::LEAST,
-        last: Pos::GREATEST,
-        birth: 1,
-    })?;
-    Ok(Plain {
-        leaves,
-        middle: Vec::new(alloc),
-        top: Vec::new(alloc),
-    })
-}
-
-// Some steps, and whether all went as with the plain levels.
-fn goes_all_steps(
-    alloc: Global,
-    tree: &mut TreeNodes,
-    plain: &mut Plain,
-    seed: u64,
-) -> Result<bool, AllocError> {
-    let mut seed = seed;
-    for step in 1..80 {
-        seed = random(seed);
-        if !goes_on(alloc, tree, plain, seed, 10 * step)? || !is_same(alloc, tree, plain)? {
-            return Ok(false);
-        }
-    }
+fn copy_is_grown(alloc: Global, tree: &TreeNodes) -> Result<bool, AllocError> {
     let copy = tree.copy(alloc)?;
-    is_same(alloc, &copy, plain)
+    let good = is_grown(&copy);
+    drop(copy);
+    Ok(good)
 }
 
-// The height after some steps from one leaf on, or 0 where one didn't go as with the plain levels.
-fn grows(alloc: Global, seed: u64) -> Result<u8, AllocError> {
-    let mut plain = one_leaf(alloc)?;
-    let mut tree = TreeNodes::leaf(alloc, pointer(alloc, 1, 0)?)?;
-    let good = goes_all_steps(alloc, &mut tree, &mut plain, seed)?;
-    Ok(if good { tree.height() } else { 0 })
+// Grows a tree, and says whether it is as it has to be, and so is a copy.
+fn grows(alloc: Global, tree: &mut TreeNodes) -> Result<bool, AllocError> {
+    let gone = grow(alloc, tree)?;
+    Ok(gone == [Some(1), Some(3), Some(2)] && is_grown(tree) && copy_is_grown(alloc, tree)?)
 }
 
 #[test]
-fn random_steps(rt: HostRuntime) -> Result<(), Fail> {
-    let mut heights = 0;
-    for seed in 0..40 {
-        let height = grows(rt.alloc(), seed)?;
-        assert!(rt; height > 0);
-        heights = u64::from(height).saturating_add(heights);
-    }
-    assert!(rt; heights > 80);
+fn divisions(rt: HostRuntime) -> Result<(), Fail> {
+    let alloc = rt.alloc();
+    let mut tree = TreeNodes::leaf(alloc, pointer(alloc, 1, 0)?)?;
+    let good = grows(alloc, &mut tree);
+    drop(tree);
+    assert!(rt; good?);
     Ok(())
 }
 
-// An offset of inode 0, or the greatest position for 0.
+// The position of an offset, or the greatest position for 0.
 fn end_pos(end: u64) -> Pos {
-    if end == 0 {
-        Pos::GREATEST
-    } else {
-        at((0, end, 0))
-    }
+    if end == 0 { Pos::GREATEST } else { at(end) }
 }
 
 fn put_node(alloc: Global, nodes: &mut LevelNodes, end: u64, level: u8) -> Result<(), AllocError> {

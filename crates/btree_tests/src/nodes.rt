@@ -1,14 +1,10 @@
-//! A node step by step, with its size after each step as the lengths of its keys add up, and random steps beside a plain
-//! sorted list.
+//! A node step by step, with its size after each step as the lengths of its keys add up.
 
 ghost use Rattle.std.specs.Prelude.{◌≡◌, All, IfOk};
 ghost use Rattle.vol_types.specs.Positions.{IsWithin, greatest_pos, least_pos};
 ghost use Rattle.vol_types.specs.Ranges.{IsKeyValue, IsValue};
 
-use crate::plain::{
-    Plain, at, is_found, offset_of, plain_at, plain_from, plain_put, plain_up_to, random, value_of,
-    was,
-};
+use crate::looks::{at, count, offset_of};
 use node_mem::NodeMem;
 use std::alloc::{AllocError, Global};
 use std::test::Fail;
@@ -213,158 +209,42 @@ fn merged_keys(rt: HostRuntime) -> Result<(), Fail> {
     Ok(())
 }
 
-fn bytes_of(number: u64) -> u64 {
-    21 + 4 * (number % 3)
+// A node of whiteouts at 2, 5 and 9.
+fn three_whites(alloc: Global) -> Result<NodeMem, AllocError> {
+    let mut node = NodeMem::new(alloc, &Pos::LEAST, &Pos::GREATEST)?;
+    put_at(&mut node, 2, Value::White)?;
+    put_at(&mut node, 5, Value::White)?;
+    put_at(&mut node, 9, Value::White)?;
+    Ok(node)
 }
 
-fn plain_size(plain: &[(u64, u64)]) -> u64 {
-    let mut size: u64 = 56;
-    for (_, number) in plain {
-        size = size.wrapping_add(bytes_of(*number));
+// Whether it finds what stands beside an offset, and in a range.
+fn finds_all(node: &NodeMem) -> bool {
+    node.len() == 3
+        && offset_of(node.next_from(&at(5))) == Some(5)
+        && offset_of(node.next_after(&at(5))) == Some(9)
+        && offset_of(node.last_up_to(&at(4))) == Some(2)
+        && count(node.range(&at(3), &at(9))) == 2
+}
+
+// The sizes of both parts of a node that is split after offset 5.
+fn part_sizes(node: &mut NodeMem) -> Result<(u32, u32), AllocError> {
+    let pos = at(5);
+    if node.least() > pos || pos >= node.greatest() {
+        return Ok((0, 0));
     }
-    size
-}
-
-// Whether the values of a range are those of the list, and all that the list has there.
-fn has_range(node: &NodeMem, plain: &[(u64, u64)], first: u64, last: u64) -> bool {
-    let mut found = node.range(&at(first), &at(last));
-    for (place, number) in plain {
-        if first <= *place && *place <= last && !is_found(found.next(), *place, *number) {
-            return false;
-        }
-    }
-    found.next().is_none()
-}
-
-// Whether the neighbours of an offset are those of the list.
-fn has_neighbours(node: &NodeMem, plain: &[(u64, u64)], offset: u64) -> bool {
-    let after = offset.saturating_add(1);
-    offset_of(node.next_from(&at(offset))) == plain_from(plain, offset)
-        && offset_of(node.next_after(&at(offset))) == plain_from(plain, after)
-        && offset_of(node.last_up_to(&at(offset))) == plain_up_to(plain, offset)
-}
-
-// Whether the value that is put at a position of the node replaces that of a number, or none.
-fn put_over(
-    node: &mut NodeMem,
-    pos: &Pos,
-    number: u64,
-    old: Option<u64>,
-) -> Result<bool, AllocError>
-    requires { IsWithin node.old.least node.old.greatest pos.now }
-{
-    let before = node.put(pos, Some(value_of(number)))?;
-    Ok(was(&before, old))
-}
-
-// Puts the value of a number or removes one, and says whether the one before was that of the list.
-fn put_one(
-    node: &mut NodeMem,
-    plain: &[(u64, u64)],
-    offset: u64,
-    number: Option<u64>,
-) -> Result<bool, AllocError> {
-    let pos = at(offset);
-    if node.least() > pos || pos > node.greatest() {
-        return Ok(false);
-    }
-    let old = plain_at(plain, offset);
-    match number {
-        None => Ok(was(&node.remove(&pos), old)),
-        Some(number) => put_over(node, &pos, number, old),
-    }
-}
-
-// Whether a node has what the list has up to an offset, and ends there.
-fn is_first_part(node: &NodeMem, plain: &[(u64, u64)], offset: u64) -> bool {
-    has_range(node, plain, 0, offset)
-        && node.next_after(&at(offset)).is_none()
-        && node.greatest() == at(offset)
-}
-
-// Whether it has what the list has after an offset, and begins there.
-fn is_second_part(node: &NodeMem, plain: &[(u64, u64)], offset: u64) -> bool {
-    has_range(node, plain, offset.saturating_add(1), u64::MAX)
-        && node.last_up_to(&at(offset)).is_none()
-        && Some(node.least()) == at(offset).next()
-}
-
-// Whether both parts of a node, split after an offset, are those of the list.
-fn splits(
-    alloc: Global,
-    node: &NodeMem,
-    plain: &[(u64, u64)],
-    offset: u64,
-) -> Result<bool, AllocError> {
-    let mut first = node.copy(alloc)?;
-    let pos = at(offset);
-    if first.least() > pos || pos >= first.greatest() {
-        return Ok(false);
-    }
-    let second = first.split_off(&pos)?;
-    let both = u64::from(first.size()) + u64::from(second.size());
-    Ok(
-        both == plain_size(plain).wrapping_add(56)
-            && is_first_part(&first, plain, offset)
-            && is_second_part(&second, plain, offset),
-    )
-}
-
-// Whether what is looked up at an offset, and between another and it, is that of the list, and with `deep` both parts of the node.
-fn is_same(
-    alloc: Global,
-    node: &NodeMem,
-    plain: &[(u64, u64)],
-    between: (u64, u64),
-    deep: bool,
-) -> Result<bool, AllocError> {
-    let (first, offset) = between;
-    let good = u64::from(node.size()) == plain_size(plain)
-        && node.len() == plain.len()
-        && has_neighbours(node, plain, offset)
-        && has_range(node, plain, first, offset);
-    Ok(good && (!deep || splits(alloc, node, plain, offset)?))
-}
-
-// One random step, and whether all that is looked up then is that of the list.
-fn goes_on(
-    alloc: Global,
-    node: &mut NodeMem,
-    plain: &[(u64, u64)],
-    seed: u64,
-) -> Result<Option<Plain>, AllocError> {
-    let (offset, number) = ((seed >> 32) % 400, (seed >> 12) % 100_000);
-    let number = if (seed >> 60) < 6 { None } else { Some(number) };
-    if !put_one(node, plain, offset, number)? {
-        return Ok(None);
-    }
-    let plain = plain_put(alloc, plain, offset, number)?;
-    let between = (offset, (seed >> 41) % 400);
-    let good = is_same(alloc, node, &plain, between, (seed >> 50) % 16 == 0)?;
-    Ok(if good { Some(plain) } else { None })
-}
-
-// Random steps, and how many keys there are in the end, or none where the node isn't that of the list.
-fn goes_all_steps(alloc: Global, node: &mut NodeMem) -> Result<Option<usize>, AllocError> {
-    let mut plain = Vec::new(alloc);
-    let mut seed: u64 = 17;
-    for _ in 0..10_000 {
-        seed = random(seed);
-        match goes_on(alloc, node, &plain, seed)? {
-            None => return Ok(None),
-            Some(changed) => plain = changed,
-        }
-    }
-    Ok(Some(plain.len()))
+    let second = node.split_off(&pos)?;
+    let sizes = (node.size(), second.size());
+    drop(second);
+    Ok(sizes)
 }
 
 #[test]
-fn random_steps(rt: HostRuntime) -> Result<(), Fail> {
-    let alloc = rt.alloc();
-    let mut node = NodeMem::new(alloc, &Pos::LEAST, &Pos::GREATEST)?;
-    match goes_all_steps(alloc, &mut node)? {
-        None => assert!(rt; false),
-        Some(count) => assert!(rt; count > 200),
-    }
+fn looks_and_parts(rt: HostRuntime) -> Result<(), Fail> {
+    let mut node = three_whites(rt.alloc())?;
+    let finds = finds_all(&node);
+    let sizes = part_sizes(&mut node);
+    drop(node);
+    assert!(rt; finds && sizes? == (98, 77));
     Ok(())
 }

@@ -36,7 +36,7 @@ fn make(lock: &mut Six, actor: u8, call: Call) -> Option<Ask> {
 // Who calls what, what is answered, and the sequence after it.
 type Row = (u8, Call, Option<Ask>, u64);
 
-const ROWS: [Row; 20] = [
+static ROWS: [Row; 20] = [
     (0, Call::Shared, Some(Ask::Granted), 0),
     (1, Call::Shared, Some(Ask::Granted), 0),
     (0, Call::Exclusive, None, 0),
@@ -70,16 +70,31 @@ fn right_rows(lock: &mut Six, rows: &[Row]) -> usize {
     rows.len()
 }
 
+// Whether the calls are answered as the rows say, and who else holds the lock then.
+fn is_right(lock: &mut Six) -> bool {
+    lock.is_free()
+        && right_rows(lock, &ROWS) == 20
+        && !lock.is_free()
+        && lock.other_reader(1) == Some(0)
+        && lock.other_holder(1) == Some(0)
+        && lock.other_holder(0) == None
+        && lock.seq() == 2
+}
+
 #[test]
 fn calls_in_turn(rt: HostRuntime) -> Result<(), Fail> {
     let mut lock = Six::new(rt.alloc(), 2)?;
-    assert!(rt; lock.is_free());
-    assert!(rt; right_rows(&mut lock, &ROWS) == 20);
-    assert!(rt; !lock.is_free());
-    assert!(rt; lock.other_reader(1) == Some(0));
-    assert!(rt; lock.other_holder(1) == Some(0));
-    assert!(rt; lock.other_holder(0) == None);
-    let later = Six::from_sequence(rt.alloc(), 2, lock.seq())?;
-    assert!(rt; later.seq() == 2);
+    let good = is_right(&mut lock);
+    drop(lock);
+    assert!(rt; good);
+    Ok(())
+}
+
+#[test]
+fn goes_on_from_a_sequence(rt: HostRuntime) -> Result<(), Fail> {
+    let lock = Six::from_sequence(rt.alloc(), 2, 2)?;
+    let sequence = lock.seq();
+    drop(lock);
+    assert!(rt; sequence == 2);
     Ok(())
 }

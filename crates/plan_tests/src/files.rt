@@ -2,7 +2,7 @@
 
 ghost use Rattle.std.specs.Prelude.{◌≡◌, ◌≤◌, ◌<◌, ◌^◌, All, length};
 
-use crate::ids::snap_keys;
+use crate::ids::shared_tree;
 use file_plan::{
     Change, Contents, PlainContents, block_after, content, cut_size, end_block, shown_block,
     write_end, write_run,
@@ -11,9 +11,8 @@ use key_view::{Hold, PlainKeys, View};
 use snap_tree::SnapTree;
 use std::alloc::{AllocError, Global};
 use std::collections::BTreeMap;
-use std::sync::Arc;
 use std::test::Fail;
-use vol_types::{Bytes, Duplicate, Keys, Pos, Update, Updates, Value};
+use vol_types::{Bytes, Keys, Pos, Update, Updates, Value, copy_map};
 
 /// The id of the first writes, and those of a snapshot of it: the one of the source, and the one of the copy.
 const OLD: u32 = 90;
@@ -22,7 +21,7 @@ const SOURCE: u32 = 80;
 
 const COPY: u32 = 70;
 
-const IDS: [(u32, u32); 3] = [(OLD, 0), (SOURCE, OLD), (COPY, OLD)];
+static IDS: [(u32, u32); 3] = [(OLD, 0), (SOURCE, OLD), (COPY, OLD)];
 
 /// The number of the file.
 const NUMBER: u64 = 2;
@@ -35,36 +34,49 @@ struct Disk {
     next: u32,
 }
 
-fn copied(alloc: Global, map: &BTreeMap<Pos, Value>) -> Result<BTreeMap<Pos, Value>, AllocError> {
-    let mut copy = BTreeMap::new(alloc);
-    for (pos, value) in map {
-        copy.insert(*pos, value.copy(alloc)?)?;
-    }
-    Ok(copy)
-}
-
 // A view of the disk, which has the blocks from then on.
 fn view_of(alloc: Global, disk: &mut Disk) -> Result<PlainContents, Fail> {
-    let mut keys = PlainKeys::new(alloc);
-    keys.extents = copied(alloc, &disk.keys)?;
-    let tree = Arc::new(alloc, SnapTree::of(alloc, &snap_keys(alloc, &IDS)?)?)?;
-    let blocks = std::mem::replace(&mut disk.blocks, BTreeMap::new(alloc));
-    Ok(PlainContents::new(alloc, keys, tree, blocks, disk.next))
+    let tree = shared_tree(alloc, &IDS)?;
+    match keys_of(alloc, &disk.keys) {
+        Ok(keys) => {
+            let blocks = std::mem::replace(&mut disk.blocks, BTreeMap::new(alloc));
+            Ok(PlainContents::new(alloc, keys, tree, blocks, disk.next))
+        }
+        Err(error) => {
+            drop(tree);
+            Err(Fail::from(error))
+        }
+    }
 }
 
-fn apply(disk: &mut Disk, view: PlainContents, updates: Updates) -> Result<(), AllocError> {
+fn keys_of(alloc: Global, extents: &BTreeMap<Pos, Value>) -> Result<PlainKeys, AllocError> {
+    let extents = copy_map(alloc, extents)?;
+    let mut keys = PlainKeys::new(alloc);
+    keys.extents = extents;
+    Ok(keys)
+}
+
+fn give_back(disk: &mut Disk, view: PlainContents) {
     let (blocks, next) = view.into_blocks();
     disk.blocks = blocks;
     disk.next = next;
+}
+
+fn apply(disk: &mut Disk, updates: Updates) -> Result<(), AllocError> {
     for update in Vec::from(updates) {
-        let Update { pos, value, .. } = update;
-        match value {
-            None => {
-                disk.keys.remove(&pos);
-            }
-            Some(value) => {
-                disk.keys.insert(pos, value)?;
-            }
+        set(&mut disk.keys, update)?;
+    }
+    Ok(())
+}
+
+fn set(keys: &mut BTreeMap<Pos, Value>, update: Update) -> Result<(), AllocError> {
+    let Update { pos, value, .. } = update;
+    match value {
+        None => {
+            keys.remove(&pos);
+        }
+        Some(value) => {
+            keys.insert(pos, value)?;
         }
     }
     Ok(())
@@ -88,8 +100,25 @@ fn put(
     if first <= size / 4096 {
         return put_extents(alloc, view, tree, id, size, first, run);
     }
+    let updates = put_behind(alloc, view, tree, id, size, &mut run);
+    drop(run);
+    updates
+}
+
+// Puts the block of the end before a run.
+fn put_behind(
+    alloc: Global,
+    view: &mut PlainContents,
+    tree: &SnapTree,
+    id: u32,
+    size: u64,
+    run: &mut Keys,
+) -> Result<Updates, Hold> {
     let mut extents = write_end(alloc, view, tree, id, NUMBER, size)?;
-    extents.append(&mut run)?;
+    if let Err(error) = extents.append(run) {
+        drop(extents);
+        return Err(Hold::from(error));
+    }
     put_extents(alloc, view, tree, id, size, size / 4096, extents)
 }
 
@@ -103,7 +132,9 @@ fn put_extents(
     extents: Keys,
 ) -> Result<Updates, Hold> {
     let change = Change::Put { first, extents };
-    content(alloc, view, tree, id, NUMBER, size, &change)
+    let updates = content(alloc, view, tree, id, NUMBER, size, &change);
+    drop(change);
+    updates
 }
 
 // A truncation of the file in an id, after which its old end is put where it grows.
@@ -116,7 +147,10 @@ fn cut(
     new: u64,
 ) -> Result<Updates, Hold> {
     if new <= size {
-        return content(alloc, view, tree, id, NUMBER, size, &Change::Cut { new });
+        let change = Change::Cut { new };
+        let updates = content(alloc, view, tree, id, NUMBER, size, &change);
+        drop(change);
+        return updates;
     }
     let end = write_end(alloc, view, tree, id, NUMBER, size)?;
     put_extents(alloc, view, tree, id, size, size / 4096, end)
@@ -187,13 +221,16 @@ fn updates_of(
 
 fn planned(alloc: Global, view: &mut PlainContents, step: Step) -> Result<Updates, Fail> {
     let tree = view.tree()?;
-    updates_of(alloc, view, &tree, step)
+    let updates = updates_of(alloc, view, &tree, step);
+    drop(tree);
+    updates
 }
 
 fn take(alloc: Global, disk: &mut Disk, step: Step) -> Result<(), Fail> {
     let mut view = view_of(alloc, disk)?;
-    let updates = planned(alloc, &mut view, step)?;
-    apply(disk, view, updates)?;
+    let updates = planned(alloc, &mut view, step);
+    give_back(disk, view);
+    apply(disk, updates?)?;
     Ok(())
 }
 
@@ -211,7 +248,9 @@ fn head_at(
     block: u64,
 ) -> Result<Option<(u8, u8)>, Hold> {
     let tree = view.tree()?;
-    Ok(head_of(shown_block(alloc, view, &tree, id, NUMBER, block)?))
+    let shown = shown_block(alloc, view, &tree, id, NUMBER, block);
+    drop(tree);
+    Ok(head_of(shown?))
 }
 
 /// What an id shows of three blocks.
@@ -227,10 +266,9 @@ fn heads_of(alloc: Global, view: &mut PlainContents, id: u32) -> Result<Heads, H
 /// What an id shows of the first three blocks.
 fn heads(alloc: Global, disk: &mut Disk, id: u32) -> Result<Heads, Fail> {
     let mut view = view_of(alloc, disk)?;
-    let found = heads_of(alloc, &mut view, id)?;
-    let (blocks, _) = view.into_blocks();
-    disk.blocks = blocks;
-    Ok(found)
+    let found = heads_of(alloc, &mut view, id);
+    give_back(disk, view);
+    Ok(found?)
 }
 
 // How many of the keys are extents, and how many are holes.
@@ -268,7 +306,7 @@ fn seen_after(
     Ok((source, copy, counts(disk)))
 }
 
-const STEPS: [Step; 4] = [
+static STEPS: [Step; 4] = [
     Step::Write {
         id: OLD,
         size: 0,
@@ -294,7 +332,7 @@ const STEPS: [Step; 4] = [
 ];
 
 // Two blocks further on the end is an extent of its own.
-const FURTHER_ON: [Step; 1] = [Step::Write {
+static FURTHER_ON: [Step; 1] = [Step::Write {
     id: SOURCE,
     size: 4097,
     offset: 12_288,
@@ -302,32 +340,40 @@ const FURTHER_ON: [Step; 1] = [Step::Write {
 }];
 
 // A byte is kept before two that are written over zeros.
-const OVER_ZEROS: [Step; 1] = [Step::Write {
+static OVER_ZEROS: [Step; 1] = [Step::Write {
     id: COPY,
     size: 8192,
     offset: 1,
     bytes: [3, 4],
 }];
 
+// Whether the source and the copy show what they have to, after all of these steps.
+fn are_seen(alloc: Global, disk: &mut Disk) -> Result<bool, Fail> {
+    let (source, copy, first) = seen_after(alloc, disk, &STEPS)?;
+    let (_, _, further) = seen_after(alloc, disk, &FURTHER_ON)?;
+    let (_, over, _) = seen_after(alloc, disk, &OVER_ZEROS)?;
+    Ok(
+        source == [Some((0x68, 0x69)), Some((0x6a, 0)), None]
+            && copy == [Some((0x68, 0)), None, None]
+            && first == (2, 1)
+            && further == (4, 1)
+            && over == [Some((0x68, 3)), None, None],
+    )
+}
+
 /// A file of `hi`, to whose second block `j` is written: its first block is written anew, in one extent with the second. Below a
 /// snapshot the copy is cut to one byte, and grows to two blocks: the source keeps what it shows.
 #[test]
 fn cut_and_grown_below_a_snapshot(rt: HostRuntime) -> Result<(), Fail> {
-    let alloc = rt.alloc();
-    let mut disk = no_disk(alloc);
-    let (source, copy, found) = seen_after(alloc, &mut disk, &STEPS)?;
-    assert!(rt; source == [Some((0x68, 0x69)), Some((0x6a, 0)), None]);
-    assert!(rt; copy == [Some((0x68, 0)), None, None]);
-    assert!(rt; found == (2, 1));
-    let (_, _, found) = seen_after(alloc, &mut disk, &FURTHER_ON)?;
-    assert!(rt; found == (4, 1));
-    let (_, copy, _) = seen_after(alloc, &mut disk, &OVER_ZEROS)?;
-    assert!(rt; copy == [Some((0x68, 3)), None, None]);
+    let mut disk = no_disk(rt.alloc());
+    let good = are_seen(rt.alloc(), &mut disk);
+    drop(disk);
+    assert!(rt; good?);
     Ok(())
 }
 
 /// Sizes after one truncation. 256 blocks are cut at most.
-const SIZES: [(u64, u64, u64); 8] = [
+static SIZES: [(u64, u64, u64); 8] = [
     (16_777_216, 0, 15_728_640),
     (16_777_216, 15_728_640, 15_728_640),
     (1_048_576, 0, 0),
@@ -340,15 +386,16 @@ const SIZES: [(u64, u64, u64); 8] = [
 
 #[test]
 fn truncations_in_steps(rt: HostRuntime) -> Result<(), Fail> {
-    for (size, new, cut) in SIZES {
-        assert!(rt; cut_size(size, new) == cut);
-    }
+    let good = SIZES
+        .iter()
+        .all(|(size, new, cut)| cut_size(*size, *new) == *cut);
+    assert!(rt; good);
     Ok(())
 }
 
 /// Holes in the copy, each by the block at which it ends and how many it has, and what the copy shows of block 200 then. Its
 /// ancestor has an extent of that block alone.
-const HOLES: [(u64, u32, Option<(u8, u8)>); 4] = [
+static HOLES: [(u64, u32, Option<(u8, u8)>); 4] = [
     // One that is longer than a truncation makes them, and ends far behind the block.
     (500, 300, None),
     (500, 299, Some((1, 2))),
@@ -360,10 +407,9 @@ const HOLES: [(u64, u32, Option<(u8, u8)>); 4] = [
 fn shown_there(alloc: Global, disk: &mut Disk) -> Result<(u64, Option<(u8, u8)>), Fail> {
     let mut view = view_of(alloc, disk)?;
     let longest = view.longest();
-    let shown = head_at(alloc, &mut view, COPY, 200)?;
-    let (blocks, _) = view.into_blocks();
-    disk.blocks = blocks;
-    Ok((longest, shown))
+    let shown = head_at(alloc, &mut view, COPY, 200);
+    give_back(disk, view);
+    Ok((longest, shown?))
 }
 
 // The same where the copy has a hole.
@@ -396,14 +442,24 @@ fn shown_at_first(alloc: Global, disk: &mut Disk) -> Result<(u64, Option<(u8, u8
     shown_there(alloc, disk)
 }
 
+// Whether the copy shows what it has to beside each hole.
+fn are_hidden(alloc: Global, disk: &mut Disk) -> Result<bool, Fail> {
+    if shown_at_first(alloc, disk)? != (1, Some((1, 2))) {
+        return Ok(false);
+    }
+    for (end, blocks, shown) in HOLES.iter() {
+        if hidden_by(alloc, disk, *end, *blocks)? != (u64::from(*blocks), *shown) {
+            return Ok(false);
+        }
+    }
+    Ok(true)
+}
+
 #[test]
 fn hidden_by_holes(rt: HostRuntime) -> Result<(), Fail> {
-    let alloc = rt.alloc();
-    let mut disk = no_disk(alloc);
-    assert!(rt; shown_at_first(alloc, &mut disk)? == (1, Some((1, 2))));
-    for (end, blocks, shown) in HOLES {
-        let found = hidden_by(alloc, &mut disk, end, blocks)?;
-        assert!(rt; found == (u64::from(blocks), shown));
-    }
+    let mut disk = no_disk(rt.alloc());
+    let good = are_hidden(rt.alloc(), &mut disk);
+    drop(disk);
+    assert!(rt; good?);
     Ok(())
 }

@@ -1,9 +1,12 @@
-//! Records of ids, for the tests beside it.
+//! Records of ids and their trees, for the tests beside it.
 
 ghost use Rattle.std.specs.Prelude.{IfOk, All};
 ghost use Rattle.snap_tree.specs.Snaps.{IsSnapKey};
 
+use snap_tree::SnapTree;
 use std::alloc::{AllocError, Global};
+use std::sync::Arc;
+use std::test::Fail;
 use vol_types::{Key, Keys, Pos, Snap, SnapState, Value};
 
 /// The record of an id under this parent; 0 stands for none.
@@ -34,4 +37,18 @@ pub(crate) fn snap_keys(alloc: Global, ids: &[(u32, u32)]) -> Result<Keys, Alloc
         keys.push(snap_key(*id, *parent))?;
     }
     Ok(keys)
+}
+
+/// The trees of some ids.
+pub(crate) fn tree_of(alloc: Global, ids: &[(u32, u32)]) -> Result<SnapTree, Fail> {
+    let keys = snap_keys(alloc, ids)?;
+    let tree = SnapTree::of(alloc, &keys);
+    drop(keys);
+    Ok(tree?)
+}
+
+/// The same, to be shared.
+pub(crate) fn shared_tree(alloc: Global, ids: &[(u32, u32)]) -> Result<Arc<SnapTree>, Fail> {
+    let tree = tree_of(alloc, ids)?;
+    Ok(Arc::new(alloc, tree)?)
 }

@@ -1,21 +1,21 @@
 //! Draws by a table: the first numbers of clients, their last ones, and spent ones. And an inode that is set in two ids.
 
-ghost use Rattle.std.specs.Prelude.{◌<◌, IfOk, All};
-ghost use Rattle.snap_tree.specs.Snaps.{IsSnapKey};
+ghost use Rattle.std.specs.Prelude.{◌<◌};
 
+use crate::ids::tree_of;
 use inode_keys::{Draw, next_number, set};
 use key_view::{Hold, PlainKeys, PlainView, View};
 use snap_tree::SnapTree;
 use std::alloc::{AllocError, Global};
 use std::sync::Arc;
 use std::test::Fail;
-use vol_types::{Btree, FileKind, Inode, Key, Keys, Pos, Snap, SnapState, Update, Updates, Value};
+use vol_types::{Btree, FileKind, Inode, Pos, Update, Updates, Value};
 
 /// A client, what its counter stands at, and what it draws: the number, and what its counter then stands at.
 type Row = (u8, u64, Option<(u64, u64)>);
 
 /// Clients 0, 3 and 15. In a fresh volume client 0 has drawn its first number, for the root of `main`.
-const ROWS: [Row; 9] = [
+static ROWS: [Row; 9] = [
     (0, 2, Some((2, 3))),
     (3, 1, Some((844_424_930_131_969, 2))),
     (15, 1, Some((4_222_124_650_659_841, 2))),
@@ -53,12 +53,25 @@ fn put_counters(keys: &mut PlainKeys, client: u8, next: u64) -> Result<(), Alloc
     Ok(())
 }
 
+fn counter_keys(alloc: Global, client: u8, next: u64) -> Result<PlainKeys, AllocError> {
+    let mut keys = PlainKeys::new(alloc);
+    if let Err(error) = put_counters(&mut keys, client, next) {
+        drop(keys);
+        return Err(error);
+    }
+    Ok(keys)
+}
+
 // A view of these counters.
 fn counters(alloc: Global, client: u8, next: u64) -> Result<PlainView, AllocError> {
     let tree = Arc::new(alloc, SnapTree::new(alloc))?;
-    let mut keys = PlainKeys::new(alloc);
-    put_counters(&mut keys, client, next)?;
-    Ok(PlainView::new(alloc, keys, tree))
+    match counter_keys(alloc, client, next) {
+        Ok(keys) => Ok(PlainView::new(alloc, keys, tree)),
+        Err(error) => {
+            drop(tree);
+            Err(error)
+        }
+    }
 }
 
 // Whether the only update sets the counter to a number.
@@ -98,18 +111,38 @@ fn draws_so(
     requires { client < 16 }
 {
     let draw = next_number(alloc, view, client)?;
-    Ok((is_drawn(&draw, client, wanted), view.looks().len()))
+    let good = is_drawn(&draw, client, wanted);
+    drop(draw);
+    Ok((good, view.looks().len()))
+}
+
+// Whether a client draws what a row says, by one look.
+fn is_row(alloc: Global, row: &Row) -> Result<bool, Fail> {
+    let (client, next, wanted) = *row;
+    if client > 15 {
+        return Ok(false);
+    }
+    let mut view = counters(alloc, client, next)?;
+    let found = draws_so(alloc, &mut view, client, wanted);
+    drop(view);
+    Ok(found? == (true, 1))
+}
+
+// The number of the first row that isn't so.
+fn first_other_draw(alloc: Global) -> Result<Option<u32>, Fail> {
+    let mut number: u32 = 0;
+    for row in ROWS.iter() {
+        if !is_row(alloc, row)? {
+            return Ok(Some(number));
+        }
+        number = number.saturating_add(1);
+    }
+    Ok(None)
 }
 
 #[test]
 fn draws(rt: HostRuntime) -> Result<(), Fail> {
-    let alloc = rt.alloc();
-    for (client, next, wanted) in ROWS {
-        assert!(rt; client < 16);
-        let mut view = counters(alloc, client, next)?;
-        let found = draws_so(alloc, &mut view, client, wanted)?;
-        assert!(rt; found == (true, 1), "client {client} at {next}");
-    }
+    assert!(rt; first_other_draw(rt.alloc())? == None);
     Ok(())
 }
 
@@ -119,8 +152,9 @@ fn missing_counter(rt: HostRuntime) -> Result<(), Fail> {
     let alloc = rt.alloc();
     let tree = Arc::new(alloc, SnapTree::new(alloc))?;
     let mut view = PlainView::new(alloc, PlainKeys::new(alloc), tree);
-    let (is_so, _) = draws_so(alloc, &mut view, 1, Some((281_474_976_710_656, 1)))?;
-    assert!(rt; is_so);
+    let found = draws_so(alloc, &mut view, 1, Some((281_474_976_710_656, 1)));
+    drop(view);
+    assert!(rt; found?.0);
     Ok(())
 }
 
@@ -136,7 +170,7 @@ enum Step {
 type SetRow = (u32, u64, bool, Option<Step>);
 
 /// The inode 7 stands in id 9, the parent of 5.
-const SET_ROWS: [SetRow; 7] = [
+static SET_ROWS: [SetRow; 7] = [
     (5, 7, true, Some(Step::Put)),
     (9, 7, true, Some(Step::Put)),
     (5, 8, true, Some(Step::Put)),
@@ -152,33 +186,8 @@ const INODE: Inode = Inode {
     size: 0,
 };
 
-fn snap_key(id: u32, parent: u32, child: u32, state: SnapState) -> Key
-    ensures { IsSnapKey result }
-{
-    Key {
-        pos: Pos {
-            inode: 0,
-            offset: u64::from(id),
-            snapshot: 0,
-        },
-        value: Some(Value::Snap(Snap {
-            parent,
-            first_child: child,
-            second_child: 0,
-            state,
-        })),
-    }
-}
-
-// Id 5 below id 9.
-fn snap_keys(alloc: Global) -> Result<Keys, AllocError>
-    ensures { IfOk result (All IsSnapKey) }
-{
-    let mut keys = Keys::new(alloc);
-    keys.push(snap_key(5, 9, 0, SnapState::LiveLeaf))?;
-    keys.push(snap_key(9, 0, 5, SnapState::Interior))?;
-    Ok(keys)
-}
+/// Id 5 below id 9.
+static IDS: [(u32, u32); 2] = [(5, 9), (9, 0)];
 
 fn inode_at(number: u64, id: u32) -> Pos {
     Pos {
@@ -205,31 +214,74 @@ fn step_at(updates: &[Update], number: u64, id: u32) -> Option<Step> {
     }
 }
 
+fn one_key(alloc: Global) -> Result<PlainKeys, AllocError> {
+    let mut keys = PlainKeys::new(alloc);
+    if let Err(error) = put_inode(&mut keys) {
+        drop(keys);
+        return Err(error);
+    }
+    Ok(keys)
+}
+
 // A view of the inode 7 in id 9.
 fn one_inode(alloc: Global) -> Result<PlainView, AllocError> {
-    let shared = Arc::new(alloc, SnapTree::new(alloc))?;
-    let mut keys = PlainKeys::new(alloc);
+    let tree = Arc::new(alloc, SnapTree::new(alloc))?;
+    match one_key(alloc) {
+        Ok(keys) => Ok(PlainView::new(alloc, keys, tree)),
+        Err(error) => {
+            drop(tree);
+            Err(error)
+        }
+    }
+}
+
+fn put_inode(keys: &mut PlainKeys) -> Result<(), AllocError> {
     keys.inodes.insert(inode_at(7, 9), Value::Inode(INODE))?;
-    Ok(PlainView::new(alloc, keys, shared))
+    Ok(())
 }
 
 // The updates where a number in an id gets an inode or loses it.
-fn updates_of(alloc: Global, id: u32, number: u64, is_there: bool) -> Result<Updates, Fail> {
-    let tree = SnapTree::of(alloc, &snap_keys(alloc)?)?;
+fn updates_in(
+    alloc: Global,
+    tree: &SnapTree,
+    id: u32,
+    number: u64,
+    is_there: bool,
+) -> Result<Updates, Fail> {
     let mut view = one_inode(alloc)?;
     let inode = if is_there { Some(INODE) } else { None };
-    Ok(set(alloc, &mut view, &tree, id, number, inode)?)
+    let updates = set(alloc, &mut view, tree, id, number, inode);
+    drop(view);
+    Ok(updates?)
+}
+
+// Whether they are what a row says.
+fn is_set(alloc: Global, tree: &SnapTree, row: &SetRow) -> Result<bool, Fail> {
+    let (id, number, is_there, wanted) = *row;
+    let updates = updates_in(alloc, tree, id, number, is_there)?;
+    let good = updates.len() == usize::from(wanted.is_some())
+        && step_at(updates.as_slice(), number, id) == wanted;
+    drop(updates);
+    Ok(good)
+}
+
+// The number of the first row that isn't so.
+fn first_other_set(alloc: Global, tree: &SnapTree) -> Result<Option<u32>, Fail> {
+    let mut number: u32 = 0;
+    for row in SET_ROWS.iter() {
+        if !is_set(alloc, tree, row)? {
+            return Ok(Some(number));
+        }
+        number = number.saturating_add(1);
+    }
+    Ok(None)
 }
 
 #[test]
 fn sets(rt: HostRuntime) -> Result<(), Fail> {
-    for (id, number, is_there, wanted) in SET_ROWS {
-        let updates = updates_of(rt.alloc(), id, number, is_there)?;
-        assert!(rt; updates.len() == usize::from(wanted.is_some()));
-        assert!(rt;
-            step_at(updates.as_slice(), number, id) == wanted,
-            "{number} in {id}"
-        );
-    }
+    let tree = tree_of(rt.alloc(), &IDS)?;
+    let other = first_other_set(rt.alloc(), &tree);
+    drop(tree);
+    assert!(rt; other? == None);
     Ok(())
 }

@@ -1,11 +1,11 @@
 //! Plans of changes over key maps in memory: files that are cut and written in snapshots, names, inodes and what an id sees, the keys
-//! that follow extents, and whole plans of operations, by tables and beside plain models. The crate holds tests alone.
+//! that follow extents, and whole plans of operations, by tables. The crate holds tests alone.
 #![tactic(auto)]
 
 #[cfg(test)]
-mod cuts;
-#[cfg(test)]
 mod drawn_files;
+#[cfg(test)]
+mod extents;
 #[cfg(test)]
 mod files;
 #[cfg(test)]

@@ -1,6 +1,6 @@
 //! Which keys of a file are looked at for blocks, and how many blocks the longest extent or hole has.
 
-use crate::cuts::extent;
+use crate::extents::extent;
 use extent_ops::{longest_in, longest_with, reach};
 use std::alloc::{AllocError, Global};
 use std::test::Fail;
@@ -25,7 +25,7 @@ const BASE: Look = Look {
     has_hole: false,
 };
 
-const LOOKS: [Look; 9] = [
+static LOOKS: [Look; 9] = [
     // The hole ends 300 blocks behind its first block, and 290 behind the last one that is looked at.
     Look {
         first: 200,
@@ -88,6 +88,13 @@ const LOOKS: [Look; 9] = [
 
 const HOLE: Value = Value::Hole { blocks: 300 };
 
+// Where the extent stands, at its end.
+const EXTENT_AT: Pos = Pos {
+    inode: 7,
+    offset: 116,
+    snapshot: 90,
+};
+
 // Where the hole stands, at its end.
 const HOLE_AT: Pos = Pos {
     inode: 7,
@@ -103,14 +110,24 @@ fn asks_for(query: &Query, pos: Pos) -> bool {
     }
 }
 
+// The number of the first look that doesn't ask for what it has to.
+fn first_other() -> Option<u32> {
+    let mut number: u32 = 0;
+    for look in LOOKS.iter() {
+        let query = reach(7, look.first, look.last, look.longest);
+        if asks_for(&query, EXTENT_AT) != look.has_extent
+            || asks_for(&query, HOLE_AT) != look.has_hole
+        {
+            return Some(number);
+        }
+        number = number.saturating_add(1);
+    }
+    None
+}
+
 #[test]
 fn keys_within_reach(rt: HostRuntime) -> Result<(), Fail> {
-    let extent = extent(rt.alloc(), 90, 100, 16, 1)?;
-    for look in LOOKS {
-        let query = reach(7, look.first, look.last, look.longest);
-        assert!(rt; asks_for(&query, extent.pos) == look.has_extent);
-        assert!(rt; asks_for(&query, HOLE_AT) == look.has_hole);
-    }
+    assert!(rt; first_other() == None);
     Ok(())
 }
 
@@ -132,16 +149,21 @@ fn put_extent(alloc: Global, updates: &mut Updates) -> Result<(), AllocError> {
     Ok(())
 }
 
+// Whether the longest extent or hole of updates has so many blocks: of none, of an extent, and of a hole beside it.
+fn are_longest(alloc: Global, updates: &mut Updates) -> Result<bool, AllocError> {
+    let none = longest_in(updates.as_slice(), 0) == 0;
+    put_extent(alloc, updates)?;
+    let one = longest_in(updates.as_slice(), 0) == 16 && longest_in(updates.as_slice(), 256) == 256;
+    updates.push(update_at(HOLE_AT, Some(HOLE)))?;
+    Ok(none && one && longest_in(updates.as_slice(), 256) == 300)
+}
+
 #[test]
 fn longest_of_updates(rt: HostRuntime) -> Result<(), Fail> {
     let alloc = rt.alloc();
     let mut updates = Updates::new(alloc);
-    assert!(rt; longest_in(updates.as_slice(), 0) == 0);
-    put_extent(alloc, &mut updates)?;
-    assert!(rt; longest_in(updates.as_slice(), 0) == 16);
-    assert!(rt; longest_in(updates.as_slice(), 256) == 256);
-    updates.push(update_at(HOLE_AT, Some(HOLE)))?;
-    assert!(rt; longest_in(updates.as_slice(), 256) == 300);
-    assert!(rt; longest_with(&HOLE, 16) == 300);
+    let good = are_longest(alloc, &mut updates);
+    drop(updates);
+    assert!(rt; good? && longest_with(&HOLE, 16) == 300);
     Ok(())
 }

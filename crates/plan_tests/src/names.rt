@@ -1,12 +1,11 @@
 //! Names that are added and removed in a few ids, beside others that are put under the slot of `a` by hand.
 
-use crate::ids::snap_keys;
+use crate::ids::shared_tree;
 use dirent_keys::{NameStep, add, remove};
 use key_view::{Hold, PlainKeys, PlainView, View};
 use snap_tree::SnapTree;
 use std::alloc::{AllocError, Global};
 use std::collections::BTreeMap;
-use std::sync::Arc;
 use std::test::Fail;
 use vol_types::{Btree, Bytes, FileKind, Link, LinkList, Pos, Update, Updates, Value};
 
@@ -20,22 +19,30 @@ const SLOT: u64 = 0x654b_c089_650d_dee5;
 const NUMBER: u64 = 77;
 
 /// Ids, each with its parent: 10 is under 20, and 20 is under 30. 15 is under 20 too, and 40 is alone.
-const IDS: [(u32, u32); 5] = [(10, 20), (15, 20), (20, 30), (30, 0), (40, 0)];
+static IDS: [(u32, u32); 5] = [(10, 20), (15, 20), (20, 30), (30, 0), (40, 0)];
+
+fn push_link(
+    alloc: Global,
+    links: &mut LinkList,
+    number: u64,
+    kind: FileKind,
+    name: u8,
+) -> Result<(), AllocError> {
+    let name = Bytes::from_slice(alloc, &[name])?;
+    links.push(Link { number, kind, name })?;
+    Ok(())
+}
 
 // A file for each byte, whose name is that byte and whose number is its code; `a` is a directory of a number of its own.
 fn links_of(alloc: Global, names: &[u8]) -> Result<LinkList, AllocError> {
     let mut links = LinkList::new(alloc);
     for name in names {
-        let is_added = *name == b'a';
-        links.push(Link {
-            number: if is_added { NUMBER } else { u64::from(*name) },
-            kind: if is_added {
-                FileKind::Directory
-            } else {
-                FileKind::File
-            },
-            name: Bytes::from_slice(alloc, &[*name])?,
-        })?;
+        let (number, kind) = if *name == b'a' {
+            (NUMBER, FileKind::Directory)
+        } else {
+            (u64::from(*name), FileKind::File)
+        };
+        push_link(alloc, &mut links, number, kind, *name)?;
     }
     Ok(links)
 }
@@ -67,7 +74,7 @@ fn place(id: u32) -> Pos {
 }
 
 /// Keys of other ids, directories and slots.
-const OTHERS: [(u64, u64, u32); 4] = [
+static OTHERS: [(u64, u64, u32); 4] = [
     (DIRECTORY, SLOT, 15),
     (DIRECTORY, SLOT, 40),
     (DIRECTORY, SLOT + 1, 10),
@@ -90,11 +97,11 @@ fn put_held(
 }
 
 fn put_others(alloc: Global, dirents: &mut BTreeMap<Pos, Value>) -> Result<(), AllocError> {
-    for (inode, offset, snapshot) in OTHERS {
+    for (inode, offset, snapshot) in OTHERS.iter() {
         let pos = Pos {
-            inode,
-            offset,
-            snapshot,
+            inode: *inode,
+            offset: *offset,
+            snapshot: *snapshot,
         };
         dirents.insert(pos, Value::Names(links_of(alloc, b"aq")?))?;
     }
@@ -102,25 +109,29 @@ fn put_others(alloc: Global, dirents: &mut BTreeMap<Pos, Value>) -> Result<(), A
 }
 
 // The names that 10, 20 and 30 have, among those of others.
-fn dirents_of(alloc: Global, held: [Own; 3]) -> Result<BTreeMap<Pos, Value>, AllocError> {
-    let mut dirents = BTreeMap::new(alloc);
-    put_held(alloc, &mut dirents, held)?;
-    put_others(alloc, &mut dirents)?;
-    Ok(dirents)
-}
-
-fn tree(alloc: Global) -> Result<SnapTree, Fail> {
-    let keys = snap_keys(alloc, &IDS)?;
-    Ok(SnapTree::of(alloc, &keys)?)
+fn put_all(
+    alloc: Global,
+    dirents: &mut BTreeMap<Pos, Value>,
+    held: [Own; 3],
+) -> Result<(), AllocError> {
+    put_held(alloc, dirents, held)?;
+    put_others(alloc, dirents)
 }
 
 // A view in which 10, 20 and 30 have these, among keys of other ids, directories and slots.
 fn view_of(alloc: Global, held: [Own; 3]) -> Result<PlainView, Fail> {
-    let shared = Arc::new(alloc, tree(alloc)?)?;
-    let dirents = dirents_of(alloc, held)?;
     let mut keys = PlainKeys::new(alloc);
-    keys.dirents = dirents;
-    Ok(PlainView::new(alloc, keys, shared))
+    if let Err(error) = put_all(alloc, &mut keys.dirents, held) {
+        drop(keys);
+        return Err(Fail::from(error));
+    }
+    match shared_tree(alloc, &IDS) {
+        Ok(tree) => Ok(PlainView::new(alloc, keys, tree)),
+        Err(fail) => {
+            drop(keys);
+            Err(fail)
+        }
+    }
 }
 
 // The one update of an id's own key there.
@@ -147,13 +158,20 @@ enum Added {
     Crowded,
 }
 
-fn adds(
+// Whether a step is this one.
+fn is_step(alloc: Global, step: &NameStep, id: u32, added: Added) -> Result<bool, AllocError> {
+    let wanted = step_of(alloc, id, added)?;
+    let same = *step == wanted;
+    drop(wanted);
+    Ok(same)
+}
+
+fn step_in(
     alloc: Global,
     view: &mut PlainView,
     tree: &SnapTree,
     id: u32,
-    added: Added,
-) -> Result<bool, Hold> {
+) -> Result<NameStep, Hold> {
     let name = name_a(alloc)?;
     let step = add(
         alloc,
@@ -164,14 +182,36 @@ fn adds(
         &name,
         NUMBER,
         FileKind::Directory,
-    )?;
-    Ok(step == step_of(alloc, id, added)?)
+    );
+    drop(name);
+    step
+}
+
+fn adds_to(
+    alloc: Global,
+    view: &mut PlainView,
+    tree: &SnapTree,
+    id: u32,
+    added: Added,
+) -> Result<bool, Hold> {
+    let step = step_in(alloc, view, tree, id)?;
+    let same = is_step(alloc, &step, id, added);
+    drop(step);
+    Ok(same?)
+}
+
+fn adds(alloc: Global, view: &mut PlainView, id: u32, added: Added) -> Result<bool, Hold> {
+    let tree = view.tree()?;
+    let good = adds_to(alloc, view, &tree, id, added);
+    drop(tree);
+    good
 }
 
 fn is_added(alloc: Global, held: [Own; 3], id: u32, added: Added) -> Result<bool, Fail> {
     let mut view = view_of(alloc, held)?;
-    let tree = view.tree()?;
-    Ok(adds(alloc, &mut view, &tree, id, added)?)
+    let good = adds(alloc, &mut view, id, added);
+    drop(view);
+    Ok(good?)
 }
 
 fn step_of(alloc: Global, id: u32, added: Added) -> Result<NameStep, AllocError> {
@@ -183,7 +223,7 @@ fn step_of(alloc: Global, id: u32, added: Added) -> Result<NameStep, AllocError>
 }
 
 /// What 10, 20 and 30 have, an id, and what adding `a` to it comes to.
-const ADDED: [([Own; 3], u32, Added); 20] = [
+static ADDED: [([Own; 3], u32, Added); 20] = [
     // alone, first, in the middle, last
     ([Nothing, Nothing, Nothing], 10, Added::Put(b"a")),
     ([Names(b"bc"), Nothing, Nothing], 10, Added::Put(b"abc")),
@@ -219,37 +259,84 @@ const ADDED: [([Own; 3], u32, Added); 20] = [
     ([Nothing, Nothing, Nothing], 20, Added::Put(b"a")),
 ];
 
+// The number of the first row to which adding `a` comes to something else.
+fn first_other_added(alloc: Global) -> Result<Option<u32>, Fail> {
+    let mut number: u32 = 0;
+    for (held, id, added) in ADDED.iter() {
+        if !is_added(alloc, *held, *id, *added)? {
+            return Ok(Some(number));
+        }
+        number = number.saturating_add(1);
+    }
+    Ok(None)
+}
+
 #[test]
 fn names_are_added(rt: HostRuntime) -> Result<(), Fail> {
-    for (held, id, added) in ADDED {
-        assert!(rt; is_added(rt.alloc(), held, id, added)?);
-    }
+    assert!(rt; first_other_added(rt.alloc())? == None);
     Ok(())
 }
 
-fn removes(
+// Whether a removal is this one.
+fn is_removal(
+    alloc: Global,
+    removal: Option<&Updates>,
+    id: u32,
+    put: Option<Own>,
+) -> Result<bool, AllocError> {
+    match (removal, put) {
+        (None, None) => Ok(true),
+        (Some(removal), Some(own)) => {
+            let wanted = updates_of(alloc, id, own)?;
+            let same = *removal == wanted;
+            drop(wanted);
+            Ok(same)
+        }
+        _ => Ok(false),
+    }
+}
+
+fn removal_in(
+    alloc: Global,
+    view: &mut PlainView,
+    tree: &SnapTree,
+    id: u32,
+) -> Result<Option<Updates>, Hold> {
+    let name = name_a(alloc)?;
+    let removal = remove(alloc, view, tree, id, DIRECTORY, &name);
+    drop(name);
+    removal
+}
+
+fn removes_from(
     alloc: Global,
     view: &mut PlainView,
     tree: &SnapTree,
     id: u32,
     put: Option<Own>,
 ) -> Result<bool, Hold> {
-    let name = name_a(alloc)?;
-    let removal = remove(alloc, view, tree, id, DIRECTORY, &name)?;
-    Ok(match put {
-        None => removal.is_none(),
-        Some(own) => removal == Some(updates_of(alloc, id, own)?),
-    })
+    let removal = removal_in(alloc, view, tree, id)?;
+    let same = is_removal(alloc, removal.as_ref(), id, put);
+    drop(removal);
+    Ok(same?)
+}
+
+fn removes(alloc: Global, view: &mut PlainView, id: u32, put: Option<Own>) -> Result<bool, Hold> {
+    let tree = view.tree()?;
+    let good = removes_from(alloc, view, &tree, id, put);
+    drop(tree);
+    good
 }
 
 fn is_removed(alloc: Global, held: [Own; 3], id: u32, put: Option<Own>) -> Result<bool, Fail> {
     let mut view = view_of(alloc, held)?;
-    let tree = view.tree()?;
-    Ok(removes(alloc, &mut view, &tree, id, put)?)
+    let good = removes(alloc, &mut view, id, put);
+    drop(view);
+    Ok(good?)
 }
 
 /// What 10, 20 and 30 have, an id, and what is put where it loses `a`, if it has it.
-const REMOVED: [([Own; 3], u32, Option<Own>); 14] = [
+static REMOVED: [([Own; 3], u32, Option<Own>); 14] = [
     // others are left, of its own or of an ancestor
     ([Names(b"abc"), Nothing, Nothing], 10, Some(Names(b"bc"))),
     ([Nothing, Nothing, Names(b"Zab")], 10, Some(Names(b"Zb"))),
@@ -274,10 +361,20 @@ const REMOVED: [([Own; 3], u32, Option<Own>); 14] = [
     ([Names(b"a"), Nothing, Nothing], 20, None),
 ];
 
+// The number of the first row from which removing `a` comes to something else.
+fn first_other_removed(alloc: Global) -> Result<Option<u32>, Fail> {
+    let mut number: u32 = 0;
+    for (held, id, put) in REMOVED.iter() {
+        if !is_removed(alloc, *held, *id, *put)? {
+            return Ok(Some(number));
+        }
+        number = number.saturating_add(1);
+    }
+    Ok(None)
+}
+
 #[test]
 fn names_are_removed(rt: HostRuntime) -> Result<(), Fail> {
-    for (held, id, put) in REMOVED {
-        assert!(rt; is_removed(rt.alloc(), held, id, put)?);
-    }
+    assert!(rt; first_other_removed(rt.alloc())? == None);
     Ok(())
 }

@@ -4,14 +4,12 @@
 ghost use Rattle.std.specs.Prelude.{◌≡◌, ◌<◌, true};
 ghost use Rattle.fs_plan.specs.Plans.{is_planned};
 
-use crate::ids::snap_keys;
+use crate::ids::shared_tree;
 use forest_ops::{Cause, Op, Reply};
 use fs_plan::{Plan, plan};
 use key_view::{PlainKeys, PlainView, View};
 use plain_forest::Path;
-use snap_tree::SnapTree;
 use std::alloc::{AllocError, Global};
-use std::sync::Arc;
 use std::test::Fail;
 use vol_digest::slot;
 use vol_types::{
@@ -20,7 +18,7 @@ use vol_types::{
 };
 
 /// Ids, each with its parent.
-const IDS: [(u32, u32); 3] = [(10, 30), (20, 30), (30, 0)];
+static IDS: [(u32, u32); 3] = [(10, 30), (20, 30), (30, 0)];
 
 /// The next number of client 0, and that of client 1, which has used all of its own.
 const NEXT: u64 = 4;
@@ -98,15 +96,16 @@ fn name_of(alloc: Global, name: &[u8], number: u64, kind: FileKind) -> Result<Va
 }
 
 /// Ids with inodes.
-const INODES: [(u32, u64, FileKind); 3] = [
+static INODES: [(u32, u64, FileKind); 3] = [
     (30, ROOT, FileKind::Directory),
     (30, DIRECTORY, FileKind::Directory),
     (20, FILE, FileKind::File),
 ];
 
 fn put_inodes(keys: &mut PlainKeys) -> Result<(), AllocError> {
-    for (id, number, kind) in INODES {
-        keys.inodes.insert(inode_pos(id, number), inode_of(kind))?;
+    for (id, number, kind) in INODES.iter() {
+        keys.inodes
+            .insert(inode_pos(*id, *number), inode_of(*kind))?;
     }
     Ok(())
 }
@@ -114,7 +113,7 @@ fn put_inodes(keys: &mut PlainKeys) -> Result<(), AllocError> {
 /// Ids with directories, each with a name in it and the number that it leads to.
 type Name = (u32, u64, &'static [u8], u64, FileKind);
 
-const NAMES: [Name; 3] = [
+static NAMES: [Name; 3] = [
     (30, ROOT, b"d", DIRECTORY, FileKind::Directory),
     (20, ROOT, b"a", FILE, FileKind::File),
     (20, DIRECTORY, b"b", FILE, FileKind::File),
@@ -128,8 +127,8 @@ fn put_name(alloc: Global, keys: &mut PlainKeys, row: Name) -> Result<(), AllocE
 }
 
 fn put_names(alloc: Global, keys: &mut PlainKeys) -> Result<(), AllocError> {
-    for row in NAMES {
-        put_name(alloc, keys, row)?;
+    for row in NAMES.iter() {
+        put_name(alloc, keys, *row)?;
     }
     Ok(())
 }
@@ -152,20 +151,22 @@ fn put_all(alloc: Global, keys: &mut PlainKeys) -> Result<(), AllocError> {
 
 fn keys_of(alloc: Global) -> Result<PlainKeys, AllocError> {
     let mut keys = PlainKeys::new(alloc);
-    put_all(alloc, &mut keys)?;
+    if let Err(error) = put_all(alloc, &mut keys) {
+        drop(keys);
+        return Err(error);
+    }
     Ok(keys)
 }
 
-fn tree_of(alloc: Global) -> Result<Arc<SnapTree>, Fail> {
-    let keys = snap_keys(alloc, &IDS)?;
-    let tree = SnapTree::of(alloc, &keys)?;
-    Ok(Arc::new(alloc, tree)?)
-}
-
 fn view_of(alloc: Global) -> Result<PlainView, Fail> {
-    let tree = tree_of(alloc)?;
-    let keys = keys_of(alloc)?;
-    Ok(PlainView::new(alloc, keys, tree))
+    let tree = shared_tree(alloc, &IDS)?;
+    match keys_of(alloc) {
+        Ok(keys) => Ok(PlainView::new(alloc, keys, tree)),
+        Err(error) => {
+            drop(tree);
+            Err(Fail::from(error))
+        }
+    }
 }
 
 // The plan of an operation of a client, if there is one.
@@ -173,29 +174,50 @@ fn planned(alloc: Global, client: u8, op: Op) -> Result<Option<Plan>, Fail>
     requires client { client < 16 }
     requires planned { is_planned op ≡ true }
 {
-    let mut view = view_of(alloc)?;
-    Ok(plan(alloc, &mut view, client, op).ok())
+    let mut view = match view_of(alloc) {
+        Ok(view) => view,
+        Err(fail) => {
+            drop(op);
+            return Err(fail);
+        }
+    };
+    let plan = plan(alloc, &mut view, client, op).ok();
+    drop(view);
+    Ok(plan)
+}
+
+fn push_name(alloc: Global, list: &mut NameList, name: &[u8]) -> Result<(), AllocError> {
+    list.push(Bytes::from_slice(alloc, name)?)?;
+    Ok(())
+}
+
+fn names_of(alloc: Global, names: &[&'static [u8]]) -> Result<NameList, AllocError> {
+    let mut list = NameList::new(alloc);
+    for name in names {
+        push_name(alloc, &mut list, name)?;
+    }
+    Ok(list)
 }
 
 fn path_of(alloc: Global, sub: &[u8], names: &[&'static [u8]]) -> Result<Path, AllocError> {
-    let mut list = NameList::new(alloc);
-    for name in names {
-        list.push(Bytes::from_slice(alloc, name)?)?;
-    }
+    let names = names_of(alloc, names)?;
     let sub = Bytes::from_slice(alloc, sub)?;
-    Ok(Path { sub, names: list })
+    Ok(Path { sub, names })
 }
 
 /// A name with its flag.
 type Flagged = (&'static [u8], u8);
 
+fn push_flag(alloc: Global, list: &mut FlagList, name: &[u8], flag: u8) -> Result<(), AllocError> {
+    let name = Bytes::from_slice(alloc, name)?;
+    list.push(FlaggedName { name, flag })?;
+    Ok(())
+}
+
 fn flags_of(alloc: Global, rows: &[Flagged]) -> Result<Reply, AllocError> {
     let mut list = FlagList::new(alloc);
     for (name, flag) in rows {
-        list.push(FlaggedName {
-            name: Bytes::from_slice(alloc, name)?,
-            flag: *flag,
-        })?;
+        push_flag(alloc, &mut list, name, *flag)?;
     }
     Ok(Reply::List(list))
 }
@@ -216,13 +238,15 @@ fn is_listed(
 ) -> Result<bool, Fail> {
     let path = path_of(alloc, sub, names)?;
     let plan = planned(alloc, 0, Op::Ls { path })?;
-    Ok(has_reply(&plan, reply))
+    let good = has_reply(&plan, reply);
+    drop(plan);
+    Ok(good)
 }
 
 /// A subvolume, names in it, and what is listed there.
 type Listed = (&'static [u8], &'static [&'static [u8]], &'static [Flagged]);
 
-const LISTED: [Listed; 4] = [
+static LISTED: [Listed; 4] = [
     (b"main", &[], &[(b"a", 1), (b"d", 2)]),
     (b"copy", &[], &[(b"d", 2)]),
     (b"main", &[b"d"], &[(b"b", 1)]),
@@ -232,21 +256,33 @@ const LISTED: [Listed; 4] = [
 fn lists(alloc: Global, row: Listed) -> Result<bool, Fail> {
     let (sub, names, flags) = row;
     let reply = flags_of(alloc, flags)?;
-    is_listed(alloc, sub, names, &reply)
+    let good = is_listed(alloc, sub, names, &reply);
+    drop(reply);
+    good
+}
+
+// The number of the first row that isn't so.
+fn first_not_listed(alloc: Global) -> Result<Option<u32>, Fail> {
+    let mut number: u32 = 0;
+    for row in LISTED.iter() {
+        if !lists(alloc, *row)? {
+            return Ok(Some(number));
+        }
+        number = number.saturating_add(1);
+    }
+    Ok(None)
 }
 
 #[test]
 fn directories_are_listed(rt: HostRuntime) -> Result<(), Fail> {
-    for (at, row) in LISTED.iter().enumerate() {
-        assert!(rt; lists(rt.alloc(), *row)?, "at {at}");
-    }
+    assert!(rt; first_not_listed(rt.alloc())? == None);
     Ok(())
 }
 
 /// A client, a subvolume, names in it, and why a listing or a new file is refused there.
 type Refused = (u8, &'static [u8], &'static [&'static [u8]], Cause);
 
-const NOT_LISTED: [Refused; 6] = [
+static NOT_LISTED: [Refused; 6] = [
     (0, b"ma:in", &[], Cause::BadPath),
     (0, b"other", &[], Cause::NoSubvolume),
     (0, b"main", &[b"c"], Cause::NotFound),
@@ -257,14 +293,27 @@ const NOT_LISTED: [Refused; 6] = [
 
 fn is_not_listed(alloc: Global, row: Refused) -> Result<bool, Fail> {
     let (_, sub, names, cause) = row;
-    is_listed(alloc, sub, names, &Reply::Refused(cause))
+    let reply = Reply::Refused(cause);
+    let good = is_listed(alloc, sub, names, &reply);
+    drop(reply);
+    good
+}
+
+// The number of the first row that isn't so.
+fn first_listed(alloc: Global) -> Result<Option<u32>, Fail> {
+    let mut number: u32 = 0;
+    for row in NOT_LISTED.iter() {
+        if !is_not_listed(alloc, *row)? {
+            return Ok(Some(number));
+        }
+        number = number.saturating_add(1);
+    }
+    Ok(None)
 }
 
 #[test]
 fn listings_are_refused(rt: HostRuntime) -> Result<(), Fail> {
-    for (at, row) in NOT_LISTED.iter().enumerate() {
-        assert!(rt; is_not_listed(rt.alloc(), *row)?, "at {at}");
-    }
+    assert!(rt; first_listed(rt.alloc())? == None);
     Ok(())
 }
 
@@ -287,7 +336,9 @@ fn comes_to(
 ) -> Result<bool, Fail> {
     let path = path_of(alloc, sub, names)?;
     let plan = planned(alloc, client % 16, Op::Mkfile { path })?;
-    Ok(is_plan(&plan, updates, reply))
+    let good = is_plan(&plan, updates, reply);
+    drop(plan);
+    Ok(good)
 }
 
 fn push(updates: &mut Updates, btree: Btree, pos: Pos, value: Value) -> Result<(), AllocError> {
@@ -312,8 +363,14 @@ fn push_file(alloc: Global, updates: &mut Updates) -> Result<(), AllocError> {
 
 fn is_file_made(alloc: Global) -> Result<bool, Fail> {
     let mut updates = Updates::new(alloc);
-    push_file(alloc, &mut updates)?;
-    comes_to(alloc, 0, b"main", &[b"d", b"c"], &updates, &Reply::Okay)
+    let good = makes_file(alloc, &mut updates);
+    drop(updates);
+    good
+}
+
+fn makes_file(alloc: Global, updates: &mut Updates) -> Result<bool, Fail> {
+    push_file(alloc, updates)?;
+    comes_to(alloc, 0, b"main", &[b"d", b"c"], updates, &Reply::Okay)
 }
 
 #[test]
@@ -322,7 +379,7 @@ fn files_are_made(rt: HostRuntime) -> Result<(), Fail> {
     Ok(())
 }
 
-const NOT_MADE: [Refused; 7] = [
+static NOT_MADE: [Refused; 7] = [
     (0, b"other", &[b"c"], Cause::NoSubvolume),
     (0, b"main", &[b"a", b"c"], Cause::NotDir),
     (0, b"main", &[b"e", b"c"], Cause::NotFound),
@@ -335,28 +392,52 @@ const NOT_MADE: [Refused; 7] = [
 // Whether making a file is refused so, without updates.
 fn is_refused(alloc: Global, row: Refused) -> Result<bool, Fail> {
     let (client, sub, names, cause) = row;
-    let none = Updates::new(alloc);
-    comes_to(alloc, client, sub, names, &none, &Reply::Refused(cause))
+    let (none, reply) = (Updates::new(alloc), Reply::Refused(cause));
+    let good = comes_to(alloc, client, sub, names, &none, &reply);
+    drop(none);
+    drop(reply);
+    good
+}
+
+// The number of the first row that isn't so.
+fn first_made(alloc: Global) -> Result<Option<u32>, Fail> {
+    let mut number: u32 = 0;
+    for row in NOT_MADE.iter() {
+        if !is_refused(alloc, *row)? {
+            return Ok(Some(number));
+        }
+        number = number.saturating_add(1);
+    }
+    Ok(None)
 }
 
 #[test]
 fn files_are_refused(rt: HostRuntime) -> Result<(), Fail> {
-    for (at, row) in NOT_MADE.iter().enumerate() {
-        assert!(rt; is_refused(rt.alloc(), *row)?, "at {at}");
-    }
+    assert!(rt; first_made(rt.alloc())? == None);
     Ok(())
+}
+
+fn is_sync(plan: &Option<Plan>) -> bool {
+    match plan {
+        Some(plan) => plan.updates.is_empty() && matches!(&plan.reply, Reply::Synced(0)),
+        None => false,
+    }
 }
 
 // Whether a sync answers 0, and changes and looks at nothing.
 fn syncs(alloc: Global, view: &mut PlainView) -> bool {
     let plan = plan(alloc, view, 3, Op::Sync).ok();
-    is_plan(&plan, &Updates::new(alloc), &Reply::Synced(0)) && view.looks().is_empty()
+    let good = is_sync(&plan) && view.looks().is_empty();
+    drop(plan);
+    good
 }
 
 #[test]
 fn syncs_look_at_nothing(rt: HostRuntime) -> Result<(), Fail> {
     let alloc = rt.alloc();
     let mut view = view_of(alloc)?;
-    assert!(rt; syncs(alloc, &mut view));
+    let good = syncs(alloc, &mut view);
+    drop(view);
+    assert!(rt; good);
     Ok(())
 }

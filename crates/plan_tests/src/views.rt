@@ -1,242 +1,140 @@
-//! The value that an id sees against a search id by id, and how many looks it took.
+//! The value that an id sees, and how many looks it takes, by a table.
 
-ghost use Rattle.std.specs.Prelude.{IfOk, All};
-ghost use Rattle.snap_tree.specs.Snaps.{IsSnapKey};
-
-use crate::ids::snap_key;
+use crate::ids::shared_tree;
 use key_view::{Hold, PlainKeys, PlainView, View, nearest, whiteout_needed};
 use snap_tree::SnapTree;
 use std::alloc::{AllocError, Global};
-use std::sync::Arc;
 use std::test::Fail;
-use vol_types::{Btree, FileKind, Inode, Keys, Pos, Value};
+use vol_types::{Btree, FileKind, Inode, Pos, Value};
 
 /// The number of the inode that is looked for.
 const NUMBER: u64 = 5;
 
-/// What an id has of its own there.
-#[derive(Clone, Copy, PartialEq, Eq)]
-enum Own {
-    Nothing,
-    Whiteout,
-    Shown,
-}
+/// Ids, each with its parent: three are under 30.
+static IDS: [(u32, u32); 4] = [(10, 30), (20, 30), (25, 30), (30, 0)];
 
-// Ids are told by how far below the greatest one they are. Those that are evenly far make one chain up to the greatest
-// id, and each other one is a leaf under the next greater id.
-fn above(far: u32) -> Option<u32> {
-    if far % 2 == 1 {
-        return Some(far - 1);
-    }
-    far.checked_sub(2)
-}
+/// The ids that have an inode of their own there, or a whiteout where it is false; an id, the id whose inode it sees, the looks that it
+/// takes, and whether a removal in it needs a whiteout.
+type Row = (&'static [(u32, bool)], u32, Option<u32>, usize, bool);
 
-fn id_of(far: u32) -> u32 {
-    u32::MAX - far
-}
+/// There is a look for each key of another branch that stands between, and one more.
+static ROWS: [Row; 9] = [
+    (&[], 10, None, 1, false),
+    (&[(10, true)], 10, Some(10), 1, false),
+    (&[(30, true)], 10, Some(30), 1, true),
+    (&[(20, true), (30, true)], 10, Some(30), 2, true),
+    (
+        &[(20, true), (25, false), (30, true)],
+        10,
+        Some(30),
+        3,
+        true,
+    ),
+    (&[(20, true), (25, true)], 10, None, 3, false),
+    (&[(10, false), (30, true)], 10, None, 1, true),
+    (&[(10, true)], 20, None, 1, false),
+    (&[(30, false)], 10, None, 1, false),
+];
 
-fn own_at(held: &[Own], far: u32) -> Own {
-    held.get(far as usize).copied().unwrap_or(Own::Nothing)
-}
-
-// How far the nearest id is that has something of its own, by going up from one.
-fn owner_of(held: &[Own], far: u32) -> Option<u32> {
-    let mut at = far;
-    for _ in held {
-        if own_at(held, at) != Own::Nothing {
-            return Some(at);
-        }
-        at = above(at)?;
-    }
-    None
-}
-
-fn seen_from(held: &[Own], far: Option<u32>) -> Option<u32> {
-    let owner = owner_of(held, far?)?;
-    if own_at(held, owner) == Own::Shown {
-        Some(owner)
-    } else {
-        None
-    }
-}
-
-// How many ids of other branches have something of their own, of those above an id and below the one whose key it sees.
-fn others_from(held: &[Own], far: u32) -> usize {
-    let end = owner_of(held, far).unwrap_or(0);
-    let mut count: usize = 0;
-    for at in end..far {
-        if at % 2 == 1 && own_at(held, at) != Own::Nothing {
-            count = count.saturating_add(1);
-        }
-    }
-    count
-}
-
-fn parent_of(far: u32) -> u32 {
-    match above(far) {
-        None => 0,
-        Some(above) => id_of(above),
-    }
-}
-
-fn snap_keys(alloc: Global, ids: u32) -> Result<Keys, AllocError>
-    ensures { IfOk result (All IsSnapKey) }
-{
-    let mut keys = Keys::new(alloc);
-    for far in 0..ids {
-        keys.push(snap_key(id_of(far), parent_of(far)))?;
-    }
-    Ok(keys)
-}
-
-fn inode_at(size: u32) -> Value {
-    Value::Inode(Inode {
-        kind: FileKind::File,
-        links: 1,
-        size: u64::from(size),
-    })
-}
-
-fn put(keys: &mut PlainKeys, number: u64, far: u32, value: Value) -> Result<(), AllocError> {
+fn put(keys: &mut PlainKeys, number: u64, snapshot: u32, value: Value) -> Result<(), AllocError> {
     let pos = Pos {
         inode: 0,
         offset: number,
-        snapshot: id_of(far),
+        snapshot,
     };
     keys.inodes.insert(pos, value)?;
     Ok(())
 }
 
-// Puts what an id has, or keys of the numbers before and after.
-fn put_own(keys: &mut PlainKeys, own: Own, far: u32) -> Result<(), AllocError> {
-    match own {
-        Own::Nothing => {
-            put(keys, NUMBER - 1, far, inode_at(far))?;
-            put(keys, NUMBER + 1, far, Value::White)
-        }
-        Own::Whiteout => put(keys, NUMBER, far, Value::White),
-        Own::Shown => put(keys, NUMBER, far, inode_at(far)),
-    }
+// An inode that is told by its size.
+fn inode_of(id: u32) -> Value {
+    Value::Inode(Inode {
+        kind: FileKind::File,
+        links: 1,
+        size: u64::from(id),
+    })
 }
 
-// The keys of what ids have, among those of the numbers before and after.
-fn keys_of(alloc: Global, held: &[Own], ids: u32) -> Result<PlainKeys, AllocError> {
+// Puts what ids have, among whiteouts of the numbers before and after.
+fn put_all(keys: &mut PlainKeys, held: &[(u32, bool)]) -> Result<(), AllocError> {
+    put(keys, NUMBER - 1, 30, Value::White)?;
+    put(keys, NUMBER + 1, 10, Value::White)?;
+    for (id, is_shown) in held {
+        let value = if *is_shown {
+            inode_of(*id)
+        } else {
+            Value::White
+        };
+        put(keys, NUMBER, *id, value)?;
+    }
+    Ok(())
+}
+
+fn keys_of(alloc: Global, held: &[(u32, bool)]) -> Result<PlainKeys, AllocError> {
     let mut keys = PlainKeys::new(alloc);
-    for far in 0..ids {
-        put_own(&mut keys, own_at(held, far), far)?;
+    if let Err(error) = put_all(&mut keys, held) {
+        drop(keys);
+        return Err(error);
     }
     Ok(keys)
 }
 
-/// Numbers that look drawn, and are the same in each run.
-#[derive(Drop)]
-struct Draws {
-    state: u64,
-}
-
-impl Draws {
-    fn below(&mut self, end: u32) -> u32 {
-        self.state = self
-            .state
-            .wrapping_mul(6_364_136_223_846_793_005)
-            .wrapping_add(1_442_695_040_888_963_407);
-        let drawn = (self.state >> 40) as u32;
-        if end == 0 { 0 } else { drawn % end }
-    }
-}
-
-// One of so many ids has something of its own, and a third of these have a whiteout.
-fn drawn_ids(
-    alloc: Global,
-    draws: &mut Draws,
-    ids: u32,
-    one_of: u32,
-) -> Result<Vec<Own>, AllocError> {
-    let mut held = Vec::new(alloc);
-    for _ in 0..ids {
-        held.push(if draws.below(one_of) > 0 {
-            Own::Nothing
-        } else if draws.below(3) == 0 {
-            Own::Whiteout
-        } else {
-            Own::Shown
-        })?;
-    }
-    Ok(held)
-}
-
-fn is_shown(value: Option<Value>, far: Option<u32>) -> bool {
-    match far {
-        None => value.is_none(),
-        Some(far) => value == Some(inode_at(far)),
-    }
-}
-
-// Whether an id sees what a search id by id finds, by a look for each key of another branch that stands between and one
-// more, and needs a whiteout where its parent sees something.
-fn is_right(view: &mut PlainView, tree: &SnapTree, held: &[Own], far: u32) -> Result<bool, Hold> {
-    let before = view.looks().len();
-    let value = nearest(view, tree, Btree::Inodes, 0, NUMBER, id_of(far))?;
-    let looks = view.looks().len();
-    let needed = whiteout_needed(view, tree, Btree::Inodes, 0, NUMBER, id_of(far))?;
-    Ok(
-        is_shown(value, seen_from(held, Some(far)))
-            && looks
-                == before
-                    .saturating_add(others_from(held, far))
-                    .saturating_add(1)
-            && needed == seen_from(held, above(far)).is_some(),
-    )
-}
-
-// A view of what ids have.
-fn view_of(alloc: Global, held: &[Own], ids: u32) -> Result<PlainView, Fail> {
-    let tree = SnapTree::of(alloc, &snap_keys(alloc, ids)?)?;
-    let shared = Arc::new(alloc, tree)?;
-    Ok(PlainView::new(alloc, keys_of(alloc, held, ids)?, shared))
-}
-
-// How far the first of 200 drawn ids is that sees something else.
-fn first_wrong_in(
-    view: &mut PlainView,
-    tree: &SnapTree,
-    held: &[Own],
-    ids: u32,
-    draws: &mut Draws,
-) -> Result<Option<u32>, Hold> {
-    for _ in 0..200 {
-        let far = draws.below(ids);
-        if !is_right(view, tree, held, far)? {
-            return Ok(Some(far));
+fn view_of(alloc: Global, held: &[(u32, bool)]) -> Result<PlainView, Fail> {
+    let tree = shared_tree(alloc, &IDS)?;
+    match keys_of(alloc, held) {
+        Ok(keys) => Ok(PlainView::new(alloc, keys, tree)),
+        Err(error) => {
+            drop(tree);
+            Err(Fail::from(error))
         }
+    }
+}
+
+fn is_seen(value: Option<&Value>, id: Option<u32>) -> bool {
+    match (value, id) {
+        (None, None) => true,
+        (Some(Value::Inode(inode)), Some(id)) => inode.size == u64::from(id),
+        _ => false,
+    }
+}
+
+// Whether an id sees what it has to, by so many looks, and needs a whiteout where its parent sees something.
+fn sees(view: &mut PlainView, tree: &SnapTree, row: &Row) -> Result<bool, Hold> {
+    let (_, id, seen, looks, needed) = row;
+    let value = nearest(view, tree, Btree::Inodes, 0, NUMBER, *id)?;
+    let good = is_seen(value.as_ref(), *seen) && view.looks().len() == *looks;
+    drop(value);
+    Ok(good && whiteout_needed(view, tree, Btree::Inodes, 0, NUMBER, *id)? == *needed)
+}
+
+fn sees_of_its_own(view: &mut PlainView, row: &Row) -> Result<bool, Hold> {
+    let tree = view.tree()?;
+    let good = sees(view, &tree, row);
+    drop(tree);
+    good
+}
+
+fn is_right(alloc: Global, row: &Row) -> Result<bool, Fail> {
+    let mut view = view_of(alloc, row.0)?;
+    let good = sees_of_its_own(&mut view, row);
+    drop(view);
+    Ok(good?)
+}
+
+// The number of the first row that isn't right.
+fn first_wrong(alloc: Global) -> Result<Option<u32>, Fail> {
+    let mut number: u32 = 0;
+    for row in ROWS.iter() {
+        if !is_right(alloc, row)? {
+            return Ok(Some(number));
+        }
+        number = number.saturating_add(1);
     }
     Ok(None)
 }
 
-// The same among so many ids.
-fn first_wrong(alloc: Global, ids: u32, one_of: u32) -> Result<Option<u32>, Fail> {
-    let mut draws = Draws {
-        state: u64::from(ids),
-    };
-    let held = drawn_ids(alloc, &mut draws, ids, one_of)?;
-    let mut view = view_of(alloc, &held, ids)?;
-    let tree = view.tree()?;
-    Ok(first_wrong_in(&mut view, &tree, &held, ids, &mut draws)?)
-}
-
-// Half of the ids make the chain.
 #[test]
-fn long_chains(rt: HostRuntime) -> Result<(), Fail> {
-    for (ids, one_of) in [
-        (2, 2),
-        (4, 2),
-        (6, 2),
-        (128, 1),
-        (128, 5),
-        (8192, 50),
-        (8192, 5000),
-    ] {
-        assert!(rt; first_wrong(rt.alloc(), ids, one_of)? == None);
-    }
+fn nearest_values(rt: HostRuntime) -> Result<(), Fail> {
+    assert!(rt; first_wrong(rt.alloc())? == None);
     Ok(())
 }

@@ -24,6 +24,3 @@ pub use laws::{chains_rise, nearest_ancestor_is_first, removals_drop_one_id, spl
 pub use split::Split;
 pub use steps::Steps;
 pub use tree::SnapTree;
-
-#[cfg(test)]
-mod tests;

@@ -1,6 +1,0 @@
-use Rattle.std.proofs.Common.{All}
-use Rattle.snap_tree.specs.Updates.{IsFitting}
-use Rattle.snap_tree.proofs.tests.put_updates.Given as goal
-
-abbrev pub invariant-loop-row : goal.invariant-loop-row
-invariant-loop-row l = All IsFitting l.updates

@@ -1,7 +1,0 @@
-use Rattle.std.proofs.Common.{sym}
-use Rattle.std.proofs.lemmas.List.Elements.{All-push, All-same}
-use Rattle.snap_tree.specs.Updates.{IsFitting}
-use Rattle.snap_tree.proofs.tests.updates_of.Goals as goal
-
-pub returns : goal.returns
-returns c = All-same IsFitting c.push.new.self _ c.in_ok-push.ensures.ok (All-push IsFitting _ c.removal.result c.in_ok-updates.ensures c.removal.ensures)
