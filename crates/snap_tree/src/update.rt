@@ -26,6 +26,7 @@ impl SnapTree {
     {
         let changes = changes_of(self.alloc, &self.snaps, updates)?;
         if !will_stand(&self.snaps, &self.names, &changes) {
+            drop(changes);
             return Err(SnapFault::NoNode);
         }
         let stale = stale_of(self.alloc, &self.snaps, &self.names, &changes)?;
@@ -37,6 +38,8 @@ impl SnapTree {
             &changes,
         )?;
         link_stale(&self.snaps, &mut self.links, &stale);
+        drop(stale);
+        drop(changes);
         Ok(())
     }
 }
