@@ -31,7 +31,8 @@ pub struct SetOf<'a> {
     pub keys: &'a [Change],
 }
 
-/// An entry, whose roots are those of a format but for the level of the last one.
+/// An entry, whose roots are those of a format but for the level of the last one. A long one sets 130 counters besides, and so takes two
+/// blocks.
 #[derive(Clone, Copy)]
 pub struct EntryOf<'a> {
     pub sequence: u64,
@@ -40,6 +41,7 @@ pub struct EntryOf<'a> {
     pub commits: u64,
     /// The level of the root of Counters.
     pub level: u8,
+    pub is_long: bool,
     /// The updates of Counters, each with its level.
     pub updates: &'a [(u8, Change)],
 }
@@ -132,6 +134,15 @@ fn put_roots(into: &mut Bytes, level: u8, devices: u8) -> Result<(), AllocError>
     put_node(into, 8, level, 400, devices)
 }
 
+// The updates that a long entry has besides: the counters from offset 100 on are set to its sequence.
+fn put_more(into: &mut Bytes, sequence: u64, devices: u8) -> Result<(), AllocError> {
+    for offset in 100..230 {
+        into.extend_from_slice(&[COUNTERS, 0])?;
+        put_key(into, Change::Counter(offset, sequence), devices)?;
+    }
+    Ok(())
+}
+
 /// The payload of an entry.
 pub fn entry_payload(alloc: Global, entry: &EntryOf<'_>, devices: u8) -> Result<Bytes, AllocError> {
     let mut payload = Bytes::new(alloc);
@@ -140,10 +151,14 @@ pub fn entry_payload(alloc: Global, entry: &EntryOf<'_>, devices: u8) -> Result<
     payload.extend_from_slice(&entry.session.to_le_bytes())?;
     payload.extend_from_slice(&entry.commits.to_le_bytes())?;
     put_roots(&mut payload, entry.level, devices)?;
-    put_count(&mut payload, entry.updates.len())?;
+    let more = if entry.is_long { 130 } else { 0 };
+    put_count(&mut payload, entry.updates.len().saturating_add(more))?;
     for (level, change) in entry.updates {
         payload.extend_from_slice(&[COUNTERS, *level])?;
         put_key(&mut payload, *change, devices)?;
+    }
+    if entry.is_long {
+        put_more(&mut payload, entry.sequence, devices)?;
     }
     Ok(payload)
 }

@@ -23,9 +23,6 @@ pub struct Found {
     pub ragged: usize,
 }
 
-/// What is read, and what is loaded.
-pub type Both = (Result<Found, MountFault>, Result<Found, MountFault>);
-
 // The value of a counter, 0 where there is none.
 fn counter_of(value: Option<&Value>) -> u64 {
     match value {
@@ -44,9 +41,29 @@ fn counter_read(btree: &FoundBtree, offset: u64) -> u64 {
     0
 }
 
+fn counters_read(btree: &FoundBtree, offsets: &[u64; 5]) -> [u64; 5] {
+    [
+        counter_read(btree, offsets[0]),
+        counter_read(btree, offsets[1]),
+        counter_read(btree, offsets[2]),
+        counter_read(btree, offsets[3]),
+        counter_read(btree, offsets[4]),
+    ]
+}
+
 // The counter that was loaded at an offset.
 fn counter_loaded(loaded: &Loaded, offset: u64) -> u64 {
     counter_of(loaded.map.get(Btree::Counters, &pos_at(offset)))
+}
+
+fn counters_loaded(loaded: &Loaded, offsets: &[u64; 5]) -> [u64; 5] {
+    [
+        counter_loaded(loaded, offsets[0]),
+        counter_loaded(loaded, offsets[1]),
+        counter_loaded(loaded, offsets[2]),
+        counter_loaded(loaded, offsets[3]),
+        counter_loaded(loaded, offsets[4]),
+    ]
 }
 
 fn end_at(ends: &[NodeEnd], at: usize) -> u8 {
@@ -66,44 +83,81 @@ fn ragged_in(volume: &FoundVolume) -> usize {
 }
 
 fn number_at(needed: &[FoundEntry], at: usize) -> Option<u64> {
-    Some(needed.get(at)?.number)
+    match needed.get(at) {
+        Some(found) => Some(found.number),
+        None => None,
+    }
+}
+
+fn numbers_of(needed: &[FoundEntry]) -> [Option<u64>; 3] {
+    [
+        number_at(needed, 0),
+        number_at(needed, 1),
+        number_at(needed, 2),
+    ]
+}
+
+// What is found in a volume that was read.
+fn found_in(volume: &FoundVolume, offsets: &[u64; 5]) -> Result<Found, MountFault> {
+    let Some(btree) = volume.btrees.get(COUNTERS as usize) else {
+        return Err(MountFault::NoMemory);
+    };
+    let ends = btree.ends.as_slice();
+    Ok(Found {
+        session: volume.session,
+        needed: numbers_of(volume.needed.as_slice()),
+        counters: counters_read(btree, offsets),
+        ends: [end_at(ends, 0), end_at(ends, 1), end_at(ends, 2)],
+        ragged: ragged_in(volume),
+    })
 }
 
 // What is read on devices, with the counters at these offsets.
 fn read(alloc: Global, devices: &mut MemDevices, offsets: &[u64; 5]) -> Result<Found, MountFault> {
-    let volume = read_plain(alloc, devices)?;
-    let Some(btree) = volume.btrees.get(COUNTERS as usize) else {
-        return Err(MountFault::NoMemory);
-    };
-    Ok(Found {
-        session: volume.session,
-        needed: [0, 1, 2].map(|at| number_at(volume.needed.as_slice(), at)),
-        counters: offsets.map(|offset| counter_read(btree, offset)),
-        ends: [0, 1, 2].map(|at| end_at(btree.ends.as_slice(), at)),
-        ragged: ragged_in(&volume),
-    })
+    match read_plain(alloc, devices) {
+        Err(fault) => Err(fault),
+        Ok(volume) => {
+            let found = found_in(&volume, offsets);
+            drop(volume);
+            found
+        }
+    }
 }
 
-// What is loaded from devices, with the counters at these offsets. The ends are those of all btrees, and each before Counters has
-// one node.
+// What is found in a volume that was loaded. The ends are those of all btrees, and each before Counters has one node.
+fn loaded_in(volume: &Loaded, offsets: &[u64; 5]) -> Found {
+    let ends = volume.ends.as_slice();
+    Found {
+        session: volume.session,
+        needed: numbers_of(volume.needed.as_slice()),
+        counters: counters_loaded(volume, offsets),
+        ends: [end_at(ends, 8), end_at(ends, 9), end_at(ends, 10)],
+        ragged: volume.ragged.len(),
+    }
+}
+
+// What is loaded from devices, with the counters at these offsets.
 fn loaded(
     alloc: Global,
     devices: &mut MemDevices,
     offsets: &[u64; 5],
 ) -> Result<Found, MountFault> {
-    let volume = load(alloc, devices)?;
-    Ok(Found {
-        session: volume.session,
-        needed: [0, 1, 2].map(|at| number_at(volume.needed.as_slice(), at)),
-        counters: offsets.map(|offset| counter_loaded(&volume, offset)),
-        ends: [8, 9, 10].map(|at| end_at(volume.ends.as_slice(), at)),
-        ragged: volume.ragged.len(),
-    })
+    match load(alloc, devices) {
+        Err(fault) => Err(fault),
+        Ok(volume) => {
+            let found = loaded_in(&volume, offsets);
+            drop(volume);
+            Ok(found)
+        }
+    }
 }
 
-/// What is found on devices, with the counters at these offsets.
-pub fn find(alloc: Global, devices: &mut MemDevices, offsets: &[u64; 5]) -> Both {
-    let read = read(alloc, devices, offsets);
-    let loaded = loaded(alloc, devices, offsets);
-    (read, loaded)
+/// Whether this is found on devices, with the counters at these offsets, both where the volume is read and where it is loaded.
+pub fn is_found(
+    alloc: Global,
+    devices: &mut MemDevices,
+    offsets: &[u64; 5],
+    wanted: &Result<Found, MountFault>,
+) -> bool {
+    read(alloc, devices, offsets) == *wanted && loaded(alloc, devices, offsets) == *wanted
 }

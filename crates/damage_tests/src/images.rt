@@ -4,6 +4,7 @@
 ghost use Rattle.std.specs.Prelude.{◌≡◌, ◌↔◌, All, IfOk, IsSome, IsTrue};
 ghost use Rattle.record_codec.specs.Entries.{IsEntryInRange};
 
+use crate::blocks::{block_of, put};
 use crate::bytes::{COUNTERS, EntryOf, SetOf, entry_payload, set_payload};
 use dev_model::{Devices, MemDevices};
 use geometry::{is_layout_of, session_bytes, write_super};
@@ -30,15 +31,6 @@ pub fn layout_of(alloc: Global, devices: u8) -> Result<Layout, AllocError>
         metadata_replicas: devices,
         data_replicas: 1,
     })
-}
-
-/// Writes a block of a device.
-pub fn put(devices: &mut MemDevices, dev: u8, block: u32, bytes: &[u8]) -> Result<(), Fail> {
-    if dev >= devices.count() || block >= devices.blocks(dev) || bytes.len() != 4096 {
-        return Err(Fail::from("there is no such block"));
-    }
-    devices.write(dev, block, bytes)?;
-    Ok(())
 }
 
 // Writes a block of each device.
@@ -187,11 +179,7 @@ fn copy_block(
     devices: &mut MemDevices,
     dev: u8,
 ) -> Result<(), Fail> {
-    if from.count() == 0 || block >= from.blocks(0) {
-        return Err(Fail::from("there is no such block"));
-    }
-    let mut bytes = vec![in alloc; 0; 4096]?;
-    from.read(0, block, &mut bytes)?;
+    let bytes = block_of(alloc, from, 0, block)?;
     put(devices, dev, block, &bytes)
 }
 
@@ -255,6 +243,7 @@ pub const FIRST: EntryOf<'static> = EntryOf {
     session: 1,
     commits: 0,
     level: 0,
+    is_long: false,
     updates: &[],
 };
 
@@ -283,12 +272,8 @@ pub fn formatted(alloc: Global, devices: u8) -> Result<MemDevices, Fail> {
 // The bytes of all blocks of the first device.
 fn image_of(alloc: Global, devices: &mut MemDevices) -> Result<Vec<u8>, Fail> {
     let mut image = Vec::new(alloc);
-    let mut bytes = vec![in alloc; 0; 4096]?;
     for block in 0..1024 {
-        if devices.count() == 0 || block >= devices.blocks(0) || bytes.len() != 4096 {
-            return Err(Fail::from("there is no such block"));
-        }
-        devices.read(0, block, &mut bytes)?;
+        let bytes = block_of(alloc, devices, 0, block)?;
         image.extend_from_slice(&bytes)?;
     }
     Ok(image)

@@ -1,10 +1,15 @@
 //! Images of volumes that are made by hand, block by block, and what `read_plain` and `load` find in them or refuse: entries that are
-//! torn, that stand on one mirror alone or that wrap around the ring, and nodes of one and of two levels. And lists of what is found, of
-//! which some are no key map. The crate holds tests alone.
+//! torn, that stand on one mirror alone or that wrap around the ring, nodes of one and of two levels, and 300 images of which random blocks
+//! are spoiled. Lists of what is found, of which some are no key map. And what a format writes, in its steps, and what a crash between
+//! them leaves. The crate holds tests alone.
 #![tactic(auto)]
 
 #[cfg(test)]
+mod blocks;
+#[cfg(test)]
 mod bytes;
+#[cfg(test)]
+mod formats;
 #[cfg(test)]
 mod found;
 #[cfg(test)]
@@ -15,5 +20,13 @@ mod journals;
 mod key_maps;
 #[cfg(test)]
 mod losses;
+#[cfg(test)]
+mod outcomes;
+#[cfg(test)]
+mod spoiled;
+#[cfg(test)]
+mod spoiling;
+#[cfg(test)]
+mod tables;
 #[cfg(test)]
 mod trees;
