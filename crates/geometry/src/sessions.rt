@@ -56,8 +56,8 @@ pub fn session_bytes(id: &[u8; 16], session: u64, into: &mut [u8])
     sealed_blocks_open();
 }
 
-// The block that names a session.
-fn sealed_session(alloc: Global, id: &[u8; 16], session: u64) -> Result<Bytes, AllocError>
+/// The block that names a session of the volume with this id. It takes memory for the block.
+pub fn sealed_session(alloc: Global, id: &[u8; 16], session: u64) -> Result<Bytes, AllocError>
     ensures bytes { IfOk result (λ bytes. bytes ≡ session_block id.now session) }
     ensures named { IfOk result (λ bytes. session_named id.now (session_place session) bytes ≡ Some
         session) }
