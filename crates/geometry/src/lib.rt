@@ -19,5 +19,7 @@ pub use laws::{layouts_have_places, layouts_stay, sessions_stay, written_layouts
 pub use layouts::{have_room, is_layout_of};
 pub use mirrors::{flush_device, flush_devices, settle_mirrors, write_device, write_mirrors};
 pub use reading::read_block;
-pub use sessions::{read_session, session_bytes, session_named, session_place, write_session};
+pub use sessions::{
+    read_session, sealed_session, session_bytes, session_named, session_place, write_session,
+};
 pub use superblocks::{read_super, write_super};

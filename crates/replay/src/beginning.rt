@@ -12,10 +12,10 @@ ghost use Rattle.image_view.specs.Found.{Found, with_session};
 ghost use Rattle.replay.specs.Beginning.{IsFoundOn, MeansTheSame, failed_begin_device};
 
 use dev_model::Devices;
-use geometry::{DiskFault, session_bytes, session_place, settle_mirrors};
+use geometry::{DiskFault, sealed_session, session_place, settle_mirrors};
 use image_view::sessions_change_nothing_else;
-use std::alloc::{AllocError, AllocFailed, Global};
-use vol_types::{BLOCK_SIZE, Bytes, Layout};
+use std::alloc::Global;
+use vol_types::Layout;
 
 /// The greatest number of a session. After it none is left.
 const LAST_SESSION: u64 = 4_294_967_295;
@@ -43,18 +43,6 @@ impl From<DiskFault> for BeginFault {
             DiskFault::NoMemory => BeginFault::NoMemory,
         }
     }
-}
-
-// The block that names a session.
-fn sealed_session(alloc: Global, id: &[u8; 16], session: u64) -> Result<Bytes, AllocError>
-    ensures bytes { IfOk result (λ bytes. bytes ≡ session_block id.now session) }
-    ensures named { IfOk result (λ bytes. session_named id.now (session_place session) bytes
-        ≡ Some session) }
-    ensures size { IfOk result (λ bytes. length bytes ≡ 4096) }
-{
-    let mut bytes = vec![in alloc; 0; BLOCK_SIZE]?;
-    session_bytes(id, session, &mut bytes);
-    Ok(Bytes::from(bytes))
 }
 
 // Seals a session in its block on every metadata device, and flushes these.

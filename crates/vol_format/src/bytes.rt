@@ -22,6 +22,13 @@ pub(crate) fn zero_block(alloc: Global) -> Result<Bytes, AllocError>
     Ok(Bytes::from(vec![in alloc; 0; 4096]?))
 }
 
+// A block to be written over.
+fn blank_block(alloc: Global) -> Result<Vec<u8>, AllocError>
+    ensures { IfOk result (λ bytes. length bytes.items ≡ 4096) }
+{
+    vec![in alloc; 0; 4096]
+}
+
 /// The block that names session 1 of the volume.
 pub(crate) fn first_session(alloc: Global, layout: &Layout) -> Result<Bytes, AllocError>
     ensures bytes { IfOk result (λ bytes. bytes ≡ session_block layout.now.id 1) }
@@ -29,7 +36,7 @@ pub(crate) fn first_session(alloc: Global, layout: &Layout) -> Result<Bytes, All
         (session_block layout.now.id 1) ≡ Some 1) }
     ensures size { IfOk result (λ bytes. length bytes ≡ 4096) }
 {
-    let mut bytes = vec![in alloc; 0; 4096]?;
+    let mut bytes = blank_block(alloc)?;
     session_bytes(&layout.id, 1, &mut bytes);
     Ok(Bytes::from(bytes))
 }
@@ -43,7 +50,7 @@ fn super_bytes(alloc: Global, layout: &Layout, dev: u8, block: u32) -> Result<By
         (super_copy layout.now dev block 1)) }
     ensures size { IfOk result (λ bytes. length bytes ≡ 4096) }
 {
-    let mut bytes = vec![in alloc; 0; 4096]?;
+    let mut bytes = blank_block(alloc)?;
     write_super(layout, dev, block, 1, &mut bytes);
     Ok(Bytes::from(bytes))
 }
