@@ -86,12 +86,7 @@ impl Actor {
     }
 
     /// Notes a look. An `Err` changes nothing.
-    pub fn look(
-        &mut self,
-        alloc: Global,
-        query: &Query,
-        answer: &Keys,
-    ) -> Result<(), AllocError>
+    pub fn look(&mut self, alloc: Global, query: &Query, answer: &Keys) -> Result<(), AllocError>
         ensures ok { OnOk result (self.new ≡ with_look query.now answer.now self.old) }
         ensures err { OnErr result (self.new ≡ self.old) }
     {

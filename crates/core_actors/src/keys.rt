@@ -91,11 +91,7 @@ impl VolumeKeys {
 impl VolumeKeys {
     /// Exchanges the pointers of changes for those of their nodes, all or none: each change gets the one that its node had. The keys stay. An
     /// `Err` is out of memory, and changes nothing.
-    pub fn exchange(
-        &mut self,
-        alloc: Global,
-        changes: &mut [Exchange],
-    ) -> Result<(), AllocError>
+    pub fn exchange(&mut self, alloc: Global, changes: &mut [Exchange]) -> Result<(), AllocError>
         requires { AreExchanges self.old.nodes changes.old }
         ensures ok { OnOk result (self.new ≡ with_exchanged changes.old self.old) }
         ensures before { OnOk result (AreBefore self.old.nodes changes.old changes.new) }

@@ -11,11 +11,11 @@ use Rattle.core_volume.specs.Commits.{AreIntended}
 use Rattle.core_volume.specs.Rulings.{IsRefused}
 use Rattle.core_state.specs.States.{IsActor, IsState, State, actor_count, mine, other_holder, with_mine}
 use Rattle.core_state.specs.Events.{CommitGives, intended_by}
-use Rattle.core_volume.specs.Uncommitted.{IsWhy}
-use Rattle.core_state.specs.Events.{answer_of_why, noted_why}
+use Rattle.core_volume.specs.Uncommitted.{IsCommitFault}
+use Rattle.core_state.specs.Events.{answer_of_fault, noted_fault}
 use Rattle.core_actors.specs.declared.answer.Answer.{Answer}
-use Rattle.core_volume.specs.declared.commit.Why.{Why}
-use Rattle.core_volume.specs.declared.commit.Why.TheVariants.{NoMemory, Refused}
+use Rattle.core_volume.specs.declared.commit.VolumeFault.{VolumeFault}
+use Rattle.core_volume.specs.declared.commit.VolumeFault.TheVariants.{NoMemory, Refused}
 use Rattle.core_volume.specs.Volumes.{IsVolume, Volume}
 use Rattle.core_actors.specs.declared.actor.Actor.{Actor}
 use Rattle.core_state.proofs.Kept.{free-no_looks, holder-given_back, no_looks-given}
@@ -100,25 +100,25 @@ module _ (volume : Volume) (actors : List Actor) (turn : Option ℕ) (is : IsSta
       get_or_default actors actor idle_actor mine_now (subst (λ (n : ℕ). actor < n) (sym is.count) there) ∙ ap (λ (n : ℕ). slice_index_or actors n mine_now) (sym at) ∙ sym value
 
   -- Updates that weren't committed are given back, and why is noted.
-  pub refused-gives : (counted : Bool) (why : Why) → IsWhy volume updates counted why → (new : Volume) → new ≡ volume → (back : List Update) → back ≡ updates
-      → (after : Actor) → after ≡ noted_why why (record mine_now { intended = Some back }) → (answer : Answer) → answer ≡ answer_of_why why
+  pub refused-gives : (counted : Bool) (why : VolumeFault) → IsCommitFault volume updates counted why → (new : Volume) → new ≡ volume → (back : List Update) → back ≡ updates
+      → (after : Actor) → after ≡ noted_fault why (record mine_now { intended = Some back }) → (answer : Answer) → answer ≡ answer_of_fault why
       → CommitGives (record { volume = volume; actors = actors; turn = turn }) actor counted answer (record { volume = new; actors = slice_set actors index after; turn = turn })
   refused-gives counted why cause new same back kept after noted answer answered =
       subst (λ (a : Answer). CommitGives (record { volume = volume; actors = actors; turn = turn }) actor counted a (record { volume = new; actors = slice_set actors index after; turn = turn })) (sym answered)
-      (subst (λ (s : State). CommitGives (record { volume = volume; actors = actors; turn = turn }) actor counted (answer_of_why why) s) (sym new_is) (by why cause))
+      (subst (λ (s : State). CommitGives (record { volume = volume; actors = actors; turn = turn }) actor counted (answer_of_fault why) s) (sym new_is) (by why cause))
     where
       mine_back : record mine_now { intended = Some back } ≡ mine (record { volume = volume; actors = actors; turn = turn }) actor
       mine_back =
           ap (λ (us : List Update). record mine_now { intended = Some us }) kept ∙ ap (λ (o : Option (List Update)). record mine_now { intended = o }) (sym intends) ∙ sym mine_was
 
       new_is : record { volume = new; actors = slice_set actors index after; turn = turn }
-          ≡ with_mine actor (noted_why why (mine (record { volume = volume; actors = actors; turn = turn }) actor)) (record { volume = volume; actors = actors; turn = turn })
-      new_is = λ i. record { volume = same i; actors = slice_set actors (at i) ((noted ∙ ap (noted_why why) mine_back) i); turn = turn }
+          ≡ with_mine actor (noted_fault why (mine (record { volume = volume; actors = actors; turn = turn }) actor)) (record { volume = volume; actors = actors; turn = turn })
+      new_is = λ i. record { volume = same i; actors = slice_set actors (at i) ((noted ∙ ap (noted_fault why) mine_back) i); turn = turn }
 
       intends_old : intended_by (record { volume = volume; actors = actors; turn = turn }) actor ≡ updates
       intends_old = ap (λ (a : Actor). unwrap_or a.intended []) mine_was ∙ ap (λ (o : Option (List Update)). unwrap_or o []) intends
 
-      by : (w : Why) → IsWhy volume updates counted w
-          → CommitGives (record { volume = volume; actors = actors; turn = turn }) actor counted (answer_of_why w) (with_mine actor (noted_why w (mine (record { volume = volume; actors = actors; turn = turn }) actor)) (record { volume = volume; actors = actors; turn = turn }))
+      by : (w : VolumeFault) → IsCommitFault volume updates counted w
+          → CommitGives (record { volume = volume; actors = actors; turn = turn }) actor counted (answer_of_fault w) (with_mine actor (noted_fault w (mine (record { volume = volume; actors = actors; turn = turn }) actor)) (record { volume = volume; actors = actors; turn = turn }))
       by (Refused refusal) why_is = (subst (λ (us : List Update). IsRefused volume us counted refusal) (sym intends_old) why_is, refl)
       by NoMemory why_is = λ i. record { volume = volume; actors = set-get_or actors actor idle_actor i; turn = turn }

@@ -13,9 +13,9 @@ use Rattle.vol_types.specs.declared.queries.Query.{Query}
 use Rattle.vol_types.specs.declared.queries.Look.{Look}
 use Rattle.core_actors.specs.Actors.{begun, dropped, ended, holds, idle_actor, told_of, with_fault, with_intent, with_look}
 use Rattle.core_volume.specs.Commits.{AreIntended}
-use Rattle.core_state.specs.Events.{noted_why}
-use Rattle.core_volume.specs.declared.commit.Why.{Why}
-use Rattle.core_volume.specs.declared.commit.Why.TheVariants.{NoMemory, Refused}
+use Rattle.core_state.specs.Events.{noted_fault}
+use Rattle.core_volume.specs.declared.commit.VolumeFault.{VolumeFault}
+use Rattle.core_volume.specs.declared.commit.VolumeFault.TheVariants.{NoMemory, Refused}
 use Rattle.journal_writer.specs.declared.stage.Stage.{Stage}
 use Rattle.core_state.specs.States.{IsActor, IsState, State, actor_count, mine, other_holder}
 use Rattle.core_volume.specs.Volumes.{IsVolume, Volume, first_halt, halted_at}
@@ -111,7 +111,7 @@ module _ (volume : Volume) (turn : Option ℕ) (number : ℕ) (actor : Actor) (i
   pub told-kept : (stage : Stage) (durable : Bool) → IsActor volume turn number (told_of stage durable actor)
   told-kept stage durable = record { has_turn = is.has_turn; looks = is.looks; intended = is.intended }
 
-  pub noted-kept : (why : Why) → IsActor volume turn number (noted_why why actor)
+  pub noted-kept : (why : VolumeFault) → IsActor volume turn number (noted_fault why actor)
   noted-kept (Refused refusal) = record { has_turn = is.has_turn; looks = is.looks; intended = is.intended }
   noted-kept NoMemory = is
 

@@ -23,8 +23,8 @@ use Rattle.core_state.specs.Events.{CommitNodesGives, FreezeGives, IsNoted, IsTo
 use Rattle.core_state.specs.States.{IsState, State, mine, with_mine}
 use Rattle.core_actors.specs.declared.answer.Answer.{Answer}
 use Rattle.core_actors.specs.declared.answer.Answer.TheVariants as answers
-use Rattle.core_volume.specs.declared.commit.Why.{Why}
-use Rattle.core_volume.specs.declared.commit.Why.TheVariants as whys
+use Rattle.core_volume.specs.declared.commit.VolumeFault.{VolumeFault}
+use Rattle.core_volume.specs.declared.commit.VolumeFault.TheVariants as volume_faults
 use Rattle.core_volume.specs.Volumes.{IsVolume, Volume, birth_due, node_stage_by, node_stage_of}
 use Rattle.core_actors.specs.declared.answer.Refusal.{Refusal}
 use Rattle.core_actors.specs.declared.answer.Refusal.TheVariants as refusals
@@ -68,7 +68,7 @@ pub commit_nodes-told : (old new : State) (actor : ℕ) (answer : Answer) → Is
 commit_nodes-told old new actor answer other told = subst (λ (a : Answer). CommitNodesGives old actor a new) (sym told.0) (other, (refl, told.1))
 
 -- Why a leaf wasn't frozen is noted.
-pub freeze-noted : (node : ℕ) (seen old : State) (volume : Volume) (actor : ℕ) (refusal : Refusal) (answer : Answer) (new : State) → old ≡ seen → IsUnfrozen node old.volume volume (whys.Refused refusal) → answer ≡ answers.Refused refusal
+pub freeze-noted : (node : ℕ) (seen old : State) (volume : Volume) (actor : ℕ) (refusal : Refusal) (answer : Answer) (new : State) → old ≡ seen → IsUnfrozen node old.volume volume (volume_faults.Refused refusal) → answer ≡ answers.Refused refusal
     → IsNoted refusal (record { volume = volume; actors = old.actors; turn = old.turn }) actor new → FreezeGives node seen actor answer new
 freeze-noted node seen old volume actor refusal answer new same unfrozen answered noted =
     subst (λ (s : State). FreezeGives node s actor answer new) same
@@ -76,10 +76,10 @@ freeze-noted node seen old volume actor refusal answer new same unfrozen answere
     (unfrozen.0, noted ∙ (λ i. with_mine actor (noted_by refusal (mine old actor)) (record { volume = unfrozen.1 i; actors = old.actors; turn = old.turn }))))
 
 -- What a refusal makes of a volume keeps what is kept of actors.
-pub refused-kept : (node : ℕ) (old : State) → IsState old → (volume : Volume) → IsVolume volume → (why : Why) (refusal : Refusal) → why ≡ whys.Refused refusal → IsUnfrozen node old.volume volume why
+pub refused-kept : (node : ℕ) (old : State) → IsState old → (volume : Volume) → IsVolume volume → (why : VolumeFault) (refusal : Refusal) → why ≡ volume_faults.Refused refusal → IsUnfrozen node old.volume volume why
     → IsState (record { volume = volume; actors = old.actors; turn = old.turn })
 refused-kept node old is volume sound why refusal refused unfrozen =
-    let so : IsUnfrozen node old.volume volume (whys.Refused refusal) = subst (IsUnfrozen node old.volume volume) refused unfrozen in
+    let so : IsUnfrozen node old.volume volume (volume_faults.Refused refusal) = subst (IsUnfrozen node old.volume volume) refused unfrozen in
     nodes-kept old is volume sound (ap (λ (v : Volume). keys_in v.trees) so.1 ∙ refused-keys refusal old.volume) (ap (λ (v : Volume). v.layout) so.1 ∙ refused-layout refusal old.volume)
 
 -- Blocks are left of a node whose next block is to be written.

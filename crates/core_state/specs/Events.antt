@@ -25,8 +25,8 @@ use Rattle.core_actors.specs.declared.event.Event.{Event}
 use Rattle.core_actors.specs.declared.event.Event.TheVariants as events
 use Rattle.core_actors.specs.declared.event.Work.{Work}
 use Rattle.core_actors.specs.declared.event.Work.TheVariants as works
-use Rattle.core_volume.specs.declared.commit.Why.{Why}
-use Rattle.core_volume.specs.declared.commit.Why.TheVariants as whys
+use Rattle.core_volume.specs.declared.commit.VolumeFault.{VolumeFault}
+use Rattle.core_volume.specs.declared.commit.VolumeFault.TheVariants as volume_faults
 
 -- An actor begins a transaction where it has none under way: the first one of an operation, or a further one of the operation that it has.
 pub record MayBegin (first : Bool) (actor : Actor) : Type 0 where
@@ -87,14 +87,14 @@ abbrev pub intended_by : State → ℕ → List Update
 intended_by state actor = unwrap_or (mine state actor).intended []
 
 -- an actor whose updates weren't committed
-abbrev pub noted_why : Why → Actor → Actor
-noted_why (whys.Refused refusal) actor = noted refusal actor
-noted_why whys.NoMemory actor = actor
+abbrev pub noted_fault : VolumeFault → Actor → Actor
+noted_fault (volume_faults.Refused refusal) actor = noted refusal actor
+noted_fault volume_faults.NoMemory actor = actor
 
 -- what is answered then
-abbrev pub answer_of_why : Why → Answer
-answer_of_why (whys.Refused refusal) = Refused refusal
-answer_of_why whys.NoMemory = NoMemory
+abbrev pub answer_of_fault : VolumeFault → Answer
+answer_of_fault (volume_faults.Refused refusal) = Refused refusal
+answer_of_fault volume_faults.NoMemory = NoMemory
 
 -- The updates that an actor intends are made, all of them: nothing refuses that.
 pub record IsMade (old : State) (actor : ℕ) (counted : Bool) (new : State) : Type 0 where

@@ -3,12 +3,12 @@ ghost use Rattle.btree_map.specs.Trees.{IsTrees};
 ghost use Rattle.core_state.specs.Events.{CommitGives, CommitNodesGives, EventGives, Fits, FitsActor, FreezeGives, IsNoted, IsOfMemory, IsTold, IsToldNodes, IsToldOf, MayBegin, SealGives, SettleGives, failed_by};
 ghost use Rattle.core_state.specs.States.{IsState, actor_count, mine, other_holder, with_halt};
 ghost use Rattle.core_volume.specs.Volumes.{KeepParts};
-ghost use Rattle.core_state.specs.Events.{answer_of_why, noted_why};
+ghost use Rattle.core_state.specs.Events.{answer_of_fault, noted_fault};
 ghost use Rattle.core_actors.specs.declared.event.Event.TheVariants.{Begin, Commit, CommitNodes, Drop, Finish, Freeze, Intend, Look, LookIds, Seal, Settle};
 ghost use Rattle.core_actors.specs.declared.answer.Answer.TheVariants as Answer;
 
 use core_actors::{Actor, Answer, Event, Halt, Refusal, Work};
-use core_volume::{Uncommitted, Volume, Why};
+use core_volume::{Uncommitted, Volume, VolumeFault};
 use journal_writer::Stage;
 use std::alloc::Global;
 use std::marker::Model;
@@ -277,8 +277,8 @@ impl Memory {
         }
         match self.volume.seal(self.alloc) {
             Ok(()) => Answer::Done,
-            Err(Why::NoMemory) => Answer::NoMemory,
-            Err(Why::Refused(refusal)) => self.refused(actor, refusal),
+            Err(VolumeFault::NoMemory) => Answer::NoMemory,
+            Err(VolumeFault::Refused(refusal)) => self.refused(actor, refusal),
         }
     }
 
@@ -308,8 +308,8 @@ impl Memory {
         }
         match self.volume.freeze(self.alloc, node) {
             Ok(()) => Answer::Done,
-            Err(Why::NoMemory) => Answer::NoMemory,
-            Err(Why::Refused(refusal)) => self.refused(actor, refusal),
+            Err(VolumeFault::NoMemory) => Answer::NoMemory,
+            Err(VolumeFault::Refused(refusal)) => self.refused(actor, refusal),
         }
     }
 
@@ -325,8 +325,8 @@ impl Memory {
         }
         match self.volume.commit_nodes(self.alloc) {
             Ok(()) => Answer::Done,
-            Err(Why::NoMemory) => Answer::NoMemory,
-            Err(Why::Refused(refusal)) => self.refused(actor, refusal),
+            Err(VolumeFault::NoMemory) => Answer::NoMemory,
+            Err(VolumeFault::Refused(refusal)) => self.refused(actor, refusal),
         }
     }
 
@@ -379,13 +379,13 @@ fn other_holder(actor: u8, turn: Option<u8>) -> Option<u8>
 }
 
 // Notes why updates weren't committed, and answers so.
-fn refuse(mine: &mut Actor, why: Why) -> Answer
-    ensures noted { mine.new ≡ noted_why why mine.old }
-    ensures answer { result ≡ answer_of_why why }
+fn refuse(mine: &mut Actor, why: VolumeFault) -> Answer
+    ensures noted { mine.new ≡ noted_fault why mine.old }
+    ensures answer { result ≡ answer_of_fault why }
 {
     match why {
-        Why::NoMemory => Answer::NoMemory,
-        Why::Refused(refusal) => {
+        VolumeFault::NoMemory => Answer::NoMemory,
+        VolumeFault::Refused(refusal) => {
             mine.note(&refusal);
             Answer::Refused(refusal)
         }

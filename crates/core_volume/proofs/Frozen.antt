@@ -53,8 +53,8 @@ use Rattle.vol_types.specs.declared.pointers.Place.{Place}
 use Rattle.vol_types.specs.declared.positions.Btree.{Btree}
 use Rattle.core_volume.specs.Checkpoints.{IsNodeStage, IsSpaceless, IsUnfrozen, due_in, durable_in, given_up, with_block}
 use Rattle.core_actors.specs.declared.answer.Refusal.TheVariants as refusals
-use Rattle.core_volume.specs.declared.commit.Why.{Why}
-use Rattle.core_volume.specs.declared.commit.Why.TheVariants as whys
+use Rattle.core_volume.specs.declared.commit.VolumeFault.{VolumeFault}
+use Rattle.core_volume.specs.declared.commit.VolumeFault.TheVariants as volume_faults
 use Rattle.core_volume.specs.Sealing.{with_writer}
 use Rattle.core_volume.specs.Volumes.{IsFrozenKept, IsNotNewer, IsPinnedBy, IsVolume, Volume, birth_due, changes_in, in_flight, last_sealed, node_stage_by, node_stage_of, undurable_in}
 
@@ -387,19 +387,19 @@ given_up-kept old is none emptied_fixed settled_fixed =
 -- Where there is no free bucket, the leaf isn't frozen, and the work on nodes has ended.
 pub unfrozen-spaceless : (node : ℕ) (old before new : Volume) (btree : Btree) → IsNodeStage (Freeze node) old → due_in old ≡ Some btree → before ≡ old
     → (cause : FreezeFault) → cause ≡ NoSpace → IsFreezeFault old.session old.work.born node old.layout.metadata_replicas old.trees.nodes (durable_in old btree) old.space cause
-    → (why : Why) → IsSpaceless before new why → IsUnfrozen node old new why
+    → (why : VolumeFault) → IsSpaceless before new why → IsUnfrozen node old new why
 unfrozen-spaceless node old before new btree stage due same cause cause_is found why is = by why (subst (λ (v : Volume). IsSpaceless v new why) same is)
   where
     fault : HasBirth old.session old.work.born old.trees.nodes × (size_of (durable_in old btree) ≤ node_limit) × (have_free old.layout.metadata_replicas old.space ≡ false)
     fault = subst (IsFreezeFault old.session old.work.born node old.layout.metadata_replicas old.trees.nodes (durable_in old btree) old.space) cause_is found
 
-    by : (w : Why) → IsSpaceless old new w → IsUnfrozen node old new w
-    by (whys.Refused (refusals.NoSpace none)) said = ((stage, fault.0, btree, due, fault.1, fault.2, said.0), said.1)
-    by (whys.Refused (refusals.Halted halt)) said = absurd said
-    by (whys.Refused refusals.Spent) said = absurd said
-    by (whys.Refused (refusals.NeedSplit need)) said = absurd said
-    by (whys.Refused (refusals.RingFull full)) said = absurd said
-    by whys.NoMemory said = said
+    by : (w : VolumeFault) → IsSpaceless old new w → IsUnfrozen node old new w
+    by (volume_faults.Refused (refusals.NoSpace none)) said = ((stage, fault.0, btree, due, fault.1, fault.2, said.0), said.1)
+    by (volume_faults.Refused (refusals.Halted halt)) said = absurd said
+    by (volume_faults.Refused refusals.Spent) said = absurd said
+    by (volume_faults.Refused (refusals.NeedSplit need)) said = absurd said
+    by (volume_faults.Refused (refusals.RingFull full)) said = absurd said
+    by volume_faults.NoMemory said = said
 
 -- The devices have the buckets in which nodes may lie.
 pub buckets_there : (sizes : List ℕ) (layout : Layout) → is_layout_of sizes layout ≡ true → (places : List Place) → All (MayHoldNode layout) places → HaveBuckets sizes places

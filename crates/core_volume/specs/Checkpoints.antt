@@ -23,8 +23,8 @@ use Rattle.core_volume.specs.Rulings.{no_space}
 use Rattle.core_volume.specs.Volumes.{Volume, in_flight, is_exhausted, node_stage_of, undurable_in}
 use Rattle.core_actors.specs.declared.answer.Refusal.{Refusal}
 use Rattle.core_actors.specs.declared.answer.Refusal.TheVariants as refusals
-use Rattle.core_volume.specs.declared.commit.Why.{Why}
-use Rattle.core_volume.specs.declared.commit.Why.TheVariants as whys
+use Rattle.core_volume.specs.declared.commit.VolumeFault.{VolumeFault}
+use Rattle.core_volume.specs.declared.commit.VolumeFault.TheVariants as volume_faults
 
 -- The session writes, and this is the stage of the nodes.
 pub record IsNodeStage (stage : Stage) (volume : Volume) : Type 0 where
@@ -85,15 +85,15 @@ after_refused (refusals.NoSpace none) volume = given_up volume
 after_refused other volume = volume
 
 -- The leaf wasn't frozen for this cause, and the volume is so then; want of memory has no cause, and changes nothing.
-abbrev pub IsUnfrozen : ℕ → Volume → Volume → Why → Type 0
-IsUnfrozen node old new (whys.Refused refusal) = IsFreezeRefused node old refusal × (new ≡ after_refused refusal old)
-IsUnfrozen node old new whys.NoMemory = new ≡ old
+abbrev pub IsUnfrozen : ℕ → Volume → Volume → VolumeFault → Type 0
+IsUnfrozen node old new (volume_faults.Refused refusal) = IsFreezeRefused node old refusal × (new ≡ after_refused refusal old)
+IsUnfrozen node old new volume_faults.NoMemory = new ≡ old
 
 -- It is said that there is no space, and the work on nodes has ended; or there was no memory, and nothing has changed.
-abbrev pub IsSpaceless : Volume → Volume → Why → Type 0
-IsSpaceless old new (whys.Refused (refusals.NoSpace none)) = (none ≡ no_space (is_exhausted old) old) × (new ≡ given_up old)
-IsSpaceless old new (whys.Refused other) = ⊥
-IsSpaceless old new whys.NoMemory = new ≡ old
+abbrev pub IsSpaceless : Volume → Volume → VolumeFault → Type 0
+IsSpaceless old new (volume_faults.Refused (refusals.NoSpace none)) = (none ≡ no_space (is_exhausted old) old) × (new ≡ given_up old)
+IsSpaceless old new (volume_faults.Refused other) = ⊥
+IsSpaceless old new volume_faults.NoMemory = new ≡ old
 
 -- a volume with one more block of the unfinished node written
 abbrev pub with_block : Volume → Volume
@@ -129,6 +129,6 @@ IsPlacingRefused volume refusals.Spent = IsNodeStage stages.CommitNodes volume �
 IsPlacingRefused volume other = ⊥
 
 -- The leaves weren't put in place for this cause; want of memory has none.
-abbrev pub IsUnplaced : Volume → Why → Type 0
-IsUnplaced volume (whys.Refused refusal) = IsPlacingRefused volume refusal
-IsUnplaced volume whys.NoMemory = ⊤
+abbrev pub IsUnplaced : Volume → VolumeFault → Type 0
+IsUnplaced volume (volume_faults.Refused refusal) = IsPlacingRefused volume refusal
+IsUnplaced volume volume_faults.NoMemory = ⊤

@@ -10,7 +10,7 @@ ghost use Rattle.node_store.specs.Writes.{NamesDeviceOf};
 ghost use Rattle.node_writeback.specs.Freezing.{IsFreezeFault};
 ghost use Rattle.node_writeback.specs.NodeWrites.{WritesNodePart};
 
-use crate::commit::Why;
+use crate::commit::VolumeFault;
 use crate::space::no_space;
 use crate::volume::{Volume, in_flight};
 use bucket_pool::nodes_keep_their_buckets;
@@ -67,7 +67,7 @@ impl Volume {
     /// Freezes the leaf of this birth. It goes over the updates that aren't durable, and takes memory for a copy of the leaf and its bytes. An
     /// `Err` says that no birth is left, that the leaf is too large, that a metadata device has no free bucket, which ends the work on nodes, or
     /// that there is no memory. But for the third it changes nothing.
-    pub fn freeze(&mut self, alloc: Global, node: u64) -> Result<(), Why>
+    pub fn freeze(&mut self, alloc: Global, node: u64) -> Result<(), VolumeFault>
         requires { IsNodeStage (Freeze node) self.old }
         ensures frozen { OnOk result (IsLeafFrozen node self.old self.new) }
         ensures sound { IsVolume self.new }
@@ -78,9 +78,11 @@ impl Volume {
         };
         match self.freeze_leaf(alloc, node, btree) {
             Ok(()) => Ok(()),
-            Err(FreezeFault::Spent) => Err(Why::Refused(Refusal::Spent)),
-            Err(FreezeFault::NeedSplit(need)) => Err(Why::Refused(Refusal::NeedSplit(need))),
-            Err(FreezeFault::NoMemory) => Err(Why::NoMemory),
+            Err(FreezeFault::Spent) => Err(VolumeFault::Refused(Refusal::Spent)),
+            Err(FreezeFault::NeedSplit(need)) => Err(VolumeFault::Refused(Refusal::NeedSplit(
+                need,
+            ))),
+            Err(FreezeFault::NoMemory) => Err(VolumeFault::NoMemory),
             Err(FreezeFault::NoSpace) => Err(self.end_without_space(alloc)),
         }
     }
@@ -123,7 +125,7 @@ impl Volume {
     }
 
     // Ends the work on nodes, since a metadata device has no free bucket, and says so.
-    fn end_without_space(&mut self, alloc: Global) -> Why
+    fn end_without_space(&mut self, alloc: Global) -> VolumeFault
         requires { self.old.work.unfinished ≡ None }
         ensures sound { IsVolume self.new }
         ensures why { IsSpaceless self.old self.new result }
@@ -131,7 +133,7 @@ impl Volume {
         frozen_leaves_are_kept();
         nodes_keep_their_buckets();
         let Ok(none) = no_space(alloc, self.is_exhausted(), self) else {
-            return Why::NoMemory;
+            return VolumeFault::NoMemory;
         };
         let durable = self.writer.durable().sequence;
         give_up(
@@ -141,7 +143,7 @@ impl Volume {
             durable,
         );
         let _ = self.nodes.end(alloc);
-        Why::Refused(Refusal::NoSpace(none))
+        VolumeFault::Refused(Refusal::NoSpace(none))
     }
 
     /// Writes the next block of the leaf that isn't finished on every metadata device. It takes no memory. An `Err` names a device that failed: the
@@ -167,7 +169,7 @@ impl Volume {
 
     /// Puts all frozen leaves in place, all or none: the leaves that they replace wait for the open entry. It takes memory for their pointers,
     /// and costs a few logarithms for each. An `Err` says that a number isn't left, or that there is no memory, and changes nothing.
-    pub fn commit_nodes(&mut self, alloc: Global) -> Result<(), Why>
+    pub fn commit_nodes(&mut self, alloc: Global) -> Result<(), VolumeFault>
         requires { IsNodeStage CommitNodes self.old }
         ensures placed { OnOk result (AreInPlace self.old self.new) }
         ensures sound { IsVolume self.new }
@@ -175,7 +177,7 @@ impl Volume {
         ensures why { IfErr result (IsUnplaced self.old) }
     {
         if !self.has_placing_numbers() {
-            return Err(Why::Refused(Refusal::Spent));
+            return Err(VolumeFault::Refused(Refusal::Spent));
         }
         frozen_leaves_are_kept();
         leaves_are_put_in_place();
@@ -184,11 +186,11 @@ impl Volume {
         let _ = self.keys.map().height(Btree::Extents);
         let _ = self.dirty.pin_of(0);
         let Ok(mut exchanges) = exchanges_of(alloc, self.nodes.finished()) else {
-            return Err(Why::NoMemory);
+            return Err(VolumeFault::NoMemory);
         };
         let changes = exchanges.as_mut_slice();
         match self.keys.exchange(alloc, changes) {
-            Err(_) => Err(Why::NoMemory),
+            Err(_) => Err(VolumeFault::NoMemory),
             Ok(()) => {
                 let sequence = self.queue.after() + 1;
                 put_in_place(

@@ -3,8 +3,8 @@ ghost use Rattle.dirty_nodes.specs.Dirty.{changed_nodes, paths_of};
 ghost use Rattle.core_volume.specs.Commits.{AreIntended, IsCommitted};
 ghost use Rattle.core_volume.specs.Rulings.{IsAllowed};
 ghost use Rattle.core_volume.specs.Volumes.{IsVolume};
-ghost use Rattle.core_volume.specs.Uncommitted.{IsWhy};
-ghost use Rattle.core_volume.specs.declared.commit.Why.TheVariants.{NoMemory};
+ghost use Rattle.core_volume.specs.Uncommitted.{IsCommitFault};
+ghost use Rattle.core_volume.specs.declared.commit.VolumeFault.TheVariants.{NoMemory};
 ghost use Rattle.journal_writer.specs.Queues.{HasRoom, blocks_with};
 ghost use Rattle.vol_types.specs.Standing.{IsUpdate};
 
@@ -21,7 +21,7 @@ use vol_types::{Btree, Update, Updates};
 
 /// Why updates weren't committed.
 #[derive(Drop)]
-pub enum Why {
+pub enum VolumeFault {
     Refused(Refusal),
     NoMemory,
 }
@@ -30,7 +30,7 @@ pub enum Why {
 #[derive(Drop)]
 pub struct Uncommitted {
     pub updates: Updates,
-    pub why: Why,
+    pub why: VolumeFault,
 }
 
 impl Volume {
@@ -50,13 +50,13 @@ impl Volume {
         ensures sound { OnOk result (IsVolume self.new) }
         ensures err { OnErr result (self.new ≡ self.old) }
         ensures kept { IfErr result (λ un. un.updates ≡ updates) }
-        ensures why { IfErr result (λ un. IsWhy self.old updates counted un.why) }
+        ensures why { IfErr result (λ un. IsCommitFault self.old updates counted un.why) }
     {
         match rule(alloc, self, updates.as_slice(), counted) {
             Err(_) => Err(unmade(updates)),
             Ok(Ruling::Refused(refusal)) => Err(Uncommitted {
                 updates,
-                why: Why::Refused(refusal),
+                why: VolumeFault::Refused(refusal),
             }),
             Ok(Ruling::Allowed(paths)) => self.make(alloc, updates, counted, &paths),
         }
@@ -114,7 +114,7 @@ fn unmade(updates: Updates) -> Uncommitted
 {
     Uncommitted {
         updates,
-        why: Why::NoMemory,
+        why: VolumeFault::NoMemory,
     }
 }
 

@@ -12,5 +12,5 @@ mod sealing;
 mod space;
 mod volume;
 
-pub use commit::{Uncommitted, Why};
+pub use commit::{Uncommitted, VolumeFault};
 pub use volume::Volume;

@@ -45,9 +45,7 @@ impl Volume {
     {
         let newest = &needed[needed.len() - 1];
         match parts_of(alloc, &layout, &map, needed, newest, nodes) {
-            Ok(parts) => Ok(with_parts(
-                alloc, layout, session, map, needed, newest, nodes, parts,
-            )),
+            Ok(parts) => Ok(with_parts(alloc, layout, session, map, needed, newest, nodes, parts)),
             Err(error) => {
                 drop(map);
                 drop(layout);
@@ -88,7 +86,8 @@ fn with_parts(
     frozen_leaves_are_kept();
     waiting_changes_lead_from_durable_keys();
     let _ = map.height(Btree::Extents);
-    let _ = (needed, nodes);
+    let _ = needed;
+    let _ = nodes;
     let entry = &newest.entry;
     let mirrors = layout.metadata_replicas;
     let behind = newest.end.saturating_sub(1);
@@ -154,12 +153,7 @@ fn parts_of(
 }
 
 // The buckets of a volume, as its keys and the places of its nodes say.
-fn pool_of(
-    alloc: Global,
-    layout: &Layout,
-    map: &KeyMap,
-    nodes: &Places,
-) -> Result<Pool, AllocError>
+fn pool_of(alloc: Global, layout: &Layout, map: &KeyMap, nodes: &Places) -> Result<Pool, AllocError>
     requires { is_layout layout.now ≡ true }
     ensures { IfOk result (λ pool. pool ≡ space_of layout.now (keys_of_buckets (keys_in map.now))
         nodes.now) }

@@ -1,6 +1,6 @@
 ghost use Rattle.std.specs.Prelude.{◌≡◌, ◌<◌, ◌≤◌, ◌↔◌, [], true, false, All, IfErr, IsTrue, OnErr, OnOk, length};
 ghost use Rattle.core_volume.specs.Sealing.{HasEntryNumbers, IsFlown, IsStage, roots_in, settled_volume, with_writer};
-ghost use Rattle.core_volume.specs.Uncommitted.{IsWhySealed, why_of};
+ghost use Rattle.core_volume.specs.Uncommitted.{IsSealFault, fault_of};
 ghost use Rattle.core_volume.specs.Volumes.{IsVolume};
 ghost use Rattle.journal_writer.specs.Queues.{HasNumbers};
 ghost use Rattle.dev_model.specs.Devices.{IsFlush};
@@ -13,7 +13,7 @@ ghost use Rattle.geometry.specs.Mirrors.{NamesOneOf};
 ghost use Rattle.pin_list.specs.Pins.{smaller};
 ghost use Rattle.vol_types.specs.Ranges.{IsNode};
 
-use crate::commit::Why;
+use crate::commit::VolumeFault;
 use crate::roots::roots_of;
 use crate::volume::{Volume, in_flight};
 use bucket_pool::nodes_keep_their_buckets;
@@ -22,7 +22,7 @@ use dev_model::Devices;
 use geometry::{DiskFault, layouts_have_places};
 use journal_ring::areas_have_places;
 use journal_writer::{
-    EntryQueue, Unsealed, Why as WhyUnsealed, entries_leave_in_turn,
+    EntryQueue, Unsealed, Why as SealFault, entries_leave_in_turn,
     waiting_changes_lead_from_durable_keys,
 };
 use std::alloc::Global;
@@ -32,24 +32,24 @@ impl Volume {
     /// Puts the oldest entry that isn't durable in flight: a closed one, or the open one, which is closed then. It is given the roots
     /// as they are now, and needs the entries from the least that a dirty node pins on. Nothing is written. It costs what the
     /// entry's bytes do, and memory for them; an `Err` changes nothing.
-    pub fn seal(&mut self, alloc: Global) -> Result<(), Why>
+    pub fn seal(&mut self, alloc: Global) -> Result<(), VolumeFault>
         requires { IsStage Seal self.old }
         ensures flown { OnOk result (IsFlown self.old self.new) }
         ensures sound { OnOk result (IsVolume self.new) }
         ensures err { OnErr result (self.new ≡ self.old) }
-        ensures why { IfErr result (IsWhySealed self.old) }
+        ensures why { IfErr result (IsSealFault self.old) }
     {
         if !has_entry_numbers(&self.queue) {
-            return Err(Why::Refused(Refusal::Spent));
+            return Err(VolumeFault::Refused(Refusal::Spent));
         }
         match roots_of(alloc, self.keys.map()) {
-            Err(_) => Err(Why::NoMemory),
+            Err(_) => Err(VolumeFault::NoMemory),
             Ok(roots) => self.seal_with(alloc, roots),
         }
     }
 
     // Puts the oldest entry in flight with these roots.
-    fn seal_with(&mut self, alloc: Global, roots: Roots) -> Result<(), Why>
+    fn seal_with(&mut self, alloc: Global, roots: Roots) -> Result<(), VolumeFault>
         requires stage { IsStage Seal self.old }
         requires numbers { HasEntryNumbers self.old }
         requires roots { roots ≡ roots_in self.old.trees.nodes }
@@ -58,7 +58,7 @@ impl Volume {
         ensures flown { OnOk result (IsFlown self.old self.new) }
         ensures sound { OnOk result (IsVolume self.new) }
         ensures err { OnErr result (self.new ≡ self.old) }
-        ensures why { IfErr result (IsWhySealed self.old) }
+        ensures why { IfErr result (IsSealFault self.old) }
     {
         entries_leave_in_turn();
         waiting_changes_lead_from_durable_keys();
@@ -70,7 +70,7 @@ impl Volume {
             Ok(()) => Ok(()),
             Err(Unsealed { entry, why }) => {
                 self.queue.put_back(entry);
-                Err(why_of(why))
+                Err(fault_of(why))
             }
         }
     }
@@ -145,12 +145,12 @@ fn oldest_needed(sequence: u64, pin: Option<u64>) -> u64
 }
 
 // Why an entry isn't put in flight.
-fn why_of(why: WhyUnsealed) -> Why
-    ensures { result ≡ why_of why }
+fn fault_of(why: SealFault) -> VolumeFault
+    ensures { result ≡ fault_of why }
 {
     match why {
-        WhyUnsealed::Spent => Why::Refused(Refusal::Spent),
-        WhyUnsealed::RingFull(full) => Why::Refused(Refusal::RingFull(full)),
-        WhyUnsealed::NoMemory => Why::NoMemory,
+        SealFault::Spent => VolumeFault::Refused(Refusal::Spent),
+        SealFault::RingFull(full) => VolumeFault::Refused(Refusal::RingFull(full)),
+        SealFault::NoMemory => VolumeFault::NoMemory,
     }
 }
