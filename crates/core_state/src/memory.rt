@@ -158,7 +158,10 @@ impl Memory {
         };
         let mine = &mut self.actors[usize::from(actor)];
         match mine.look(self.alloc, query, &keys) {
-            Err(_) => Answer::NoMemory,
+            Err(_) => {
+                drop(keys);
+                Answer::NoMemory
+            }
             Ok(()) => {
                 self.turn = Some(actor);
                 Answer::Found(keys)

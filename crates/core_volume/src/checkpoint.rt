@@ -142,7 +142,8 @@ impl Volume {
             &mut self.pool,
             durable,
         );
-        let _ = self.nodes.end(alloc);
+        let ended = self.nodes.end(alloc);
+        drop(ended);
         VolumeFault::Refused(Refusal::NoSpace(none))
     }
 
@@ -200,7 +201,8 @@ impl Volume {
                     &mut self.pool,
                     sequence,
                 );
-                let _ = self.nodes.end(alloc);
+                let ended = self.nodes.end(alloc);
+                drop(ended);
                 self.emptied = sequence;
                 self.changes += 1;
                 Ok(())

@@ -222,7 +222,11 @@ fn make_dirty(
     see_widths(updates);
     dirty_nodes_are_marked();
     let paths = paths_of(alloc, map, updates)?;
-    dirty.reserve(&paths)?;
+    if dirty.reserve(&paths).is_err() {
+        drop(paths);
+        return Err(AllocError);
+    }
     dirty.dirty(&paths, seq);
+    drop(paths);
     Ok(())
 }

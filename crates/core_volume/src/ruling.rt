@@ -1,7 +1,9 @@
 ghost use Rattle.std.specs.Prelude.{◌≡◌, ◌+◌, ◌≤◌, ◌↔◌, All, IfOk, IsTrue};
 ghost use Rattle.core_volume.specs.Commits.{AreIntended};
-ghost use Rattle.core_volume.specs.Rulings.{HasCommitNumbers, IsRuling, MayDraw, MayJoin, MayStay};
-ghost use Rattle.core_volume.specs.Volumes.{blocks_left};
+ghost use Rattle.core_actors.specs.declared.answer.Refusal.TheVariants as refusals;
+ghost use Rattle.core_volume.specs.Rulings.{HasCommitNumbers, IsRuling, MayDraw, MayJoin, MayStay, no_space};
+ghost use Rattle.core_volume.specs.Volumes.{blocks_left, is_idle};
+ghost use Rattle.core_volume.specs.declared.ruling.Ruling.TheVariants.{Refused};
 ghost use Rattle.journal_writer.specs.Queues.{HasNumbers, blocks_with, readied};
 ghost use Rattle.vol_types.specs.Standing.{IsUpdate};
 
@@ -96,12 +98,24 @@ fn rule_space(
 {
     let paths = paths_of(alloc, volume.keys.map(), updates)?;
     let seq = entry_of(&volume.queue, updates, counted);
-    let marked = volume.dirty.marked_with(alloc, &paths, seq)?;
+    let Ok(marked) = volume.dirty.marked_with(alloc, &paths, seq) else {
+        drop(paths);
+        return Err(AllocError);
+    };
     if is_short_of_nodes(&volume.pool, volume.mirrors(), marked) {
-        let none = no_space(alloc, volume.is_idle(), volume)?;
-        return Ok(Ruling::Refused(Refusal::NoSpace(none)));
+        drop(paths);
+        return refused_for_space(alloc, volume);
     }
     Ok(Ruling::Allowed(paths))
+}
+
+// A commit is refused, since there are too few free buckets for nodes.
+fn refused_for_space(alloc: Global, volume: &Volume) -> Result<Ruling, AllocError>
+    ensures { IfOk result (λ ruling. ruling
+        ≡ Refused (refusals.NoSpace (no_space (is_idle volume.now) volume.now))) }
+{
+    let none = no_space(alloc, volume.is_idle(), volume)?;
+    Ok(Ruling::Refused(Refusal::NoSpace(none)))
 }
 
 // Whether the numbers are left that a commit draws.

@@ -54,11 +54,18 @@ pub(crate) fn no_space(alloc: Global, idle: bool, volume: &Volume) -> Result<NoS
 fn short_of(alloc: Global, volume: &Volume) -> Result<Short, AllocError>
     ensures { IfOk result (λ short. short ≡ short_of volume.now) }
 {
-    Ok(Short {
-        need: 0,
-        free: free_counts(alloc, volume)?,
-        held: held_counts(alloc, volume)?,
-    })
+    let free = free_counts(alloc, volume)?;
+    match held_counts(alloc, volume) {
+        Ok(held) => Ok(Short {
+            need: 0,
+            free,
+            held,
+        }),
+        Err(error) => {
+            drop(free);
+            Err(error)
+        }
+    }
 }
 
 // The free buckets of each device.

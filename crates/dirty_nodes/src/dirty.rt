@@ -102,11 +102,17 @@ impl DirtyNodes {
         ensures marks { IfOk result (λ dirty. dirty.marks.numbers ≡ []) }
         ensures later { IfOk result (λ dirty. dirty.later.numbers ≡ []) }
     {
-        Ok(DirtyNodes {
-            pins: PinList::new(alloc)?,
-            marks: PinList::new(alloc)?,
-            later: PinList::new(alloc)?,
-        })
+        let pins = PinList::new(alloc)?;
+        let Ok(marks) = PinList::new(alloc) else {
+            drop(pins);
+            return Err(AllocError);
+        };
+        let Ok(later) = PinList::new(alloc) else {
+            drop(marks);
+            drop(pins);
+            return Err(AllocError);
+        };
+        Ok(DirtyNodes { pins, marks, later })
     }
 
     /// How many nodes are marked.

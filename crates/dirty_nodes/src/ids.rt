@@ -144,7 +144,9 @@ fn add(
     ensures { OnOk result (values.new.entries ≡ with_value pos_cmp pos.now value.now
         values.old.entries) }
 {
-    values.insert(*pos, value.copy(alloc)?)?;
+    let copy = value.copy(alloc)?;
+    let before = values.insert(*pos, copy)?;
+    drop(before);
     Ok(())
 }
 
@@ -155,13 +157,12 @@ fn put(alloc: Global, values: &mut BTreeMap<Pos, Value>, update: &Update) -> Res
 {
     match &update.value {
         None => {
-            values.remove(&update.pos);
+            let before = values.remove(&update.pos);
+            drop(before);
+            Ok(())
         }
-        Some(value) => {
-            values.insert(update.pos, value.copy(alloc)?)?;
-        }
+        Some(value) => add(alloc, values, &update.pos, value),
     }
-    Ok(())
 }
 
 // Whether all values stand where records of ids may.

@@ -155,7 +155,9 @@ fn put(
     }) }
 {
     positions_are_ordered();
-    leaf.put(pos, value.copy(alloc)?)?;
+    let copy = value.copy(alloc)?;
+    let before = leaf.put(pos, copy)?;
+    drop(before);
     Ok(())
 }
 

@@ -1,4 +1,4 @@
-ghost use Rattle.std.specs.Prelude.{◌≡◌, ◌<◌, ◌-◌, All, IfOk, length, true};
+ghost use Rattle.std.specs.Prelude.{◌≡◌, ◌<◌, ◌-◌, All, IfOk, OnOk, length, true};
 ghost use Rattle.node_mem.specs.Nodes.{with_entries};
 ghost use Rattle.vol_types.specs.KeyMaps.{IsKeyMap, KeyMap, is_update_of, with_update};
 ghost use Rattle.vol_types.specs.Maps.{put_at};
@@ -144,9 +144,32 @@ fn put_back(
         node.entries)) }
 {
     let mut node = node;
+    match put_copy(alloc, &mut node, &update.pos, value) {
+        Ok(()) => Ok(node),
+        Err(error) => {
+            drop(node);
+            Err(error)
+        }
+    }
+}
+
+// Puts a copy of a value into a node, or takes the value at this position away.
+fn put_copy(
+    alloc: Global,
+    node: &mut NodeMem,
+    pos: &Pos,
+    value: &Option<Value>,
+) -> Result<(), AllocError>
+    requires covered { is_within node.old.least node.old.greatest pos.now ≡ true }
+    requires in_range { IsKeyValue value.now }
+    ensures { OnOk result (node.new ≡ with_entries node.old (put_at pos_cmp pos.now value.now
+        node.old.entries)) }
+{
     positions_are_ordered();
-    node.put(&update.pos, value.copy(alloc)?)?;
-    Ok(node)
+    let copy = value.copy(alloc)?;
+    let before = node.put(pos, copy)?;
+    drop(before);
+    Ok(())
 }
 
 // The place of the last of so many that isn't taken back.

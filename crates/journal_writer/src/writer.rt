@@ -185,14 +185,13 @@ impl EntryWriter {
             updates,
         };
         let staged = stage_record(alloc, &mut self.ring, &mut self.starts, &record);
+        let EntryRecord { roots, updates, .. } = record;
+        drop(roots);
         let entry = Pending {
             after,
             behind,
             commits,
-            changes: KeyChanges {
-                updates: record.updates,
-                before,
-            },
+            changes: KeyChanges { updates, before },
         };
         match staged {
             Ok(()) => {
@@ -278,6 +277,7 @@ impl EntryWriter {
             oldest: flight.oldest,
             first,
         };
+        drop(flight);
     }
 }
 

@@ -109,17 +109,74 @@ pub fn freeze_leaf(
     };
     let root = map.root(btree).birth;
     let leaf = durable_leaf(alloc, map, queue, flight, btree)?;
+    let frozen = freeze_as(
+        alloc, layout, session, birth, durable, root, map, queue, flight, btree, &leaf, dirty,
+        pool, nodes,
+    );
+    drop(leaf);
+    frozen
+}
+
+// Freezes the only leaf of a btree, the node of the birth `root`, as `leaf`, which is what the btree has by durable entries alone.
+fn freeze_as(
+    alloc: Global,
+    layout: &Layout,
+    session: u64,
+    birth: u64,
+    durable: u64,
+    root: u64,
+    map: &KeyMap,
+    queue: &EntryQueue,
+    flight: Option<&Pending>,
+    btree: Btree,
+    leaf: &NodeMem,
+    dirty: &mut DirtyNodes,
+    pool: &mut Pool,
+    nodes: &mut NodeWriter,
+) -> Result<(), FreezeFault>
+    requires layout { is_layout layout.now ≡ true }
+    requires mirrors { layout.now.metadata_replicas ≤ length pool.old }
+    requires idle { nodes.old.unfinished ≡ None }
+    requires has { HasBirth session nodes.old.born map.now.nodes }
+    requires birth { birth ≡ next_birth session nodes.old.born }
+    requires numbered { IfSome flight (λ entry. entry.now.after + 1 < 2 ^ 64) }
+    requires least { leaf.now.least ≡ least_pos }
+    requires greatest { leaf.now.greatest ≡ greatest_pos }
+    requires stand { All (MayStand btree 0) (values_of leaf.now.entries) }
+    ensures fits { OnOk result (size_of leaf.now.entries ≤ node_limit) }
+    ensures free { OnOk result (have_free layout.now.metadata_replicas pool.old ≡ true) }
+    ensures frozen { OnOk result (IsFrozen layout.now.id root
+        (fresh_leaf session nodes.old.born layout.now.metadata_replicas pool.old)
+        (leaf_set (next_birth session nodes.old.born) btree leaf.now.entries) nodes.old nodes.new) }
+    ensures pool { OnOk result (pool.new ≡ noded layout.now.metadata_replicas pool.old) }
+    ensures later { OnOk result (dirty.new.later.numbers ≡ put_at nat_cmp root
+        (first_with btree (undurable (option_copied flight.entry) queue.now.queue))
+        dirty.old.later.numbers) }
+    ensures pins { dirty.new.pins.numbers ≡ dirty.old.pins.numbers }
+    ensures marks { dirty.new.marks.numbers ≡ dirty.old.marks.numbers }
+    ensures later_kept { OnErr result (dirty.new.later.numbers ≡ dirty.old.later.numbers) }
+    ensures pool_kept { OnErr result (pool.new ≡ pool.old) }
+    ensures nodes_kept { OnErr result (nodes.new ≡ nodes.old) }
+    ensures why { IfErr result (IsFreezeFault session nodes.old.born root
+        layout.now.metadata_replicas map.now.nodes leaf.now.entries pool.old) }
+{
+    let _ = session;
+    let _ = map;
     if leaf.size() > NODE_LIMIT {
-        return Err(FreezeFault::NeedSplit(split_of(root, &leaf)));
+        return Err(FreezeFault::NeedSplit(split_of(root, leaf)));
+    }
+    let later = first_undurable(queue, flight, btree);
+    let places = free_places(alloc, layout, pool)?;
+    if dirty.reserve_freeze().is_err() {
+        drop(places);
+        return Err(FreezeFault::NoMemory);
     }
     let fresh = NodePtr {
         birth,
         level: 0,
-        places: free_places(alloc, layout, pool)?,
+        places,
     };
-    let later = first_undurable(queue, flight, btree);
-    dirty.reserve_freeze()?;
-    write_leaf(alloc, layout, durable, root, fresh, btree, &leaf, nodes)?;
+    write_leaf(alloc, layout, durable, root, fresh, btree, leaf, nodes)?;
     dirty.freeze(root, later);
     pool.take_nodes(layout.metadata_replicas);
     Ok(())
@@ -175,7 +232,10 @@ fn free_places(alloc: Global, layout: &Layout, pool: &Pool) -> Result<Places, Fr
 {
     match pool.free_places(alloc, layout.metadata_replicas) {
         Ok(places) => Ok(places),
-        Err(PoolFault::NoSpace(_)) => Err(FreezeFault::NoSpace),
+        Err(PoolFault::NoSpace(short)) => {
+            drop(short);
+            Err(FreezeFault::NoSpace)
+        }
         Err(PoolFault::NoMemory) => Err(FreezeFault::NoMemory),
     }
 }

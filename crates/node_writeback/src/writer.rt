@@ -106,8 +106,14 @@ impl NodeWriter {
         ensures ok { OnOk result (IsFrozen layout.now.id birth fresh set.now self.old self.new) }
         ensures err { OnErr result (self.new ≡ self.old) }
     {
-        self.finished.reserve(1)?;
-        let blocked = plan_set(alloc, layout, &fresh, 0, sequence, set)?;
+        if self.finished.reserve(1).is_err() {
+            drop(fresh);
+            return Err(AllocError);
+        }
+        let Ok(blocked) = plan_set(alloc, layout, &fresh, 0, sequence, set) else {
+            drop(fresh);
+            return Err(AllocError);
+        };
         self.unfinished = Some(UnfinishedNode {
             node: FrozenNode {
                 btree: set.btree,
@@ -135,19 +141,39 @@ impl NodeWriter {
         ensures named { IfSome self.old.unfinished (λ unfinished. NamesDeviceOf
             unfinished.node.blocked.places result) }
     {
+        self.write_next(devices)?;
+        self.advance();
+        Ok(())
+    }
+
+    // Writes the next block of the node that isn't finished, on each of its places.
+    fn write_next<D: Devices>(&self, devices: &mut D) -> Result<(), NodeFault>
+        requires some { IsSome self.now.unfinished }
+        requires there { IfSome self.now.unfinished (λ unfinished. HaveBuckets
+            (D.state devices.old).sizes unfinished.node.blocked.places) }
+        ensures writes { IfSome self.now.unfinished (λ unfinished. WritesNodePart D.tells
+            unfinished.node.blocked unfinished.written (failed_node_device result)
+            (D.state devices.old) (D.state devices.new)) }
+        ensures named { IfSome self.now.unfinished (λ unfinished. NamesDeviceOf
+            unfinished.node.blocked.places result) }
+    {
+        match &self.unfinished {
+            None => unreachable!(),
+            Some(unfinished) => {
+                write_part(devices, &unfinished.node.blocked, unfinished.written)
+            }
+        }
+    }
+
+    // Takes the next block of the node that isn't finished as written.
+    fn advance(&mut self)
+        requires { IsSome self.old.unfinished }
+        ensures { self.new ≡ with_part self.old }
+    {
         let Some(unfinished) = self.unfinished.take() else {
             unreachable!()
         };
-        match write_part(devices, &unfinished.node.blocked, unfinished.written) {
-            Err(fault) => {
-                self.unfinished = Some(unfinished);
-                Err(fault)
-            }
-            Ok(()) => {
-                self.unfinished = advanced(&mut self.finished, unfinished);
-                Ok(())
-            }
-        }
+        self.unfinished = advanced(&mut self.finished, unfinished);
     }
 
     /// Ends the work on the nodes that are written, and gives these. It takes no memory.
