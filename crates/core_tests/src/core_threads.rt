@@ -36,12 +36,32 @@ fn push_id(updates: &mut Updates) -> Result<(), AllocError> {
     Ok(())
 }
 
-// Whether actor 1 sees no snapshot ids, and makes a commit that puts one.
+// The updates of the commit.
+fn updates_of(alloc: Global) -> Result<Updates, AllocError> {
+    let mut updates = Updates::new(alloc);
+    match push_id(&mut updates) {
+        Ok(()) => Ok(updates),
+        Err(error) => {
+            drop(updates);
+            Err(error)
+        }
+    }
+}
+
+// Whether actor 1 sees no snapshot ids, and makes these updates.
 fn commits<O: Opening>(core: &mut Core<MemDevices, O>, updates: Updates) -> bool {
     step(core, 1, Event::Begin { first: true });
     let ids = step(core, 1, Event::LookIds);
     step(core, 1, Event::Intend(updates));
     ids == Seen::Ids(0) && step(core, 1, Event::Commit { counted: true }) == Seen::Done
+}
+
+// Whether actor 1 makes a commit that puts a snapshot id.
+fn is_committed<O: Opening>(alloc: Global, core: &mut Core<MemDevices, O>) -> bool {
+    match updates_of(alloc) {
+        Ok(updates) => commits(core, updates),
+        Err(_) => false,
+    }
 }
 
 // Whether actor 0 sees the one commit, which no entry of the journal holds yet.
@@ -61,13 +81,7 @@ struct Returned<D: Devices, O: Opening> {
 
 fn commit_on<O: Opening>(alloc: Global, core: Core<MemDevices, O>) -> Returned<MemDevices, O> {
     let mut core = core;
-    let mut updates = Updates::new(alloc);
-    let committed = if push_id(&mut updates).is_ok() {
-        commits(&mut core, updates)
-    } else {
-        drop(updates);
-        false
-    };
+    let committed = is_committed(alloc, &mut core);
     Returned { core, committed }
 }
 

@@ -130,9 +130,13 @@ const THREE: Shape = Shape {
 };
 
 #[test]
-fn the_ring_goes_round(rt: HostRuntime) -> Result<(), Fail> {
-    for shape in [ONE, THREE] {
-        assert!(rt; rounds_on(rt.alloc(), shape)? == Some(EXPECTED));
-    }
+fn the_ring_goes_round_on_one_device(rt: HostRuntime) -> Result<(), Fail> {
+    assert!(rt; rounds_on(rt.alloc(), ONE)? == Some(EXPECTED));
+    Ok(())
+}
+
+#[test]
+fn the_ring_goes_round_on_three_devices(rt: HostRuntime) -> Result<(), Fail> {
+    assert!(rt; rounds_on(rt.alloc(), THREE)? == Some(EXPECTED));
     Ok(())
 }
