@@ -1,38 +1,17 @@
 //! Lists of events that are drawn, mostly as the stage of the journal and what each actor has under way ask for, and a core that they are
 //! given to beside its model.
 
-ghost use Rattle.std.specs.Prelude.{◌≡◌, true};
-ghost use Rattle.geometry.specs.Layouts.{is_layout_of};
-ghost use Rattle.replay.specs.Volumes.{found_in};
-
-use crate::model::{Failing, Model};
-use core_fixtures::{Change, Draw, Move, Shape, Version, formatted_on, make};
-use dev_model::{Devices, MemDevices};
-use replay::{Loaded, open_volume};
-use std::alloc::{AllocError, Global};
-use std::marker::Brand;
-use std::test::Fail;
+use crate::draws::Draw;
+use crate::images::Shape;
+use crate::model::Model;
+use crate::moves::{Change, Move, make};
+use crate::sessions::Run;
+use dev_model::MemDevices;
+use std::alloc::Global;
 use vol_core::{Core, Opening};
 
 /// How many events a list has.
 const EVENTS: u32 = 60;
-
-/// A list of events on a volume of this shape, which the seed names.
-#[derive(Clone, Copy, PartialEq, Eq)]
-pub struct List {
-    pub shape: Shape,
-    pub seed: u64,
-}
-
-/// What a list has left: the devices, what was durable, and what the entry led to that was in flight; and how many device calls it
-/// made.
-#[derive(Drop)]
-pub struct Played {
-    pub devices: MemDevices,
-    pub durable: Version,
-    pub newest: Version,
-    pub calls: u64,
-}
 
 fn drawn_change(draw: &mut Draw) -> Change {
     let key = draw.byte(4);
@@ -104,38 +83,38 @@ fn agrees<O: Opening>(
     model: &mut Model,
     actor: u8,
     wanted: Move,
-) -> Result<bool, AllocError> {
-    let calls = (core.devices().calls(), model.calls());
+) -> bool {
+    let before = core.devices().calls();
+    let model_before = model.calls();
     let expected = model.answer(actor, wanted);
-    let seen = make(alloc, core, actor, wanted)?;
-    let made = core.devices().calls().wrapping_sub(calls.0);
-    Ok(seen == expected && made == model.calls().wrapping_sub(calls.1))
+    let seen = make(alloc, core, actor, wanted);
+    let made = core.devices().calls().wrapping_sub(before);
+    seen == expected && made == model.calls().wrapping_sub(model_before)
 }
 
 // Whether all events of the list are answered so, and what is told after each.
-fn follows<O: Opening>(
+fn follows_drawn<O: Opening>(
     alloc: Global,
     core: &mut Core<MemDevices, O>,
     model: &mut Model,
-    list: &List,
-) -> Result<bool, AllocError> {
-    let mut draw = Draw::new(list.seed);
+    draw: &mut Draw,
+    shape: Shape,
+) -> bool {
     for _ in 0..EVENTS {
-        let actor = actor(&mut draw, model.turn());
-        let wanted = drawn(&mut draw, model, list.shape, actor);
+        let actor = actor(draw, model.turn());
+        let wanted = drawn(draw, model, shape, actor);
         let other = draw.byte(4);
-        if !agrees(alloc, core, model, actor, wanted)? {
-            return Ok(false);
-        }
-        if !agrees(alloc, core, model, other, Move::Next)? {
-            return Ok(false);
+        if !agrees(alloc, core, model, actor, wanted)
+            || !agrees(alloc, core, model, other, Move::Next)
+        {
+            return false;
         }
     }
-    Ok(true)
+    true
 }
 
 /// How a list ends: all actors drop what they have under way, and one looks at all keys.
-const LAST: [(u8, Move); 10] = [
+static LAST: [(u8, Move); 10] = [
     (0, Move::Drop),
     (1, Move::Drop),
     (2, Move::Drop),
@@ -149,7 +128,7 @@ const LAST: [(u8, Move); 10] = [
 ];
 
 /// What a session that has stopped writing refuses.
-const REFUSED: [(u8, Move); 5] = [
+static REFUSED: [(u8, Move); 5] = [
     (1, Move::Seal),
     (1, Move::WriteEntry),
     (1, Move::Flush(0)),
@@ -163,92 +142,36 @@ fn follows_these<O: Opening>(
     core: &mut Core<MemDevices, O>,
     model: &mut Model,
     events: &[(u8, Move)],
-) -> Result<bool, AllocError> {
+) -> bool {
     for (actor, wanted) in events {
-        if !agrees(alloc, core, model, *actor, *wanted)? {
-            return Ok(false);
+        if !agrees(alloc, core, model, *actor, *wanted) {
+            return false;
         }
     }
-    Ok(true)
+    true
 }
 
-// Whether a list and what comes last are answered as the model says.
-fn follows_all<O: Opening>(
+// Whether what comes last is answered as the model says.
+fn follows_last<O: Opening>(
     alloc: Global,
     core: &mut Core<MemDevices, O>,
     model: &mut Model,
-    list: &List,
-) -> Result<bool, AllocError> {
-    if !follows(alloc, core, model, list)? || !follows_these(alloc, core, model, &LAST)? {
-        return Ok(false);
-    }
-    if model.halted().is_none() {
-        return Ok(true);
-    }
-    follows_these(alloc, core, model, &REFUSED)
+) -> bool {
+    follows_these(alloc, core, model, &LAST)
+        && (model.halted().is_none() || follows_these(alloc, core, model, &REFUSED))
 }
 
-// What a list leaves of a volume that was opened, if all its events are answered as the model says.
-fn play_from<O: Opening>(
+/// Whether a list that the run draws, and what comes last, are answered as the model says, which tells what then is durable.
+pub fn follows_list<O: Opening>(
     alloc: Global,
-    devices: MemDevices,
-    loaded: Loaded,
-    list: &List,
-    failing: Failing,
-) -> Result<Option<Played>, Fail>
-    requires layout { is_layout_of (⟦<MemDevices as Devices>⟧.state devices).sizes loaded.layout ≡ true }
-    requires opening { found_in loaded ≡ O.found }
-    requires start { ⟦<MemDevices as Devices>⟧.state devices ≡ O.start }
-{
-    let mut model = Model::new(list.shape, failing);
-    let Ok(mut core) = Core::<MemDevices, O>::of(alloc, loaded, devices) else {
-        return Err(Fail::from("there is no memory for the volume"));
-    };
-    let follows = follows_all(alloc, &mut core, &mut model, list);
-    let devices = core.into_devices();
-    if !follows? {
-        return Ok(None);
-    }
-    Ok(Some(Played {
-        devices,
-        durable: model.durable(),
-        newest: model.newest(),
-        calls: model.calls(),
-    }))
-}
-
-/// How many device calls the opening of a formatted volume of this shape makes.
-pub fn opening_calls(alloc: Global, shape: Shape) -> Result<u64, Fail> {
-    let mut devices = formatted_on(alloc, shape)?;
-    let before = devices.calls();
-    if open_volume(alloc, &mut devices).is_err() {
-        return Err(Fail::from("the volume isn't opened"));
-    }
-    Ok(devices.calls().wrapping_sub(before))
-}
-
-/// What a list leaves of a formatted volume on devices of which calls fail so, if all its events are answered as the model says. The
-/// opening makes so many calls.
-pub fn play(
-    alloc: Global,
-    devices: MemDevices,
-    opening: u64,
-    list: &List,
-    failing: Failing,
-) -> Result<Option<Played>, Fail> {
-    let mut devices = devices;
-    let call = devices
-        .calls()
-        .saturating_add(opening)
-        .saturating_add(failing.call);
-    devices.failed_writes_leave(failing.leaves);
-    if failing.stays {
-        devices.fail_from(call);
-    } else {
-        devices.fail_at(&[call])?;
-    }
-    let Ok(loaded) = open_volume(alloc, &mut devices) else {
-        return Err(Fail::from("the volume isn't opened"));
-    };
-    play_from::<Brand>(alloc, devices, loaded, list, failing)
+    core: &mut Core<MemDevices, O>,
+    run: &mut Run,
+) -> bool {
+    let mut model = Model::new(run.shape, run.failing);
+    let follows = follows_drawn(alloc, core, &mut model, &mut run.draw, run.shape)
+        && follows_last(alloc, core, &mut model);
+    run.story.now = model.now();
+    run.story.sealed = model.newest();
+    run.story.durable = model.durable();
+    follows
 }

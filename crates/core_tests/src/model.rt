@@ -1,20 +1,10 @@
 //! What a core should answer, by a plain model of it: how many commits there were, with the values that they left; which of them are
 //! in the entry in flight, and which are durable; how far that entry is; and which device calls fail.
 
-use core_fixtures::{
-    ACTORS, Change, Move, Seen, Shape, Values, Version, changed, count_of, number_of,
-};
-use dev_model::Pick;
+use crate::failing::Failing;
+use crate::images::Shape;
+use crate::moves::{ACTORS, Change, Move, NO_VALUES, Seen, Version, changed, count_of, number_of};
 use vol_core::Stage;
-
-/// Which device calls fail, counted from the first one behind the opening of a volume, and what a write that fails leaves of its block.
-#[derive(Clone, Copy, PartialEq, Eq)]
-pub struct Failing {
-    pub call: u64,
-    /// Whether all later ones fail too.
-    pub stays: bool,
-    pub leaves: Pick,
-}
 
 // What an actor has under way.
 #[derive(Clone, Copy)]
@@ -40,7 +30,7 @@ struct Flight {
 }
 
 /// The model.
-#[derive(Clone, Copy, Drop)]
+#[derive(Clone, Copy)]
 pub struct Model {
     shape: Shape,
     clients: [Client; ACTORS],
@@ -77,11 +67,7 @@ impl Model {
     pub fn new(shape: Shape, failing: Failing) -> Model {
         let empty = Version {
             commits: 0,
-            values: Values {
-                few: [0; 4],
-                many: 0,
-                gone: false,
-            },
+            values: NO_VALUES,
         };
         Model {
             shape,
@@ -111,6 +97,11 @@ impl Model {
     /// The device that failed, if the session has stopped writing.
     pub fn halted(&self) -> Option<u8> {
         self.halted
+    }
+
+    /// What all commits lead to.
+    pub fn now(&self) -> Version {
+        self.now
     }
 
     /// What is durable.

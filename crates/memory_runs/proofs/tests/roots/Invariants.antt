@@ -1,7 +1,0 @@
-use Rattle.std.proofs.Common.{◌≡◌, length}
-use Rattle.std.specs.Prelude.{All}
-use Rattle.tree_nodes.specs.Levels.{IsNodeOf}
-use Rattle.memory_runs.proofs.tests.roots.Given as goal
-
-abbrev pub invariant-loop-birth : goal.invariant-loop-birth
-invariant-loop-birth l = (length l.roots ≡ l.birth) × All (IsNodeOf 0) l.roots
