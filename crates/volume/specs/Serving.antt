@@ -24,8 +24,8 @@ use Rattle.key_meaning.specs.Forest.{Read, forest_in}
 use Rattle.plain_forest.specs.Forest.{Forest}
 use Rattle.forest_ops.specs.declared.halt.Halt.{Halt}
 use Rattle.vol_session.specs.Sessions.{IfSoundKeys, IsPlanNow, SessionState}
-use Rattle.vol_session.specs.declared.stop.Stop.{Stop}
-use Rattle.vol_session.specs.declared.stop.Stop.TheVariants as stops
+use Rattle.vol_session.specs.declared.writeback_end.WritebackEnd.{WritebackEnd}
+use Rattle.vol_session.specs.declared.writeback_end.WritebackEnd.TheVariants as stops
 use Rattle.volume.specs.Answers.{HasCause, IsAnswered, nothing_short}
 use Rattle.volume.specs.States.{IsAtRest}
 
@@ -112,7 +112,7 @@ IsUnmade memory answers.NoMemory = ⊤
 IsUnmade memory other = ⊥
 
 -- The reply to a change tells why a checkpoint ended early; want of memory is told by none.
-abbrev pub TellsStop : Stop → Reply → Type 0
+abbrev pub TellsStop : WritebackEnd → Reply → Type 0
 TellsStop (stops.DeviceFault dev) reply = reply ≡ replies.DeviceFault dev
 TellsStop (stops.Halted halt) reply = reply ≡ replies.Halted halt.dev halt.tick
 TellsStop stops.Spent reply = reply ≡ replies.Spent
@@ -121,7 +121,7 @@ TellsStop (stops.Foreign refusal) reply = reply ≡ replies.NoSpace nothing_shor
 TellsStop stops.NoMemory reply = ⊥
 
 -- The reply to a sync tells why it ended early: where the ring has no room, no block of it is left.
-abbrev pub TellsSync : Stop → Reply → Type 0
+abbrev pub TellsSync : WritebackEnd → Reply → Type 0
 TellsSync (stops.DeviceFault dev) reply = reply ≡ replies.DeviceFault dev
 TellsSync (stops.Halted halt) reply = reply ≡ replies.Halted halt.dev halt.tick
 TellsSync stops.Spent reply = reply ≡ replies.Spent

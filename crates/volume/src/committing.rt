@@ -16,7 +16,7 @@ use forest_ops::{Op, Reply};
 use fs_plan::Plan;
 use std::alloc::{AllocError, Global};
 use vol_core::{Answer, Event, Halt, Opening, Refusal};
-use vol_session::{Session, Stop, Uncommitted, checkpoint};
+use vol_session::{Session, WritebackEnd, Uncommitted, checkpoint};
 use vol_types::Updates;
 
 /// Makes the change that a plan of client 0's operation says. Where the journal or the buckets are short, a checkpoint is made first.
@@ -227,7 +227,7 @@ fn give_up<D: Devices, O: Opening>(
     alloc: Global,
     session: &mut Session<D, O>,
     op: Op,
-    stop: Stop,
+    stop: WritebackEnd,
 ) -> Result<Reply, AllocError>
     requires spare { 0 < session.old.spare }
     requires intended { IsIntended session.old.core.memory op }
@@ -238,15 +238,15 @@ fn give_up<D: Devices, O: Opening>(
     ensures rest { OnErr result (IsAtRest session.new.core.memory) }
 {
     match stop {
-        Stop::DeviceFault(dev) => {
+        WritebackEnd::DeviceFault(dev) => {
             fail(session, op, Reply::DeviceFault(dev));
             Ok(Reply::DeviceFault(dev))
         }
-        Stop::Halted(halt) => Ok(fail_halted(session, op, halt)),
-        Stop::Spent => Ok(fail_spent(session, op)),
-        Stop::NoSpace(none) => lack(alloc, session, op, none.short),
-        Stop::Foreign(_) => lack(alloc, session, op, nothing_short(alloc)),
-        Stop::NoMemory => {
+        WritebackEnd::Halted(halt) => Ok(fail_halted(session, op, halt)),
+        WritebackEnd::Spent => Ok(fail_spent(session, op)),
+        WritebackEnd::NoSpace(none) => lack(alloc, session, op, none.short),
+        WritebackEnd::Foreign(_) => lack(alloc, session, op, nothing_short(alloc)),
+        WritebackEnd::NoMemory => {
             end(session);
             drop(op);
             Err(AllocError)

@@ -17,7 +17,7 @@ use forest_ops::{Halt, Op, Reply};
 use fs_plan::Plan;
 use std::alloc::{AllocError, Global};
 use vol_core::{Answer, Event, Opening, Refusal};
-use vol_session::{Session, Stop, sync_all};
+use vol_session::{Session, WritebackEnd, sync_all};
 use vol_types::{Counts, Duplicate, Short};
 
 /// Answers an operation of client 0, where the history has room for its entry.
@@ -80,22 +80,22 @@ fn sync<D: Devices, O: Opening>(session: &mut Session<D, O>) -> Result<Reply, Al
 // A sync fails, as the work on the journal ended early.
 fn stop_sync<D: Devices, O: Opening>(
     session: &mut Session<D, O>,
-    stop: Stop,
+    stop: WritebackEnd,
 ) -> Result<Reply, AllocError>
     requires spare { 0 < session.old.spare }
     requires rest { IsAtRest session.old.core.memory }
     requires journal { MayStopSync stop }
     ensures tells { IfOk result (TellsSync stop) }
     ensures entered { IfOk result (λ reply. IsEntered Sync reply session.old session.new) }
-    ensures none { OnErr result (stop ≡ Stop.NoMemory) }
+    ensures none { OnErr result (stop ≡ WritebackEnd.NoMemory) }
     ensures same { OnErr result (session.new ≡ session.old) }
 {
     match stop {
-        Stop::DeviceFault(dev) => {
+        WritebackEnd::DeviceFault(dev) => {
             session.tell(Op::Sync, Reply::DeviceFault(dev));
             Ok(Reply::DeviceFault(dev))
         }
-        Stop::Halted(halt) => {
+        WritebackEnd::Halted(halt) => {
             session.tell(
                 Op::Sync,
                 Reply::Halted {
@@ -108,16 +108,16 @@ fn stop_sync<D: Devices, O: Opening>(
                 tick: halt.tick,
             })
         }
-        Stop::Spent => {
+        WritebackEnd::Spent => {
             session.tell(Op::Sync, Reply::Spent);
             Ok(Reply::Spent)
         }
-        Stop::Foreign(_) => {
+        WritebackEnd::Foreign(_) => {
             session.tell(Op::Sync, Reply::Spent);
             Ok(Reply::Spent)
         }
-        Stop::NoMemory => Err(AllocError),
-        Stop::NoSpace(_) => unreachable!(),
+        WritebackEnd::NoMemory => Err(AllocError),
+        WritebackEnd::NoSpace(_) => unreachable!(),
     }
 }
 

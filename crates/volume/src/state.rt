@@ -103,7 +103,7 @@ impl<D: Devices, O: Opening> VolState<D, O> {
             ≡ (D.state self.old.core.devices).faults) }
         ensures goes_on { GoOn (D.state self.old.core.devices) (D.state self.new.core.devices) }
     {
-        self.session.see_kept();
+        self.session.see_history();
         let _count = self.session.devices().count();
         self.session.reserve()?;
         let result = answer(self.alloc, &mut self.session, op);
@@ -145,7 +145,7 @@ impl<D: Devices, O: Opening> VolState<D, O> {
             alloc: _,
             mut session,
         } = self;
-        session.see_kept();
+        session.see_history();
         let halted = halt_of(&mut session);
         let (devices, trace, acks) = session.into_parts();
         Finished {
