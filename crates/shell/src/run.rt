@@ -7,6 +7,7 @@ ghost use Rattle.shell.specs.Outcome.{early_line, early_status, formatted_line};
 ghost use Rattle.shell.specs.Tasks.{IsAsked, IsRun, task_of};
 ghost use Rattle.shell.specs.Lines.{AreRunLines};
 ghost use Rattle.shell.specs.Headline.{Headline};
+ghost use Rattle.shell.specs.Runs.{run_of};
 ghost use Rattle.shell.specs.Phases.{EndsEarly, EndsUnopened, Formats, RunsOpened, TellsFound, TellsNothing};
 
 use crate::early_end::{EarlyEnd, print_early_end, status_of};
@@ -47,27 +48,7 @@ pub fn run_words<R, S: Source, K: Sink<D>, D: Devices + Send, G: Gate + Sync>(
     gate: &G,
 ) -> Ended<D>
     ensures { Headline S.tells K.tells D.tells K.held K.given_at
-        (record {
-          arguments = map rc_str_bytes words.now;
-          streams = record { left = S.left source.old; left_after = S.left source.new; held = K.held sink.old; held_after = K.held sink.new };
-          faults = record {
-            source = S.faults source.old;
-            source_after = S.faults source.new;
-            sink = K.faults sink.old;
-            sink_after = K.faults sink.new;
-          };
-          sink = sink.old;
-          sink_after = sink.new;
-          devices = devices;
-          devices_after = result.devices;
-          state = D.state devices;
-          state_after = D.state result.devices;
-          status = result.status;
-          early_end = result.early_end;
-          trace = result.trace;
-          acks = result.acks;
-          shorts = result.shorts;
-        }) }
+        (run_of S.left S.faults K.held K.faults D.state (map rc_str_bytes words.now) source.old source.new sink.old sink.new devices result) }
 {
     runs_are_safe();
     match read_task(alloc, words, devices.count()) {
@@ -91,27 +72,7 @@ pub fn run_task<R, S: Source, K: Sink<D>, D: Devices + Send, G: Gate + Sync>(
     ensures { (arguments : List (List ℕ))
         → task_of (length (D.state devices).sizes) arguments ≡ Some task
         → Headline S.tells K.tells D.tells K.held K.given_at
-        (record {
-          arguments = arguments;
-          streams = record { left = S.left source.old; left_after = S.left source.new; held = K.held sink.old; held_after = K.held sink.new };
-          faults = record {
-            source = S.faults source.old;
-            source_after = S.faults source.new;
-            sink = K.faults sink.old;
-            sink_after = K.faults sink.new;
-          };
-          sink = sink.old;
-          sink_after = sink.new;
-          devices = devices;
-          devices_after = result.devices;
-          state = D.state devices;
-          state_after = D.state result.devices;
-          status = result.status;
-          early_end = result.early_end;
-          trace = result.trace;
-          acks = result.acks;
-          shorts = result.shorts;
-        }) }
+        (run_of S.left S.faults K.held K.faults D.state arguments source.old source.new sink.old sink.new devices result) }
 {
     runs_are_safe();
     match task {
@@ -225,27 +186,7 @@ fn run_script<S: Source, K: Sink<D>, D: Devices, G: Gate>(
 ) -> Ended<D>
     ensures { (arguments : List (List ℕ)) → IsRun arguments (D.state devices).sizes
         → Headline S.tells K.tells D.tells K.held K.given_at
-        (record {
-          arguments = arguments;
-          streams = record { left = S.left source.old; left_after = S.left source.new; held = K.held sink.old; held_after = K.held sink.new };
-          faults = record {
-            source = S.faults source.old;
-            source_after = S.faults source.new;
-            sink = K.faults sink.old;
-            sink_after = K.faults sink.new;
-          };
-          sink = sink.old;
-          sink_after = sink.new;
-          devices = devices;
-          devices_after = result.devices;
-          state = D.state devices;
-          state_after = D.state result.devices;
-          status = result.status;
-          early_end = result.early_end;
-          trace = result.trace;
-          acks = result.acks;
-          shorts = result.shorts;
-        }) }
+        (run_of S.left S.faults K.held K.faults D.state arguments source.old source.new sink.old sink.new devices result) }
 {
     runs_are_safe();
     let mut devices = devices;

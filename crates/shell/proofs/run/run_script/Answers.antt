@@ -4,7 +4,7 @@ use Rattle.vol_session.specs.Runs.{RunSurvives}
 use Rattle.shell.specs.Causes.{EarlyCause}
 use Rattle.shell.specs.Mounts.{OnlyReadUnmounted}
 use Rattle.shell.specs.Phases.{EndsUnopened, RunsOpened}
-use Rattle.shell.specs.Runs.{Run}
+use Rattle.shell.specs.Runs.{Run, run_of}
 use Rattle.shell.proofs.EndingEarly.{ended_early}
 use Rattle.shell.proofs.OpenedRuns.{ended_unopened, ran_opened}
 use Rattle.shell.proofs.run.run_script.Goals as goal
@@ -46,22 +46,7 @@ returns-in-Err g c arguments run =
     let ended = c.end_early.result in
     let left = S.left c.args.source.now in
     let old = D.state first in
-    let all : Run g.row.D.Denot g.row.K.Denot = record {
-      arguments = arguments;
-      streams = record { left = left; left_after = S.left c.prepare.new.source; held = K.held c.args.sink.now; held_after = K.held c.end_early.new.sink };
-      faults = record { source = S.faults c.args.source.now; source_after = S.faults c.prepare.new.source; sink = K.faults c.args.sink.now; sink_after = K.faults c.end_early.new.sink };
-      sink = c.args.sink.now;
-      sink_after = c.end_early.new.sink;
-      devices = first;
-      devices_after = ended.devices;
-      state = old;
-      state_after = D.state ended.devices;
-      status = ended.status;
-      early_end = ended.early_end;
-      trace = ended.trace;
-      acks = ended.acks;
-      shorts = ended.shorts;
-    } in
+    let all : Run g.row.D.Denot g.row.K.Denot = run_of S.left S.faults K.held K.faults D.state arguments c.args.source.now c.prepare.new.source c.args.sink.now c.end_early.new.sink first ended in
     ended_early S.tells K.tells D.tells K.held K.given_at all end early.ends
     (subst (λ d. EarlyCause S.tells D.tells arguments left old (D.state d) first d end) (sym early.devices) (c.in-Err.ensures.cause arguments run))
     c.in-Err.ensures.source
