@@ -105,7 +105,10 @@ impl<D: Devices, O: Opening> VolState<D, O> {
     {
         self.session.see_history();
         let _count = self.session.devices().count();
-        self.session.reserve()?;
+        if let Err(error) = self.session.reserve() {
+            drop(op);
+            return Err(error);
+        }
         let result = answer(self.alloc, &mut self.session, op);
         self.session.see_numbers();
         self.session.see_room();
