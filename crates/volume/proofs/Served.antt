@@ -234,6 +234,7 @@ module _ {D : Type 0} (state : D → DevicesState) where
     pub intended : IsIntended new.core.memory op
     pub unmade : IsUnmade new.core.memory answer
     pub moved : IsMoved state old new
+    pub volume : new.core.memory.volume ≡ old.core.memory.volume
 
   pub not_made : (op other : Op) (old new : SessionState D) (answer : Answer) (seen : State) → seen ≡ old.core.memory → IsState seen → IsUncommitted old.core.memory 0 answer new.core.memory → other ≡ op → new ≡ record old { core = new.core }
       → new.core.devices ≡ old.core.devices → IsIntended old.core.memory op → HasNotMade answer other old new
@@ -243,6 +244,7 @@ module _ {D : Type 0} (state : D → DevicesState) where
         intended = subst (λ (o : Op). IsIntended new.core.memory o) (sym is) (intended_still op old.core.memory new.core.memory still.keeps intended);
         unmade = still.unmade;
         moved = stepped_moves old new (record { rest = rest; volume = still.volume; devices = devices });
+        volume = still.volume;
       }
 
   -- Works on what is durable that didn't fail moved the session.

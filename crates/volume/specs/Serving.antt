@@ -1,10 +1,11 @@
 -- How the parts of a call move a session, and what an operation leaves of it.
-use Rattle.std.specs.Prelude.{◌≡◌, ℕ, ◌<◌, ◌≤◌, ⊤, true, Option, Some, None, IsSome, List, [], ◌∷◌, ◌++◌, length}
+use Rattle.std.specs.Prelude.{◌≡◌, ◌⊎◌, ℕ, ◌<◌, ◌≤◌, ⊤, Bool, true, false, not, Option, Some, None, IsSome, List, [], ◌∷◌, ◌++◌, length}
 use Rattle.btree_map.specs.Trees.{keys_in}
 use Rattle.core_state.specs.Commits.{AreIntended}
 use Rattle.core_state.specs.Events.{intended_by}
 use Rattle.core_state.specs.Rulings.{IsRefused}
 use Rattle.core_state.specs.States.{State, mine, other_holder}
+use Rattle.core_state.specs.Volumes.{Volume}
 use Rattle.core_state.specs.declared.answer.Answer.{Answer}
 use Rattle.core_state.specs.declared.answer.Answer.TheVariants as answers
 use Rattle.core_state.specs.declared.answer.Halt.{Halt as MemoryHalt}
@@ -23,6 +24,7 @@ use Rattle.fs_plan.specs.Plans.{is_planned}
 use Rattle.key_meaning.specs.Forest.{Read, forest_in}
 use Rattle.plain_forest.specs.Forest.{Forest}
 use Rattle.forest_ops.specs.declared.halt.Halt.{Halt}
+use Rattle.vol_core.specs.Rested.{IsRested}
 use Rattle.vol_session.specs.Sessions.{IfSoundKeys, IsPlanNow, SessionState}
 use Rattle.vol_session.specs.declared.writeback_end.WritebackEnd.{WritebackEnd}
 use Rattle.vol_session.specs.declared.writeback_end.WritebackEnd.TheVariants as stops
@@ -110,6 +112,21 @@ abbrev pub IsUnmade : State → Answer → Type 0
 IsUnmade memory (answers.Refused refusal) = IsRefused memory.volume (intended_by memory 0) true refusal
 IsUnmade memory answers.NoMemory = ⊤
 IsUnmade memory other = ⊥
+
+-- whether a checkpoint may make the room that a refused commit lacks: in the ring, or in buckets, where it would free some
+abbrev pub lacks_room : Refusal → Bool
+lacks_room (refusals.RingFull full) = true
+lacks_room (refusals.NoSpace none) = not none.idle
+lacks_room other = false
+
+-- whether a commit that is answered so may be made after a checkpoint
+abbrev pub may_be_helped : Answer → Bool
+may_be_helped (answers.Refused refusal) = lacks_room refusal
+may_be_helped other = false
+
+-- A checkpoint doesn't help a commit: none would, or both works rest.
+abbrev pub IsHelpless : Volume → Bool → Type 0
+IsHelpless volume may_help = (may_help ≡ false) ⊎ IsRested volume
 
 -- The reply to a change tells why a checkpoint ended early; want of memory is told by none.
 abbrev pub TellsStop : WritebackEnd → Reply → Type 0

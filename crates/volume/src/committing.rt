@@ -7,7 +7,7 @@ ghost use Rattle.forest_ops.specs.declared.operation.Reply.TheVariants.{Okay};
 ghost use Rattle.vol_core.specs.Rested.{IsRested};
 ghost use Rattle.vol_session.specs.Sessions.{IsPlanNow};
 ghost use Rattle.vol_session.specs.Writeback.{stopped_by};
-ghost use Rattle.volume.specs.Serving.{IsChange, IsDoneNow, IsEntered, IsIntended, IsServed, IsStepped, IsUnderWay, IsUnmade, IsUnserved, TellsStop};
+ghost use Rattle.volume.specs.Serving.{IsChange, IsDoneNow, IsEntered, IsHelpless, IsIntended, IsServed, IsStepped, IsUnderWay, IsUnmade, IsUnserved, TellsStop, lacks_room, may_be_helped};
 ghost use Rattle.volume.specs.States.{IsAtRest};
 
 use crate::serving::{end, fail, lack, nothing_short};
@@ -97,6 +97,48 @@ fn settle<D: Devices, O: Opening>(
     // What isn't handed on is dropped by name, here and below: that spares the proof the drop of each variant on each way out.
     let Uncommitted { answer, op, reply } = not;
     drop(reply);
+    if may_be_helped(&answer) {
+        drop(answer);
+        return try_again(alloc, session, op);
+    }
+    fail_uncommitted(alloc, session, op, answer)
+}
+
+// Whether a commit that is answered so may be made after a checkpoint.
+fn may_be_helped(answer: &Answer) -> bool
+    ensures { result ≡ may_be_helped answer.now }
+{
+    match answer {
+        Answer::Refused(refusal) => lacks_room(refusal),
+        _ => false,
+    }
+}
+
+// Whether a checkpoint may make the room that a refused commit lacks: in the ring, or in buckets, where it would free some.
+fn lacks_room(refusal: &Refusal) -> bool
+    ensures { result ≡ lacks_room refusal.now }
+{
+    match refusal {
+        Refusal::RingFull(_) => true,
+        Refusal::NoSpace(none) => !none.idle,
+        _ => false,
+    }
+}
+
+// A change that wasn't committed fails, since a checkpoint doesn't help, or both works rest.
+fn fail_uncommitted<D: Devices, O: Opening>(
+    alloc: Global,
+    session: &mut Session<D, O>,
+    op: Op,
+    answer: Answer,
+) -> Result<Reply, AllocError>
+    requires spare { 0 < session.old.spare }
+    requires intended { IsIntended session.old.core.memory op }
+    requires unmade { IsUnmade session.old.core.memory answer }
+    requires helpless { IsHelpless session.old.core.memory.volume (may_be_helped answer) }
+    ensures served { IfOk result (λ reply. IsServed D.state op reply session.old session.new) }
+    ensures unserved { OnErr result (IsUnserved D.state session.old session.new) }
+{
     match answer {
         Answer::Refused(refusal) => refuse(alloc, session, op, refusal),
         Answer::NoMemory => {
@@ -108,7 +150,7 @@ fn settle<D: Devices, O: Opening>(
     }
 }
 
-// The commit of a change is refused.
+// The commit of a change is refused, and a checkpoint doesn't help, or both works rest.
 fn refuse<D: Devices, O: Opening>(
     alloc: Global,
     session: &mut Session<D, O>,
@@ -119,6 +161,7 @@ fn refuse<D: Devices, O: Opening>(
     requires intended { IsIntended session.old.core.memory op }
     requires refused { IsRefused session.old.core.memory.volume
         (intended_by session.old.core.memory 0) true refusal }
+    requires helpless { IsHelpless session.old.core.memory.volume (lacks_room refusal) }
     ensures served { IfOk result (λ reply. IsServed D.state op reply session.old session.new) }
     ensures unserved { OnErr result (IsUnserved D.state session.old session.new) }
 {
@@ -126,13 +169,8 @@ fn refuse<D: Devices, O: Opening>(
         Refusal::Halted(halt) => Ok(fail_halted(session, op, halt)),
         Refusal::Spent => Ok(fail_spent(session, op)),
         Refusal::NeedSplit(_) => lack(alloc, session, op, nothing_short(alloc)),
-        Refusal::RingFull(_) => try_again(alloc, session, op),
-        Refusal::NoSpace(none) => {
-            if none.idle {
-                return lack(alloc, session, op, none.short);
-            }
-            try_again(alloc, session, op)
-        }
+        Refusal::RingFull(_) => lack(alloc, session, op, nothing_short(alloc)),
+        Refusal::NoSpace(none) => lack(alloc, session, op, none.short),
     }
 }
 
@@ -168,57 +206,11 @@ fn commit_at_rest<D: Devices, O: Opening>(
     session.memory().see_kept();
     match session.commit(op, Reply::Okay) {
         Ok(()) => Ok(Reply::Okay),
-        Err(not) => settle_at_rest(alloc, session, not),
-    }
-}
-
-// A change wasn't committed though both works rest, so it fails.
-fn settle_at_rest<D: Devices, O: Opening>(
-    alloc: Global,
-    session: &mut Session<D, O>,
-    not: Uncommitted,
-) -> Result<Reply, AllocError>
-    requires spare { 0 < session.old.spare }
-    requires intended { IsIntended session.old.core.memory not.op }
-    requires unmade { IsUnmade session.old.core.memory not.answer }
-    requires rested { IsRested session.old.core.memory.volume }
-    ensures served { IfOk result (λ reply. IsServed D.state not.op reply session.old session.new) }
-    ensures unserved { OnErr result (IsUnserved D.state session.old session.new) }
-{
-    let Uncommitted { answer, op, reply } = not;
-    drop(reply);
-    match answer {
-        Answer::Refused(refusal) => refuse_at_rest(alloc, session, op, refusal),
-        Answer::NoMemory => {
-            end(session);
-            drop(op);
-            Err(AllocError)
+        Err(not) => {
+            let Uncommitted { answer, op, reply } = not;
+            drop(reply);
+            fail_uncommitted(alloc, session, op, answer)
         }
-        _ => unreachable!(),
-    }
-}
-
-// The commit of a change is refused though both works rest.
-fn refuse_at_rest<D: Devices, O: Opening>(
-    alloc: Global,
-    session: &mut Session<D, O>,
-    op: Op,
-    refusal: Refusal,
-) -> Result<Reply, AllocError>
-    requires spare { 0 < session.old.spare }
-    requires intended { IsIntended session.old.core.memory op }
-    requires refused { IsRefused session.old.core.memory.volume
-        (intended_by session.old.core.memory 0) true refusal }
-    requires rested { IsRested session.old.core.memory.volume }
-    ensures served { IfOk result (λ reply. IsServed D.state op reply session.old session.new) }
-    ensures unserved { OnErr result (IsUnserved D.state session.old session.new) }
-{
-    match refusal {
-        Refusal::Halted(halt) => Ok(fail_halted(session, op, halt)),
-        Refusal::Spent => Ok(fail_spent(session, op)),
-        Refusal::NeedSplit(_) => lack(alloc, session, op, nothing_short(alloc)),
-        Refusal::RingFull(_) => lack(alloc, session, op, nothing_short(alloc)),
-        Refusal::NoSpace(none) => lack(alloc, session, op, none.short),
     }
 }
 
