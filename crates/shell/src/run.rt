@@ -51,9 +51,13 @@ pub fn run_words<R, S: Source, K: Sink<D>, D: Devices + Send, G: Gate + Sync>(
         (run_of S.left S.faults K.held K.faults D.state (map rc_str_bytes words.now) source.old source.new sink.old sink.new devices result) }
 {
     runs_are_safe();
-    match read_task(alloc, words, devices.count()) {
+    let read = read_task(alloc, words, devices.count());
+    match read {
         Ok(task) => run_task(rt, alloc, task, source, sink, devices, gate),
-        Err(fault) => end_early(alloc, EarlyEnd::from(fault), sink, devices),
+        Err(fault) => {
+            drop(read);
+            end_early(alloc, EarlyEnd::from(fault), sink, devices)
+        }
     }
 }
 
@@ -79,8 +83,16 @@ pub fn run_task<R, S: Source, K: Sink<D>, D: Devices + Send, G: Gate + Sync>(
         Task::Run => run_script(alloc, source, sink, devices, gate),
         Task::Info => inform(alloc, sink, devices),
         Task::Format(layout) => match formatted_line(alloc, &layout) {
-            Ok(line) => format_devices(alloc, &layout, &line, sink, devices),
-            Err(_) => end_early(alloc, EarlyEnd::OutOfMemory, sink, devices),
+            Ok(line) => {
+                let ended = format_devices(alloc, &layout, &line, sink, devices);
+                drop(line);
+                drop(layout);
+                ended
+            }
+            Err(_) => {
+                drop(layout);
+                end_early(alloc, EarlyEnd::OutOfMemory, sink, devices)
+            }
         },
     }
 }
@@ -171,7 +183,11 @@ fn inform<K: Sink<D>, D: Devices>(alloc: Global, sink: &mut K, devices: D) -> En
 {
     let mut devices = devices;
     match info_text(alloc, &mut devices) {
-        Ok(text) => end_told(alloc, &text, sink, devices),
+        Ok(text) => {
+            let ended = end_told(alloc, &text, sink, devices);
+            drop(text);
+            ended
+        }
         Err(end) => end_early(alloc, end, sink, devices),
     }
 }
@@ -190,9 +206,13 @@ fn run_script<S: Source, K: Sink<D>, D: Devices, G: Gate>(
 {
     runs_are_safe();
     let mut devices = devices;
-    match prepare(alloc, source, &mut devices) {
+    let planned = prepare(alloc, source, &mut devices);
+    match planned {
         Ok(plan) => run_plan::<K, D, G, Brand>(alloc, plan, sink, devices, gate),
-        Err(end) => end_early(alloc, end, sink, devices),
+        Err(end) => {
+            drop(planned);
+            end_early(alloc, end, sink, devices)
+        }
     }
 }
 
@@ -216,8 +236,15 @@ fn run_plan<K: Sink<D>, D: Devices, G: Gate, O: Opening>(
 {
     let Plan { script, loaded } = plan;
     match VolState::<D, O>::start(alloc, loaded, devices) {
-        Ok(volume) => run_opened(alloc, volume, script.as_slice(), sink, gate),
-        Err(unopened) => end_early(alloc, EarlyEnd::OutOfMemory, sink, unopened.devices),
+        Ok(volume) => {
+            let ended = run_opened(alloc, volume, script.as_slice(), sink, gate);
+            drop(script);
+            ended
+        }
+        Err(unopened) => {
+            drop(script);
+            end_early(alloc, EarlyEnd::OutOfMemory, sink, unopened.devices)
+        }
     }
 }
 
@@ -241,6 +268,7 @@ fn run_opened<K: Sink<D>, D: Devices, G: Gate, O: Opening>(
     let mut page = Page::new(alloc);
     run_lines(&mut volume, script, gate, &mut page, sink);
     let status = end_run(&mut volume, &mut page, sink);
+    drop(page);
     let Finished {
         devices,
         trace,

@@ -32,14 +32,14 @@ formatted_line-requires g c =
     let fits : Fits (length sizes) c.in-Format.layout = format_fits (length sizes) c.requires.arguments c.in-Format.layout (c.requires.asked ∙ ap (λ (task : Task). Some task) c.in-Format.is) in
     fits.some
 
-pub format_devices-requires-clause-layout : goal.format_devices-requires-clause-layout
-format_devices-requires-clause-layout g c =
+pub format_devices-ended-requires-clause-layout : goal.format_devices-ended-requires-clause-layout
+format_devices-ended-requires-clause-layout g c =
     let sizes = (g.D.Devices.state c.args.devices).sizes in
     let fits : Fits (length sizes) c.in-Format.layout = format_fits (length sizes) c.requires.arguments c.in-Format.layout (c.requires.asked ∙ ap (λ (task : Task). Some task) c.in-Format.is) in
     fits.is
 
-pub format_devices-requires-clause-count : goal.format_devices-requires-clause-count
-format_devices-requires-clause-count g c =
+pub format_devices-ended-requires-clause-count : goal.format_devices-ended-requires-clause-count
+format_devices-ended-requires-clause-count g c =
     let sizes = (g.D.Devices.state c.args.devices).sizes in
     let fits : Fits (length sizes) c.in-Format.layout = format_fits (length sizes) c.requires.arguments c.in-Format.layout (c.requires.asked ∙ ap (λ (task : Task). Some task) c.in-Format.is) in
     fits.count
@@ -50,10 +50,10 @@ returns-in-Ok g c arguments asked =
     let S = g.S.Source in
     let K = g.K.Sink in
     let layout = c.in-Format.layout in
-    let ended = c.format_devices.result in
+    let ended = c.format_devices-ended.result in
     let format : IsFormat arguments (D.state c.args.devices).sizes layout = asked ∙ ap (λ (task : Task). Some task) c.in-Format.is in
-    let all : Run g.row.D.Denot g.row.K.Denot = run_of S.left S.faults K.held K.faults D.state arguments c.args.source.now c.args.source.now c.args.sink.now c.format_devices.new.sink c.args.devices ended in
-    formatted S.tells K.tells D.tells K.held K.given_at all layout format c.format_devices.ensures.formats refl refl c.format_devices.ensures.shorts
+    let all : Run g.row.D.Denot g.row.K.Denot = run_of S.left S.faults K.held K.faults D.state arguments c.args.source.now c.args.source.now c.args.sink.now c.format_devices-ended.new.sink c.args.devices ended in
+    formatted S.tells K.tells D.tells K.held K.given_at all layout format c.format_devices-ended.ensures.formats refl refl c.format_devices-ended.ensures.shorts
 
 pub returns : goal.returns
 returns g c arguments asked =
