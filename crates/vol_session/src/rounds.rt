@@ -27,8 +27,12 @@ pub(crate) fn ask<D: Devices, O: Opening>(session: &mut Session<D, O>, work: Wor
     ensures goes { GoesWell D.state session.old session.new }
 {
     see(session);
-    match session.step(Event::Next(work)) {
-        Answer::At { stage, durable } => (stage, durable),
+    let answer = session.step(Event::Next(work));
+    match answer {
+        Answer::At { stage, durable } => {
+            drop(answer);
+            (stage, durable)
+        }
         _ => unreachable!(),
     }
 }
@@ -121,10 +125,19 @@ fn outcome_of(answer: Answer) -> Result<(), WritebackEnd>
     ensures { result ≡ outcome_of answer }
 {
     match answer {
-        Answer::Done => Ok(()),
+        Answer::Done => {
+            drop(answer);
+            Ok(())
+        }
         Answer::Refused(refusal) => Err(stop_of(refusal)),
-        Answer::DeviceFault(dev) => Err(WritebackEnd::DeviceFault(dev)),
-        Answer::NoMemory => Err(WritebackEnd::NoMemory),
+        Answer::DeviceFault(dev) => {
+            drop(answer);
+            Err(WritebackEnd::DeviceFault(dev))
+        }
+        Answer::NoMemory => {
+            drop(answer);
+            Err(WritebackEnd::NoMemory)
+        }
         Answer::Found(_) | Answer::Ids(_) | Answer::At { .. } | Answer::Wait { .. } => {
             unreachable!()
         }
@@ -136,8 +149,14 @@ fn stop_of(refusal: Refusal) -> WritebackEnd
     ensures { result ≡ stop_of refusal }
 {
     match refusal {
-        Refusal::Halted(halt) => WritebackEnd::Halted(halt),
-        Refusal::Spent => WritebackEnd::Spent,
+        Refusal::Halted(halt) => {
+            drop(refusal);
+            WritebackEnd::Halted(halt)
+        }
+        Refusal::Spent => {
+            drop(refusal);
+            WritebackEnd::Spent
+        }
         Refusal::NoSpace(none) => WritebackEnd::NoSpace(none),
         Refusal::RingFull(full) => WritebackEnd::Foreign(Refusal::RingFull(full)),
         Refusal::NeedSplit(need) => WritebackEnd::Foreign(Refusal::NeedSplit(need)),

@@ -181,8 +181,10 @@ impl<D: Devices, O: Opening> Session<D, O> {
     {
         waiting_changes_lead_from_durable_keys();
         self.core.memory().see_kept();
-        match self.core.step(0, Event::Commit { counted: true }) {
+        let given = self.core.step(0, Event::Commit { counted: true });
+        match given {
             Answer::Done => {
+                drop(given);
                 // The count of commits since format is one of 64 bits, and no less.
                 self.core.memory().see_kept();
                 self.commits += 1;

@@ -33,11 +33,9 @@ pub(crate) fn make<D: Devices, O: Opening>(
     ensures served { IfOk result (λ reply. IsServed D.state plan.op reply session.old session.new) }
     ensures unserved { OnErr result (IsUnserved D.state session.old session.new) }
 {
-    let Plan {
-        op,
-        updates,
-        reply: _reply,
-    } = plan;
+    // What isn't handed on is dropped by name, here and below: that spares the proof the drop of each variant on each way out.
+    let Plan { op, updates, reply } = plan;
+    drop(reply);
     if !intend(session, updates) {
         return lack(alloc, session, op, nothing_short(alloc));
     }
@@ -60,7 +58,7 @@ fn intend<D: Devices, O: Opening>(session: &mut Session<D, O>, updates: Updates)
     if !session.memory().may(0, &intent) {
         return false;
     }
-    session.step(intent);
+    drop(session.step(intent));
     true
 }
 
@@ -76,8 +74,12 @@ fn commit<D: Devices, O: Opening>(
     ensures unserved { OnErr result (IsUnserved D.state session.old session.new) }
 {
     session.memory().see_kept();
-    match session.commit(op, Reply::Okay) {
-        Ok(()) => Ok(Reply::Okay),
+    let committed = session.commit(op, Reply::Okay);
+    match committed {
+        Ok(()) => {
+            drop(committed);
+            Ok(Reply::Okay)
+        }
         Err(not) => settle(alloc, session, not),
     }
 }
@@ -94,7 +96,6 @@ fn settle<D: Devices, O: Opening>(
     ensures served { IfOk result (λ reply. IsServed D.state not.op reply session.old session.new) }
     ensures unserved { OnErr result (IsUnserved D.state session.old session.new) }
 {
-    // What isn't handed on is dropped by name, here and below: that spares the proof the drop of each variant on each way out.
     let Uncommitted { answer, op, reply } = not;
     drop(reply);
     if may_be_helped(&answer) {
@@ -143,6 +144,7 @@ fn fail_uncommitted<D: Devices, O: Opening>(
         Answer::Refused(refusal) => refuse(alloc, session, op, refusal),
         Answer::NoMemory => {
             end(session);
+            drop(answer);
             drop(op);
             Err(AllocError)
         }
@@ -166,10 +168,22 @@ fn refuse<D: Devices, O: Opening>(
     ensures unserved { OnErr result (IsUnserved D.state session.old session.new) }
 {
     match refusal {
-        Refusal::Halted(halt) => Ok(fail_halted(session, op, halt)),
-        Refusal::Spent => Ok(fail_spent(session, op)),
-        Refusal::NeedSplit(_) => lack(alloc, session, op, nothing_short(alloc)),
-        Refusal::RingFull(_) => lack(alloc, session, op, nothing_short(alloc)),
+        Refusal::Halted(halt) => {
+            drop(refusal);
+            Ok(fail_halted(session, op, halt))
+        }
+        Refusal::Spent => {
+            drop(refusal);
+            Ok(fail_spent(session, op))
+        }
+        Refusal::NeedSplit(_) => {
+            drop(refusal);
+            lack(alloc, session, op, nothing_short(alloc))
+        }
+        Refusal::RingFull(_) => {
+            drop(refusal);
+            lack(alloc, session, op, nothing_short(alloc))
+        }
         Refusal::NoSpace(none) => lack(alloc, session, op, none.short),
     }
 }
@@ -204,8 +218,12 @@ fn commit_at_rest<D: Devices, O: Opening>(
     ensures unserved { OnErr result (IsUnserved D.state session.old session.new) }
 {
     session.memory().see_kept();
-    match session.commit(op, Reply::Okay) {
-        Ok(()) => Ok(Reply::Okay),
+    let committed = session.commit(op, Reply::Okay);
+    match committed {
+        Ok(()) => {
+            drop(committed);
+            Ok(Reply::Okay)
+        }
         Err(not) => {
             let Uncommitted { answer, op, reply } = not;
             drop(reply);
@@ -231,15 +249,26 @@ fn give_up<D: Devices, O: Opening>(
 {
     match stop {
         WritebackEnd::DeviceFault(dev) => {
+            drop(stop);
             fail(session, op, Reply::DeviceFault(dev));
             Ok(Reply::DeviceFault(dev))
         }
-        WritebackEnd::Halted(halt) => Ok(fail_halted(session, op, halt)),
-        WritebackEnd::Spent => Ok(fail_spent(session, op)),
+        WritebackEnd::Halted(halt) => {
+            drop(stop);
+            Ok(fail_halted(session, op, halt))
+        }
+        WritebackEnd::Spent => {
+            drop(stop);
+            Ok(fail_spent(session, op))
+        }
         WritebackEnd::NoSpace(none) => lack(alloc, session, op, none.short),
-        WritebackEnd::Foreign(_) => lack(alloc, session, op, nothing_short(alloc)),
+        WritebackEnd::Foreign(_) => {
+            drop(stop);
+            lack(alloc, session, op, nothing_short(alloc))
+        }
         WritebackEnd::NoMemory => {
             end(session);
+            drop(stop);
             drop(op);
             Err(AllocError)
         }

@@ -92,10 +92,12 @@ fn stop_sync<D: Devices, O: Opening>(
 {
     match stop {
         WritebackEnd::DeviceFault(dev) => {
+            drop(stop);
             session.tell(Op::Sync, Reply::DeviceFault(dev));
             Ok(Reply::DeviceFault(dev))
         }
         WritebackEnd::Halted(halt) => {
+            drop(stop);
             session.tell(
                 Op::Sync,
                 Reply::Halted {
@@ -109,14 +111,19 @@ fn stop_sync<D: Devices, O: Opening>(
             })
         }
         WritebackEnd::Spent => {
+            drop(stop);
             session.tell(Op::Sync, Reply::Spent);
             Ok(Reply::Spent)
         }
         WritebackEnd::Foreign(_) => {
+            drop(stop);
             session.tell(Op::Sync, Reply::Spent);
             Ok(Reply::Spent)
         }
-        WritebackEnd::NoMemory => Err(AllocError),
+        WritebackEnd::NoMemory => {
+            drop(stop);
+            Err(AllocError)
+        }
         WritebackEnd::NoSpace(_) => unreachable!(),
     }
 }
@@ -184,11 +191,8 @@ fn tell<D: Devices, O: Opening>(session: &mut Session<D, O>, plan: Plan)
     requires now { IsPlanNow session.old.core.memory 0 plan }
     ensures { IsEntered plan.op plan.reply session.old session.new }
 {
-    let Plan {
-        op,
-        updates: _updates,
-        reply,
-    } = plan;
+    let Plan { op, updates, reply } = plan;
+    drop(updates);
     session.tell(op, reply);
     end(session);
 }
@@ -200,7 +204,7 @@ fn begin<D: Devices, O: Opening>(session: &mut Session<D, O>)
     ensures under { IsUnderWay session.new.core.memory }
 {
     session.memory().see_kept();
-    session.step(Event::Begin { first: true });
+    drop(session.step(Event::Begin { first: true }));
 }
 
 /// Client 0 ends its operation.
@@ -210,7 +214,7 @@ pub(crate) fn end<D: Devices, O: Opening>(session: &mut Session<D, O>)
     ensures rest { IsAtRest session.new.core.memory }
 {
     session.memory().see_kept();
-    session.step(Event::Finish);
+    drop(session.step(Event::Finish));
 }
 
 /// The operation of client 0 fails: its reply joins the history, and it has ended. It takes no memory.
