@@ -89,7 +89,10 @@ pub(crate) fn make<D: Devices, O: Opening>(
 }
 
 // Makes an event that is due.
-fn make_event<D: Devices, O: Opening>(session: &mut Session<D, O>, event: Event) -> Result<(), WritebackEnd>
+fn make_event<D: Devices, O: Opening>(
+    session: &mut Session<D, O>,
+    event: Event,
+) -> Result<(), WritebackEnd>
     requires fits { Fits session.old.core.memory 0 event }
     requires due { IsDue event session.old.core.memory.volume }
     ensures goes { Goes D.state result session.old session.new }

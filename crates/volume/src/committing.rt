@@ -16,7 +16,7 @@ use forest_ops::{Op, Reply};
 use fs_plan::Plan;
 use std::alloc::{AllocError, Global};
 use vol_core::{Answer, Event, Halt, Opening, Refusal};
-use vol_session::{Session, WritebackEnd, Uncommitted, checkpoint};
+use vol_session::{Session, Uncommitted, WritebackEnd, checkpoint};
 use vol_types::Updates;
 
 /// Makes the change that a plan of client 0's operation says. Where the journal or the buckets are short, a checkpoint is made first.
