@@ -16,9 +16,16 @@ pub fn judge_arguments(alloc: Global, arguments: &[RcStr], images: u8) -> Result
     ensures cause { (refusal : Refusal) → result ≡ Err refusal → (refusal ≡ Memory)
         ⊎ ((refusal ≡ Usage) × (task_of images (map rc_str_bytes arguments.now) ≡ None)) }
 {
-    match read_task(alloc, arguments, images) {
+    let read = read_task(alloc, arguments, images);
+    match read {
         Ok(task) => Ok(task),
-        Err(WordsFault::Usage) => Err(Refusal::Usage),
-        Err(WordsFault::NoMemory) => Err(Refusal::Memory),
+        Err(WordsFault::Usage) => {
+            drop(read);
+            Err(Refusal::Usage)
+        }
+        Err(WordsFault::NoMemory) => {
+            drop(read);
+            Err(Refusal::Memory)
+        }
     }
 }

@@ -67,15 +67,15 @@ fn run<R: Files<File = File> + Env + AllocGlobal + Print + Eprint, I: Read + Dro
 
 // The refusal, of which standard error has its sentence.
 fn advised<R: Eprint>(rt: &R, refusal: Refusal, arguments: &[RcStr], images: &[RcStr]) -> Refusal {
-    let _ = rt.eprintln(RefusalAdvice {
+    drop(rt.eprintln(RefusalAdvice {
         refusal,
         arguments,
         images,
-    });
+    }));
     refusal
 }
 
-// Judges the arguments, opens and locks the images, and does what is asked for on them.
+// Does what the arguments ask for on the images, and lets the input and the output go.
 fn run_on<
     R: Files<File = File> + Env + AllocGlobal + Print + Eprint,
     I: Read + Drop,
@@ -88,24 +88,45 @@ fn run_on<
     input: I,
     output: O,
 ) -> Result<u8, Refusal> {
+    let mut source = StdSource::new(input);
+    let mut sink = StdSink::new(output);
+    let status = run_over(rt, alloc, arguments, images, &mut source, &mut sink);
+    drop(sink);
+    drop(source);
+    status
+}
+
+// Judges the arguments, opens and locks the images, and does what is asked for on them.
+fn run_over<R: Files<File = File> + Env + AllocGlobal + Print + Eprint, I: Read, O: Write>(
+    rt: &R,
+    alloc: Global,
+    arguments: &[RcStr],
+    images: &[RcStr],
+    source: &mut StdSource<I>,
+    sink: &mut StdSink<O>,
+) -> Result<u8, Refusal> {
     if images.is_empty() || images.len() > MOST_DEVICES {
         return Err(Refusal::Usage);
     }
     let task = judge_arguments(alloc, arguments, count_of(images))?;
     let mut devices = open_devices(rt, alloc, images)?;
-    devices.lock()?;
+    if let Err(fault) = devices.lock() {
+        drop(devices);
+        drop(task);
+        return Err(Refusal::from(fault));
+    }
     say_what_is_lost(rt, &task, &mut devices, images);
-    let mut source = StdSource::new(input);
-    let mut sink = StdSink::new(output);
-    let ended = run_task(rt, alloc, task, &mut source, &mut sink, devices, &NoGate);
+    let ended = run_task(rt, alloc, task, source, sink, devices, &NoGate);
+    let status = ended.status;
     if let Some(end) = ended.early_end {
-        let _ = rt.eprintln(Advice {
+        drop(rt.eprintln(Advice {
             end,
             arguments,
             images,
-        });
+        }));
     }
-    Ok(ended.status)
+    drop(ended);
+    Ok(status)
 }
 
 // How many images there are.

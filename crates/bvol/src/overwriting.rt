@@ -47,7 +47,7 @@ pub fn say_what_is_lost<R: Eprint, D: Devices>(
         }
         if let Some(volume) = volume_on(devices, dev as u8) {
             let image = image.as_str();
-            let _ = rt.eprintln(Overwritten { image, volume });
+            drop(rt.eprintln(Overwritten { image, volume }));
         }
     }
 }

@@ -5,6 +5,7 @@ use Rattle.dev_model.specs.Devices.{DevicesState}
 use Rattle.forest_ops.specs.History.{History}
 use Rattle.forest_ops.specs.declared.acks.Ack.{Ack}
 use Rattle.shell.specs.declared.early_end.EarlyEnd.{EarlyEnd}
+use Rattle.shell.specs.declared.ended.Ended.{Ended}
 
 -- what the source had left, before a run and after it, and what the sink held, where they tell it
 pub record Streams : Type 0 where
@@ -36,3 +37,23 @@ pub record Run (D K : Type 0) : Type 0 where
   pub trace : History
   pub acks : List Ack
   pub shorts : List (ℕ × Short)
+
+-- the run of a task that ended so, by what its source has left and its sink holds, by how often each has failed, and by what its devices show
+abbrev pub run_of : {S K D : Type 0} → (left : S → List ℕ) (source_faults : S → ℕ) (held : K → List ℕ) (sink_faults : K → ℕ) (state : D → DevicesState)
+    → (arguments : List (List ℕ)) (source source_after : S) (sink sink_after : K) (devices : D) (ended : Ended D) → Run D K
+run_of left source_faults held sink_faults state arguments source source_after sink sink_after devices ended = record {
+  arguments = arguments;
+  streams = record { left = left source; left_after = left source_after; held = held sink; held_after = held sink_after };
+  faults = record { source = source_faults source; source_after = source_faults source_after; sink = sink_faults sink; sink_after = sink_faults sink_after };
+  sink = sink;
+  sink_after = sink_after;
+  devices = devices;
+  devices_after = ended.devices;
+  state = state devices;
+  state_after = state ended.devices;
+  status = ended.status;
+  early_end = ended.early_end;
+  trace = ended.trace;
+  acks = ended.acks;
+  shorts = ended.shorts;
+}

@@ -13,7 +13,7 @@ use text_io::{Sink, TakeFault, give_all};
 use vol_types::{Failed, Place};
 
 /// Why the volume on devices isn't opened.
-#[derive(Clone, Copy, PartialEq, Eq)]
+#[derive(Clone, Copy)]
 pub enum Refusal {
     /// A device has no superblock.
     NoSuper,
@@ -34,7 +34,7 @@ pub enum Refusal {
 }
 
 /// Why nothing is run, told or formatted.
-#[derive(Clone, Copy, PartialEq, Eq)]
+#[derive(Clone, Copy)]
 pub enum EarlyEnd {
     /// The arguments are no command, or ask for a layout that no volume may have.
     Usage,

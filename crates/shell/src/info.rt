@@ -17,7 +17,9 @@ pub fn info_text<D: Devices>(alloc: Global, devices: &mut D) -> Result<Bytes, Ea
     ensures read { AreOnlyRead D.tells (D.state devices.old) (D.state devices.new) }
 {
     let facts = read_facts(alloc, devices)?;
-    match facts_text(alloc, &facts) {
+    let text = facts_text(alloc, &facts);
+    drop(facts);
+    match text {
         Ok(text) => Ok(text),
         Err(_) => Err(EarlyEnd::OutOfMemory),
     }

@@ -35,7 +35,10 @@ pub fn mount<D: Devices>(alloc: Global, devices: &mut D) -> Result<Loaded, Early
             loaded.session = session;
             Ok(loaded)
         }
-        Err(fault) => Err(unbegun(fault)),
+        Err(fault) => {
+            drop(loaded);
+            Err(unbegun(fault))
+        }
     }
 }
 

@@ -65,16 +65,21 @@ fn answer<K: Sink<D>, D: Devices, O: Opening>(
     ensures { RunsLines (forest_found O.found O.start) D.state D.tells K.tells K.held K.given_at
         K.faults (line.now ∷ []) volume.old volume.new page.old page.new sink.old sink.new }
 {
-    match ask(page.alloc, volume, op) {
-        Ok(reply) => print_reply(page, sink, volume.devices(), line.client, line.line, &reply),
-        Err(_) => print_reply(
-            page,
-            sink,
-            volume.devices(),
-            line.client,
-            line.line,
-            &Reply::NoMemory,
-        ),
+    let reply = reply_to(page.alloc, volume, op);
+    print_reply(page, sink, volume.devices(), line.client, line.line, &reply);
+    drop(reply);
+}
+
+// The reply to an operation.
+fn reply_to<D: Devices, O: Opening>(alloc: Global, volume: &mut VolState<D, O>, op: &Op) -> Reply
+    requires { is_planned op.now ≡ true }
+    ensures { AddsEntries (forest_found O.found O.start) D.state volume.old volume.new
+        (cons_option (entry_if_any 0 op.now result) [])
+        (cons_option (ack_by (D.state volume.new.core.devices).moment result) []) }
+{
+    match ask(alloc, volume, op) {
+        Ok(reply) => reply,
+        Err(_) => Reply::NoMemory,
     }
 }
 
@@ -100,10 +105,11 @@ pub fn final_sync<D: Devices, O: Opening>(volume: &mut VolState<D, O>, page: &mu
     ensures { RunsSync (forest_found O.found O.start) D.state volume.old volume.new page.old
         page.new }
 {
-    match ask(page.alloc, volume, &Op::Sync) {
-        Ok(reply) => page.note(&reply),
-        Err(_) => page.note(&Reply::NoMemory),
-    }
+    let sync = Op::Sync;
+    let reply = reply_to(page.alloc, volume, &sync);
+    page.note(&reply);
+    drop(reply);
+    drop(sync);
 }
 
 /// Gives the lines that have gathered to the sink, makes every commit durable, and prints the last line. The status of the

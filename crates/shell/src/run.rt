@@ -7,6 +7,7 @@ ghost use Rattle.shell.specs.Outcome.{early_line, early_status, formatted_line};
 ghost use Rattle.shell.specs.Tasks.{IsAsked, IsRun, task_of};
 ghost use Rattle.shell.specs.Lines.{AreRunLines};
 ghost use Rattle.shell.specs.Headline.{Headline};
+ghost use Rattle.shell.specs.Runs.{run_of};
 ghost use Rattle.shell.specs.Phases.{EndsEarly, EndsUnopened, Formats, RunsOpened, TellsFound, TellsNothing};
 
 use crate::early_end::{EarlyEnd, print_early_end, status_of};
@@ -47,32 +48,16 @@ pub fn run_words<R, S: Source, K: Sink<D>, D: Devices + Send, G: Gate + Sync>(
     gate: &G,
 ) -> Ended<D>
     ensures { Headline S.tells K.tells D.tells K.held K.given_at
-        (record {
-          arguments = map rc_str_bytes words.now;
-          streams = record { left = S.left source.old; left_after = S.left source.new; held = K.held sink.old; held_after = K.held sink.new };
-          faults = record {
-            source = S.faults source.old;
-            source_after = S.faults source.new;
-            sink = K.faults sink.old;
-            sink_after = K.faults sink.new;
-          };
-          sink = sink.old;
-          sink_after = sink.new;
-          devices = devices;
-          devices_after = result.devices;
-          state = D.state devices;
-          state_after = D.state result.devices;
-          status = result.status;
-          early_end = result.early_end;
-          trace = result.trace;
-          acks = result.acks;
-          shorts = result.shorts;
-        }) }
+        (run_of S.left S.faults K.held K.faults D.state (map rc_str_bytes words.now) source.old source.new sink.old sink.new devices result) }
 {
     runs_are_safe();
-    match read_task(alloc, words, devices.count()) {
+    let read = read_task(alloc, words, devices.count());
+    match read {
         Ok(task) => run_task(rt, alloc, task, source, sink, devices, gate),
-        Err(fault) => end_early(alloc, EarlyEnd::from(fault), sink, devices),
+        Err(fault) => {
+            drop(read);
+            end_early(alloc, EarlyEnd::from(fault), sink, devices)
+        }
     }
 }
 
@@ -91,35 +76,23 @@ pub fn run_task<R, S: Source, K: Sink<D>, D: Devices + Send, G: Gate + Sync>(
     ensures { (arguments : List (List ℕ))
         → task_of (length (D.state devices).sizes) arguments ≡ Some task
         → Headline S.tells K.tells D.tells K.held K.given_at
-        (record {
-          arguments = arguments;
-          streams = record { left = S.left source.old; left_after = S.left source.new; held = K.held sink.old; held_after = K.held sink.new };
-          faults = record {
-            source = S.faults source.old;
-            source_after = S.faults source.new;
-            sink = K.faults sink.old;
-            sink_after = K.faults sink.new;
-          };
-          sink = sink.old;
-          sink_after = sink.new;
-          devices = devices;
-          devices_after = result.devices;
-          state = D.state devices;
-          state_after = D.state result.devices;
-          status = result.status;
-          early_end = result.early_end;
-          trace = result.trace;
-          acks = result.acks;
-          shorts = result.shorts;
-        }) }
+        (run_of S.left S.faults K.held K.faults D.state arguments source.old source.new sink.old sink.new devices result) }
 {
     runs_are_safe();
     match task {
         Task::Run => run_script(alloc, source, sink, devices, gate),
         Task::Info => inform(alloc, sink, devices),
         Task::Format(layout) => match formatted_line(alloc, &layout) {
-            Ok(line) => format_devices(alloc, &layout, &line, sink, devices),
-            Err(_) => end_early(alloc, EarlyEnd::OutOfMemory, sink, devices),
+            Ok(line) => {
+                let ended = format_devices(alloc, &layout, &line, sink, devices);
+                drop(line);
+                drop(layout);
+                ended
+            }
+            Err(_) => {
+                drop(layout);
+                end_early(alloc, EarlyEnd::OutOfMemory, sink, devices)
+            }
         },
     }
 }
@@ -210,7 +183,11 @@ fn inform<K: Sink<D>, D: Devices>(alloc: Global, sink: &mut K, devices: D) -> En
 {
     let mut devices = devices;
     match info_text(alloc, &mut devices) {
-        Ok(text) => end_told(alloc, &text, sink, devices),
+        Ok(text) => {
+            let ended = end_told(alloc, &text, sink, devices);
+            drop(text);
+            ended
+        }
         Err(end) => end_early(alloc, end, sink, devices),
     }
 }
@@ -225,33 +202,17 @@ fn run_script<S: Source, K: Sink<D>, D: Devices, G: Gate>(
 ) -> Ended<D>
     ensures { (arguments : List (List ℕ)) → IsRun arguments (D.state devices).sizes
         → Headline S.tells K.tells D.tells K.held K.given_at
-        (record {
-          arguments = arguments;
-          streams = record { left = S.left source.old; left_after = S.left source.new; held = K.held sink.old; held_after = K.held sink.new };
-          faults = record {
-            source = S.faults source.old;
-            source_after = S.faults source.new;
-            sink = K.faults sink.old;
-            sink_after = K.faults sink.new;
-          };
-          sink = sink.old;
-          sink_after = sink.new;
-          devices = devices;
-          devices_after = result.devices;
-          state = D.state devices;
-          state_after = D.state result.devices;
-          status = result.status;
-          early_end = result.early_end;
-          trace = result.trace;
-          acks = result.acks;
-          shorts = result.shorts;
-        }) }
+        (run_of S.left S.faults K.held K.faults D.state arguments source.old source.new sink.old sink.new devices result) }
 {
     runs_are_safe();
     let mut devices = devices;
-    match prepare(alloc, source, &mut devices) {
+    let planned = prepare(alloc, source, &mut devices);
+    match planned {
         Ok(plan) => run_plan::<K, D, G, Brand>(alloc, plan, sink, devices, gate),
-        Err(end) => end_early(alloc, end, sink, devices),
+        Err(end) => {
+            drop(planned);
+            end_early(alloc, end, sink, devices)
+        }
     }
 }
 
@@ -275,8 +236,15 @@ fn run_plan<K: Sink<D>, D: Devices, G: Gate, O: Opening>(
 {
     let Plan { script, loaded } = plan;
     match VolState::<D, O>::start(alloc, loaded, devices) {
-        Ok(volume) => run_opened(alloc, volume, script.as_slice(), sink, gate),
-        Err(unopened) => end_early(alloc, EarlyEnd::OutOfMemory, sink, unopened.devices),
+        Ok(volume) => {
+            let ended = run_opened(alloc, volume, script.as_slice(), sink, gate);
+            drop(script);
+            ended
+        }
+        Err(unopened) => {
+            drop(script);
+            end_early(alloc, EarlyEnd::OutOfMemory, sink, unopened.devices)
+        }
     }
 }
 
@@ -300,6 +268,7 @@ fn run_opened<K: Sink<D>, D: Devices, G: Gate, O: Opening>(
     let mut page = Page::new(alloc);
     run_lines(&mut volume, script, gate, &mut page, sink);
     let status = end_run(&mut volume, &mut page, sink);
+    drop(page);
     let Finished {
         devices,
         trace,

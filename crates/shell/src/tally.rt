@@ -6,7 +6,7 @@ ghost use Rattle.shell.specs.Phases.{tally_with};
 use forest_ops::Reply;
 
 /// What the replies of a run amount to.
-#[derive(Clone, Copy, PartialEq, Eq)]
+#[derive(Clone, Copy)]
 pub struct Tally {
     /// An operation was out of memory.
     pub lacks_memory: bool,

@@ -53,6 +53,7 @@ fn read_layout(alloc: Global, asked: &FormatRequest, devices: u8) -> Result<Layo
     if layout.is_valid() {
         Ok(layout)
     } else {
+        drop(layout);
         Err(WordsFault::Usage)
     }
 }

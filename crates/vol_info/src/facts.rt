@@ -18,7 +18,7 @@ pub struct Facts {
 }
 
 /// What is told of the journal.
-#[derive(Clone, Copy, PartialEq, Eq)]
+#[derive(Clone, Copy)]
 pub struct JournalFacts {
     /// The sequence of the newest entry.
     pub sequence: u64,
@@ -31,7 +31,7 @@ pub struct JournalFacts {
 }
 
 /// What is told of a btree.
-#[derive(Clone, Copy, PartialEq, Eq)]
+#[derive(Clone, Copy)]
 pub struct BtreeFacts {
     pub btree: Btree,
     /// The level of its root; 0 where it is one leaf.
@@ -44,7 +44,7 @@ pub struct BtreeFacts {
 
 /// What is told of a device. Of its other buckets one has the superblocks, some have the journal on a device that keeps one, and the
 /// rest are retired.
-#[derive(Clone, Copy, PartialEq, Eq)]
+#[derive(Clone, Copy)]
 pub struct DeviceFacts {
     pub dev: u64,
     /// How many buckets it has.

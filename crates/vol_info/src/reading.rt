@@ -58,13 +58,35 @@ fn facts_of(alloc: Global, found: FoundVolume) -> Result<Facts, AllocError>
     requires { is_layout found.layout ≡ true }
     ensures { IfOk result (λ facts. facts ≡ facts_of (found_of found)) }
 {
-    let btrees = facts_of_btrees(alloc, &found)?;
-    let devices = facts_of_devices(alloc, &found)?;
+    let btrees = match facts_of_btrees(alloc, &found) {
+        Ok(btrees) => btrees,
+        Err(error) => {
+            drop(found);
+            return Err(error);
+        }
+    };
+    let devices = match facts_of_devices(alloc, &found) {
+        Ok(devices) => devices,
+        Err(error) => {
+            drop(btrees);
+            drop(found);
+            return Err(error);
+        }
+    };
     let journal = journal_facts(found.needed.as_slice());
     let commits = commits_of(found.needed.as_slice());
+    let session = found.session;
+    let FoundVolume {
+        layout,
+        session: _,
+        needed,
+        btrees: read,
+    } = found;
+    drop(needed);
+    drop(read);
     Ok(Facts {
-        layout: found.layout,
-        session: found.session,
+        layout,
+        session,
         commits,
         journal,
         btrees,

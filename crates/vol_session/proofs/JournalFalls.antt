@@ -12,7 +12,7 @@ use Rattle.pin_list.specs.Pins.{least_pin, smaller}
 use Rattle.core_volume.specs.Sealing.{IsFlown, oldest_needed, settled_volume, with_writer}
 use Rattle.core_volume.specs.Volumes.{Volume, can_let_go, commits_of, is_below, needs_entry}
 use Rattle.vol_session.specs.Left.{entries_left, flags_left, newest, nodes_left, owes_entry, parts_left, weighed, works_left}
-use Rattle.vol_session.proofs.Flags.{few_flags, one_flag_less}
+use Rattle.vol_session.proofs.FlushFlags.{few_flags, one_flag_less}
 
 -- ---- how much is left, by which steps are fewer
 

@@ -12,7 +12,7 @@ use Rattle.vol_core.specs.Rested.{DoCommitsRise}
 use Rattle.vol_session.specs.Marks.{IsAtMarks, commits_found}
 use Rattle.vol_types.specs.KeyMaps.{KeyMap}
 use Rattle.vol_session.proofs.MarkParts.{AreAtMarks, sealed_at, settled_at}
-use Rattle.vol_session.proofs.Moves.{KeepsEntries, Moves, flown_free}
+use Rattle.vol_session.proofs.UncommittingEvents.{KeepsEntries, Moves, flown_free}
 
 -- The marks, by the parts that they hang on.
 pub at_parts : (begun : Found) (marks : List KeyMap) (volume : Volume) → IsAtMarks begun marks volume → AreAtMarks marks (commits_found begun) volume.writer.flight volume.writer.durable.commits volume.queue (keys_in volume.trees)

@@ -37,7 +37,7 @@ use Rattle.vol_types.specs.declared.pointers.NodePtr.{NodePtr}
 use Rattle.vol_types.specs.declared.keys.Update.{Update}
 use Rattle.vol_types.specs.declared.positions.Btree.{Btree}
 use Rattle.vol_session.specs.Left.{blocks_left, dirty_left, entries_left, nodes_left}
-use Rattle.vol_session.proofs.Resting.{IsQuiet, freezing_is, none_left, placing_is}
+use Rattle.vol_session.proofs.WorkStages.{IsQuiet, freezing_is, none_left, placing_is}
 
 -- ---- pins of nodes that get other births
 

@@ -33,7 +33,7 @@ use Rattle.vol_types.specs.Limits.{bucket_blocks}
 use Rattle.vol_types.specs.declared.keys.Update.{Update}
 use Rattle.vol_session.specs.Numbers.{AreBornBefore, AreNumbersLow, flush_owed, write_owed}
 use Rattle.vol_session.proofs.BornBefore.{MayBeExchanged, born-placed}
-use Rattle.vol_session.proofs.Moves.{flown_free}
+use Rattle.vol_session.proofs.UncommittingEvents.{flown_free}
 
 -- ---- what is owed
 

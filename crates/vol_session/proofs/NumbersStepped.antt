@@ -32,7 +32,7 @@ use Rattle.vol_types.specs.declared.pointers.Place.{Place}
 use Rattle.vol_session.specs.Numbers.{AreNumbersCounted, AreNumbersLow}
 use Rattle.vol_session.specs.Sessions.{IsNoCommit}
 use Rattle.vol_session.proofs.BornBefore.{MayBeExchanged}
-use Rattle.vol_session.proofs.Moves.{waits_same}
+use Rattle.vol_session.proofs.UncommittingEvents.{waits_same}
 use Rattle.vol_session.proofs.NumbersKept.{at-same, first_raised, low-block, low-flown, low-flushed, low-frozen, low-later, low-placed, low-raised, low-refused, low-settled}
 
 -- What holds of all holds of the last one.

@@ -15,8 +15,8 @@ use Rattle.journal_writer.specs.declared.stage.Stage.TheVariants as stages
 use Rattle.vol_session.specs.Sessions.{SessionState}
 use Rattle.vol_session.specs.Writing.{KeepsWriter}
 use Rattle.vol_session.specs.Writeback.{IsWorked, StopsWith, stopped_by}
-use Rattle.vol_session.specs.declared.stop.Stop.{Stop}
-use Rattle.vol_session.specs.declared.stop.Stop.TheVariants as stops
+use Rattle.vol_session.specs.declared.writeback_end.WritebackEnd.{WritebackEnd}
+use Rattle.vol_session.specs.declared.writeback_end.WritebackEnd.TheVariants as stops
 
 -- What is kept of what is in memory, as far as works need it.
 pub record IsSeen (memory : State) : Type 0 where
@@ -25,7 +25,7 @@ pub record IsSeen (memory : State) : Type 0 where
   pub writer : KeepsWriter memory.volume
 
 -- What a part of a work leaves, and why it ended early, if it did.
-pub record Goes {D T : Type 0} (state : D → DevicesState) (result : Result T Stop) (old new : SessionState D) : Type 0 where
+pub record Goes {D T : Type 0} (state : D → DevicesState) (result : Result T WritebackEnd) (old new : SessionState D) : Type 0 where
   pub worked : IsWorked old new
   pub stops : StopsWith result (state old.core.devices).moment (state new.core.devices).moment old.core.memory.volume new.core.memory.volume
   pub cause : (state new.core.devices).faults ≡ after_writes (stopped_by result) (state old.core.devices).faults
@@ -71,7 +71,7 @@ IsOfDue answers.NoMemory = ⊤
 IsOfDue other = ⊥
 
 -- why a work ends early that is refused
-abbrev pub stop_of : Refusal → Stop
+abbrev pub stop_of : Refusal → WritebackEnd
 stop_of (refusals.Halted halt) = stops.Halted halt
 stop_of refusals.Spent = stops.Spent
 stop_of (refusals.NoSpace none) = stops.NoSpace none
@@ -79,7 +79,7 @@ stop_of (refusals.RingFull full) = stops.Foreign (refusals.RingFull full)
 stop_of (refusals.NeedSplit need) = stops.Foreign (refusals.NeedSplit need)
 
 -- what such an answer comes to
-abbrev pub outcome_of : Answer → Result (Unit {0}) Stop
+abbrev pub outcome_of : Answer → Result (Unit {0}) WritebackEnd
 outcome_of (answers.Refused refusal) = Err (stop_of refusal)
 outcome_of (answers.DeviceFault dev) = Err (stops.DeviceFault dev)
 outcome_of answers.NoMemory = Err stops.NoMemory

@@ -10,8 +10,8 @@ use Rattle.core_actors.specs.declared.answer.NoSpace.{NoSpace}
 use Rattle.core_actors.specs.declared.answer.Refusal.{Refusal}
 use Rattle.core_actors.specs.declared.answer.Refusal.TheVariants as refusals
 use Rattle.vol_session.specs.Sessions.{SessionState}
-use Rattle.vol_session.specs.declared.stop.Stop.{Stop}
-use Rattle.vol_session.specs.declared.stop.Stop.TheVariants as stops
+use Rattle.vol_session.specs.declared.writeback_end.WritebackEnd.{WritebackEnd}
+use Rattle.vol_session.specs.declared.writeback_end.WritebackEnd.TheVariants as stops
 
 -- What an actor has under way stays, but for what it was told of the works, and its last failure.
 pub record KeepsTransaction (old new : Actor) : Type 0 where
@@ -34,7 +34,7 @@ pub record IsWorked {D : Type 0} (old new : SessionState D) : Type 0 where
   pub rest : new ≡ record old { core = new.core }
 
 -- the device that failed a work, if one did
-abbrev pub stopped_by : {T : Type 0} → Result T Stop → Option ℕ
+abbrev pub stopped_by : {T : Type 0} → Result T WritebackEnd → Option ℕ
 stopped_by (Err (stops.DeviceFault dev)) = Some dev
 stopped_by other = None
 
@@ -58,7 +58,7 @@ IsForeign volume (refusals.NeedSplit need) = (node : ℕ) × IsFreezeRefused nod
 IsForeign volume other = ⊥
 
 -- Why a work ends early: the session stopped writing, at the failure of a device or before; a number isn't left; there was no space; or no memory.
-abbrev pub StopsWith : {T : Type 0} → Result T Stop → (before after : ℕ) → Volume → Volume → Type 0
+abbrev pub StopsWith : {T : Type 0} → Result T WritebackEnd → (before after : ℕ) → Volume → Volume → Type 0
 StopsWith (Ok done) before after old new = new.halted ≡ old.halted
 StopsWith (Err (stops.DeviceFault dev)) before after old new = (old.halted ≡ None) × (tick : ℕ) × (new.halted ≡ Some (record { dev = dev; tick = tick })) × (before ≤ tick) × (tick ≤ after)
 StopsWith (Err (stops.Halted halt)) before after old new = (new.halted ≡ old.halted) × (new.halted ≡ Some halt)
@@ -68,7 +68,7 @@ StopsWith (Err (stops.Foreign refusal)) before after old new = (new.halted ≡ o
 StopsWith (Err stops.NoMemory) before after old new = new.halted ≡ old.halted
 
 -- A work on the journal alone ends so: not for lack of buckets, nor for a leaf that is too large.
-abbrev pub MayStopSync : Stop → Type 0
+abbrev pub MayStopSync : WritebackEnd → Type 0
 MayStopSync (stops.NoSpace none) = ⊥
 MayStopSync (stops.Foreign (refusals.NeedSplit need)) = ⊥
 MayStopSync other = ⊤

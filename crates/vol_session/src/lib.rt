@@ -13,10 +13,10 @@
 mod rounds;
 mod run_laws;
 mod session;
-mod stop;
 mod writeback;
+mod writeback_end;
 
 pub use run_laws::{fresh_volumes_may_run, runs_are_safe};
 pub use session::{Session, Uncommitted};
-pub use stop::Stop;
 pub use writeback::{checkpoint, sync_all};
+pub use writeback_end::WritebackEnd;

@@ -7,7 +7,7 @@ ghost use Rattle.vol_session.specs.Left.{works_left};
 ghost use Rattle.vol_session.specs.Writeback.{MayStopSync};
 ghost use Rattle.vol_session.specs.Rounds.{Goes, GoesWell, IsDue, IsNext, IsOfDue, IsOfJournal, IsSeen, event_of, outcome_of, stop_of};
 
-use crate::{Session, Stop};
+use crate::{Session, WritebackEnd};
 use dev_model::Devices;
 use vol_core::{Answer, Event, Opening, Refusal, Stage, Work};
 
@@ -27,8 +27,12 @@ pub(crate) fn ask<D: Devices, O: Opening>(session: &mut Session<D, O>, work: Wor
     ensures goes { GoesWell D.state session.old session.new }
 {
     see(session);
-    match session.step(Event::Next(work)) {
-        Answer::At { stage, durable } => (stage, durable),
+    let answer = session.step(Event::Next(work));
+    match answer {
+        Answer::At { stage, durable } => {
+            drop(answer);
+            (stage, durable)
+        }
         _ => unreachable!(),
     }
 }
@@ -69,7 +73,7 @@ pub(crate) fn next_stage<D: Devices, O: Opening>(session: &mut Session<D, O>) ->
 pub(crate) fn make<D: Devices, O: Opening>(
     session: &mut Session<D, O>,
     stage: Stage,
-) -> Result<(), Stop>
+) -> Result<(), WritebackEnd>
     requires next { IsNext stage session.old.core.memory.volume }
     requires some { stage ≢ Rest }
     ensures goes { Goes D.state result session.old session.new }
@@ -85,7 +89,10 @@ pub(crate) fn make<D: Devices, O: Opening>(
 }
 
 // Makes an event that is due.
-fn make_event<D: Devices, O: Opening>(session: &mut Session<D, O>, event: Event) -> Result<(), Stop>
+fn make_event<D: Devices, O: Opening>(
+    session: &mut Session<D, O>,
+    event: Event,
+) -> Result<(), WritebackEnd>
     requires fits { Fits session.old.core.memory 0 event }
     requires due { IsDue event session.old.core.memory.volume }
     ensures goes { Goes D.state result session.old session.new }
@@ -116,15 +123,24 @@ fn event_of(stage: Stage) -> Option<Event>
 }
 
 // What the answer of an event comes to that is due.
-fn outcome_of(answer: Answer) -> Result<(), Stop>
+fn outcome_of(answer: Answer) -> Result<(), WritebackEnd>
     requires { IsOfDue answer }
     ensures { result ≡ outcome_of answer }
 {
     match answer {
-        Answer::Done => Ok(()),
+        Answer::Done => {
+            drop(answer);
+            Ok(())
+        }
         Answer::Refused(refusal) => Err(stop_of(refusal)),
-        Answer::DeviceFault(dev) => Err(Stop::DeviceFault(dev)),
-        Answer::NoMemory => Err(Stop::NoMemory),
+        Answer::DeviceFault(dev) => {
+            drop(answer);
+            Err(WritebackEnd::DeviceFault(dev))
+        }
+        Answer::NoMemory => {
+            drop(answer);
+            Err(WritebackEnd::NoMemory)
+        }
         Answer::Found(_) | Answer::Ids(_) | Answer::At { .. } | Answer::Wait { .. } => {
             unreachable!()
         }
@@ -132,14 +148,20 @@ fn outcome_of(answer: Answer) -> Result<(), Stop>
 }
 
 // Why a work ends early that is refused.
-fn stop_of(refusal: Refusal) -> Stop
+fn stop_of(refusal: Refusal) -> WritebackEnd
     ensures { result ≡ stop_of refusal }
 {
     match refusal {
-        Refusal::Halted(halt) => Stop::Halted(halt),
-        Refusal::Spent => Stop::Spent,
-        Refusal::NoSpace(none) => Stop::NoSpace(none),
-        Refusal::RingFull(full) => Stop::Foreign(Refusal::RingFull(full)),
-        Refusal::NeedSplit(need) => Stop::Foreign(Refusal::NeedSplit(need)),
+        Refusal::Halted(halt) => {
+            drop(refusal);
+            WritebackEnd::Halted(halt)
+        }
+        Refusal::Spent => {
+            drop(refusal);
+            WritebackEnd::Spent
+        }
+        Refusal::NoSpace(none) => WritebackEnd::NoSpace(none),
+        Refusal::RingFull(full) => WritebackEnd::Foreign(Refusal::RingFull(full)),
+        Refusal::NeedSplit(need) => WritebackEnd::Foreign(Refusal::NeedSplit(need)),
     }
 }

@@ -181,8 +181,10 @@ impl<D: Devices, O: Opening> Session<D, O> {
     {
         waiting_changes_lead_from_durable_keys();
         self.core.memory().see_kept();
-        match self.core.step(0, Event::Commit { counted: true }) {
+        let given = self.core.step(0, Event::Commit { counted: true });
+        match given {
             Answer::Done => {
+                drop(given);
                 // The count of commits since format is one of 64 bits, and no less.
                 self.core.memory().see_kept();
                 self.commits += 1;
@@ -250,7 +252,7 @@ impl<D: Devices, O: Opening> Session<D, O> {
     /// What the type keeps of the history. Where the devices tell what they hold, and the session began with a sound and tidy volume, its
     /// history is legal from the forest that was found, and whatever a crash has left at a moment since then has survived: it mounts as the volume after a
     /// prefix of its commits, with all that was acknowledged by that moment.
-    pub fn see_kept(&self)
+    pub fn see_history(&self)
         ensures counted { IsCounted O.found O.start (D.state self.now.core.devices)
             self.now.core.memory.volume self.now.trace self.now.acks self.now.commits }
         ensures past { D.tells → KeepsPast O.start (D.state self.now.core.devices) }

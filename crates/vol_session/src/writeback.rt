@@ -5,14 +5,14 @@ ghost use Rattle.vol_core.specs.Rested.{IsRested};
 ghost use Rattle.vol_session.specs.Writeback.{IsWorked, MayStopSync, StopsWith, stopped_by};
 
 use crate::rounds::{ask, is_synced, make, next_stage};
-use crate::{Session, Stop};
+use crate::{Session, WritebackEnd};
 use dev_model::Devices;
 use vol_core::{Opening, Stage, Work};
 
 /// Makes all commits durable: entries are written and flushed until they are. It costs what is written, and a flush of each device that has something
 /// unsettled. Where client 0 has no operation and all commits are durable already, no device is called, also where the session has stopped writing.
 /// Where it has one, entries are written until the journal rests. It doesn't end for lack of buckets.
-pub fn sync_all<D: Devices, O: Opening>(session: &mut Session<D, O>) -> Result<(), Stop>
+pub fn sync_all<D: Devices, O: Opening>(session: &mut Session<D, O>) -> Result<(), WritebackEnd>
     ensures worked { IsWorked session.old session.new }
     ensures durable { OnOk result (are_durable None session.new.core.memory.volume ≡ true) }
     ensures stops { StopsWith result (D.state session.old.core.devices).moment
@@ -36,7 +36,7 @@ pub fn sync_all<D: Devices, O: Opening>(session: &mut Session<D, O>) -> Result<(
 
 /// Makes a checkpoint: entries are written until the journal rests, each leaf that pins one is written anew and put in place, and so on until both rest.
 /// It costs what the dirty leaves hold, and some flushes.
-pub fn checkpoint<D: Devices, O: Opening>(session: &mut Session<D, O>) -> Result<(), Stop>
+pub fn checkpoint<D: Devices, O: Opening>(session: &mut Session<D, O>) -> Result<(), WritebackEnd>
     ensures worked { IsWorked session.old session.new }
     ensures rested { OnOk result (IsRested session.new.core.memory.volume) }
     ensures stops { StopsWith result (D.state session.old.core.devices).moment

@@ -1,30 +1,54 @@
 -- Why a change lacks space or a number, said of the updates that client 0 intends for it, or that its plan has.
-use Rattle.std.proofs.Common.{◌≡◌, true, inl, inr, refl, subst, sym}
+use Rattle.std.proofs.Common.{◌≡◌, Bool, true, false, not, inl, inr, ⊎_elim, refl, subst, sym}
+use Rattle.std.proofs.lemmas.Bool.{true≢false}
 use Rattle.core_volume.specs.Commits.{AreIntended}
 use Rattle.core_state.specs.Events.{intended_by}
 use Rattle.core_volume.specs.Rulings.{IsRefused}
 use Rattle.core_state.specs.States.{State}
 use Rattle.core_volume.specs.Volumes.{Volume}
 use Rattle.core_actors.specs.declared.answer.NoSpace.{NoSpace}
+use Rattle.core_actors.specs.declared.answer.Refusal.{Refusal}
 use Rattle.core_actors.specs.declared.answer.Refusal.TheVariants as refusals
 use Rattle.dirty_nodes.specs.declared.splits.NeedSplit.{NeedSplit}
 use Rattle.forest_ops.specs.declared.operation.Op.{Op}
 use Rattle.forest_ops.specs.declared.operation.Reply.{Reply}
 use Rattle.forest_ops.specs.declared.operation.Reply.TheVariants.{Okay}
 use Rattle.fs_plan.specs.declared.planned.Plan.{Plan}
+use Rattle.journal_ring.specs.declared.ring.RingFull.{RingFull}
+use Rattle.vol_core.specs.Rested.{IsRested}
 use Rattle.vol_session.specs.Sessions.{IsPlanNow}
 use Rattle.vol_types.specs.declared.space.Short.{Short}
-use Rattle.volume.specs.Answers.{AreUpdatesOf, IsNumberSpent, LacksSpace, nothing_short}
-use Rattle.volume.specs.Serving.{IsIntended}
+use Rattle.volume.specs.Answers.{AreUpdatesOf, IsNumberSpent, LacksSpace, TellsRefusal, nothing_short}
+use Rattle.volume.specs.Serving.{IsHelpless, IsIntended}
+
+not_false : (b : Bool) → not b ≡ false → b ≡ true
+not_false true no = refl
+not_false false no = absurd (true≢false no)
+
+-- Both works rest where a checkpoint would help.
+rests : (volume : Volume) → IsHelpless volume true → IsRested volume
+rests volume helpless = ⊎_elim (λ (none : true ≡ false). absurd (true≢false none)) (λ (rested : IsRested volume). rested) helpless
 
 module _ (memory : State) (op : Op) (intended : IsIntended memory op) where
   -- A leaf would be too large.
   pub leaf_is_full : (need : NeedSplit) (short : Short) → short ≡ nothing_short → IsRefused memory.volume (intended_by memory 0) true (refusals.NeedSplit need) → LacksSpace op short memory.volume
   leaf_is_full need short told refused = inl (record { updates = intended_by memory 0; of_op = intended.now; need = need; splits = refused.1; told = told })
 
-  -- There are too few free buckets, and a checkpoint would free none.
-  pub buckets_are_full : (none : NoSpace) → none.idle ≡ true → IsRefused memory.volume (intended_by memory 0) true (refusals.NoSpace none) → LacksSpace op none.short memory.volume
-  buckets_are_full none idle refused = inr (inr (inl (record { updates = intended_by memory 0; of_op = intended.now; none = none; refused = refused; idle = idle; told = refl })))
+  -- The commit is refused as both works rest.
+  at_rest : (short : Short) (refusal : Refusal) → IsRested memory.volume → IsRefused memory.volume (intended_by memory 0) true refusal → TellsRefusal short refusal → LacksSpace op short memory.volume
+  at_rest short refusal rested refused told = inr (inr (inr (inl (record { updates = intended_by memory 0; of_op = intended.now; refusal = refusal; rested = rested; refused = refused; told = told }))))
+
+  -- The ring has no room, where a checkpoint doesn't help.
+  pub ring_is_full : (full : RingFull) (short : Short) → short ≡ nothing_short → IsHelpless memory.volume true → IsRefused memory.volume (intended_by memory 0) true (refusals.RingFull full) → LacksSpace op short memory.volume
+  ring_is_full full short told helpless refused = at_rest short (refusals.RingFull full) (rests memory.volume helpless) refused told
+
+  -- There are too few free buckets, and a checkpoint would free none, or both works rest.
+  pub buckets_are_full : (none : NoSpace) → IsHelpless memory.volume (not none.idle) → IsRefused memory.volume (intended_by memory 0) true (refusals.NoSpace none) → LacksSpace op none.short memory.volume
+  buckets_are_full none helpless refused =
+      ⊎_elim
+      (λ (no : not none.idle ≡ false). inr (inr (inl (record { updates = intended_by memory 0; of_op = intended.now; none = none; refused = refused; idle = not_false none.idle no; told = refl }))))
+      (λ (rested : IsRested memory.volume). at_rest none.short (refusals.NoSpace none) rested refused refl)
+      helpless
 
   -- No number is left.
   pub commit_is_spent : IsRefused memory.volume (intended_by memory 0) true refusals.Spent → IsNumberSpent op memory.volume

@@ -24,8 +24,8 @@ use Rattle.vol_core.specs.Cores.{CoreState}
 use Rattle.vol_session.specs.Sessions.{IsUncommitted, SessionState}
 use Rattle.vol_types.specs.declared.space.Short.{Short}
 use Rattle.vol_session.specs.Writeback.{IsForeign, MayStopSync, IsWorked, StopsWith, stopped_by}
-use Rattle.vol_session.specs.declared.stop.Stop.{Stop}
-use Rattle.vol_session.specs.declared.stop.Stop.TheVariants as stops
+use Rattle.vol_session.specs.declared.writeback_end.WritebackEnd.{WritebackEnd}
+use Rattle.vol_session.specs.declared.writeback_end.WritebackEnd.TheVariants as stops
 use Rattle.volume.specs.Answers.{AcknowledgesAll, HasCause, IsNumberSpent, LacksSpace, acks_after}
 use Rattle.volume.specs.Planning.{Standing, standing_in}
 use Rattle.volume.specs.Serving.{HaltsAs, IsEntered, IsIntended, IsMoved, IsServed, IsStepped, IsUnmade, IsUnserved, TellsStop, TellsSync}
@@ -234,6 +234,7 @@ module _ {D : Type 0} (state : D → DevicesState) where
     pub intended : IsIntended new.core.memory op
     pub unmade : IsUnmade new.core.memory answer
     pub moved : IsMoved state old new
+    pub volume : new.core.memory.volume ≡ old.core.memory.volume
 
   pub not_made : (op other : Op) (old new : SessionState D) (answer : Answer) (seen : State) → seen ≡ old.core.memory → IsState seen → IsUncommitted old.core.memory 0 answer new.core.memory → other ≡ op → new ≡ record old { core = new.core }
       → new.core.devices ≡ old.core.devices → IsIntended old.core.memory op → HasNotMade answer other old new
@@ -243,6 +244,7 @@ module _ {D : Type 0} (state : D → DevicesState) where
         intended = subst (λ (o : Op). IsIntended new.core.memory o) (sym is) (intended_still op old.core.memory new.core.memory still.keeps intended);
         unmade = still.unmade;
         moved = stepped_moves old new (record { rest = rest; volume = still.volume; devices = devices });
+        volume = still.volume;
       }
 
   -- Works on what is durable that didn't fail moved the session.
@@ -251,7 +253,7 @@ module _ {D : Type 0} (state : D → DevicesState) where
   works_move old new worked halted unfailed goes_on = record { rest = worked.rest; keys = worked.memory.keys; halted = halted; unfailed = unfailed; goes_on = goes_on }
 
   -- What a work says that ended early.
-  pub record HasStopped (stop : Stop) (old new : SessionState D) : Type 0 where
+  pub record HasStopped (stop : WritebackEnd) (old new : SessionState D) : Type 0 where
     pub worked : IsWorked old new
     pub stops : StopsWith {T = Unit {0}} (Err stop) (state old.core.devices).moment (state new.core.devices).moment old.core.memory.volume new.core.memory.volume
     pub cause : (state new.core.devices).faults ≡ after_writes (stopped_by {T = Unit {0}} (Err stop)) (state old.core.devices).faults
@@ -280,7 +282,7 @@ module _ {D : Type 0} (state : D → DevicesState) where
   }
 
   -- A change that fails as a checkpoint ended early is answered,
-  pub stopped_served : (op : Op) (reply : Reply) (stop : Stop) (old mid new : SessionState D) → HasStopped stop old mid → TellsStop stop reply → IsEntered op reply mid new → IsServed state op reply old new
+  pub stopped_served : (op : Op) (reply : Reply) (stop : WritebackEnd) (old mid new : SessionState D) → HasStopped stop old mid → TellsStop stop reply → IsEntered op reply mid new → IsServed state op reply old new
   stopped_served op reply (stops.DeviceFault dev) old mid new stopped tells entered =
       subst (λ (r : Reply). IsServed state op r old new) (sym tells) (device_served op dev old mid new stopped (subst (λ (r : Reply). IsEntered op r mid new) tells entered))
   stopped_served op reply (stops.Halted halt) old mid new stopped tells entered =
@@ -294,7 +296,7 @@ module _ {D : Type 0} (state : D → DevicesState) where
   stopped_served op reply stops.NoMemory old mid new stopped tells entered = absurd tells
 
   -- and leaves the session unserved where no device failed and memory has ended.
-  pub stopped_moves : (stop : Stop) (old mid : SessionState D) → HasStopped stop old mid → stopped_by {T = Unit {0}} (Err stop) ≡ None → IsMoved state old mid
+  pub stopped_moves : (stop : WritebackEnd) (old mid : SessionState D) → HasStopped stop old mid → stopped_by {T = Unit {0}} (Err stop) ≡ None → IsMoved state old mid
   stopped_moves (stops.DeviceFault dev) old mid stopped none = absurd (none_some dev (sym none))
   stopped_moves (stops.Halted halt) old mid stopped none = works_move old mid stopped.worked stopped.stops.0 stopped.cause stopped.goes_on
   stopped_moves stops.Spent old mid stopped none = works_move old mid stopped.worked stopped.stops.0 stopped.cause stopped.goes_on
@@ -311,7 +313,7 @@ module _ {D : Type 0} (state : D → DevicesState) where
   ring_spent (refusals.NoSpace none) volume journal foreign = absurd foreign
 
   -- A sync that ended early is answered.
-  pub sync_stopped : (reply : Reply) (stop : Stop) (old mid new : SessionState D) → HasStopped stop old mid → MayStopSync stop → TellsSync stop reply → IsEntered Sync reply mid new → IsServed state Sync reply old new
+  pub sync_stopped : (reply : Reply) (stop : WritebackEnd) (old mid new : SessionState D) → HasStopped stop old mid → MayStopSync stop → TellsSync stop reply → IsEntered Sync reply mid new → IsServed state Sync reply old new
   sync_stopped reply (stops.DeviceFault dev) old mid new stopped journal tells entered =
       subst (λ (r : Reply). IsServed state Sync r old new) (sym tells) (device_served Sync dev old mid new stopped (subst (λ (r : Reply). IsEntered Sync r mid new) tells entered))
   sync_stopped reply (stops.Halted halt) old mid new stopped journal tells entered =
@@ -371,30 +373,30 @@ module _ {D : Type 0} (state : D → DevicesState) where
   unserved_later (Err error) old mid new moved unserved = unserved_after old mid new moved unserved
 
   -- A change that fails as a checkpoint ended early is answered, where there was memory,
-  pub stopped_result : (result : Result Reply AllocError) (op : Op) (stop : Stop) (old mid new : SessionState D) → HasStopped stop old mid → IfOk result (TellsStop stop) → IfOk result (λ reply. IsEntered op reply mid new)
+  pub stopped_result : (result : Result Reply AllocError) (op : Op) (stop : WritebackEnd) (old mid new : SessionState D) → HasStopped stop old mid → IfOk result (TellsStop stop) → IfOk result (λ reply. IsEntered op reply mid new)
       → IfOk result (λ reply. IsServed state op reply old new)
   stopped_result (Ok reply) op stop old mid new stopped tells entered = stopped_served op reply stop old mid new stopped tells entered
   stopped_result (Err error) op stop old mid new stopped tells entered = tt
 
   -- and else the session is unserved.
-  pub unstopped_result : (result : Result Reply AllocError) (stop : Stop) (old mid new : SessionState D) → HasStopped stop old mid → OnErr result (stopped_by {T = Unit {0}} (Err stop) ≡ None) → OnErr result (IsStepped mid new)
+  pub unstopped_result : (result : Result Reply AllocError) (stop : WritebackEnd) (old mid new : SessionState D) → HasStopped stop old mid → OnErr result (stopped_by {T = Unit {0}} (Err stop) ≡ None) → OnErr result (IsStepped mid new)
       → OnErr result (IsAtRest new.core.memory) → OnErr result (IsUnserved state old new)
   unstopped_result (Ok reply) stop old mid new stopped unfailed stepped rest = tt
   unstopped_result (Err error) stop old mid new stopped unfailed stepped rest =
       moved_unserved old new (moved_then old mid new (stopped_moves stop old mid stopped unfailed) (stepped_moves mid new stepped)) rest
 
   -- A sync that ended early is answered, where there was memory,
-  pub sync_result : (result : Result Reply AllocError) (stop : Stop) (old mid new : SessionState D) → HasStopped stop old mid → MayStopSync stop → IfOk result (TellsSync stop) → IfOk result (λ reply. IsEntered Sync reply mid new)
+  pub sync_result : (result : Result Reply AllocError) (stop : WritebackEnd) (old mid new : SessionState D) → HasStopped stop old mid → MayStopSync stop → IfOk result (TellsSync stop) → IfOk result (λ reply. IsEntered Sync reply mid new)
       → IfOk result (λ reply. IsServed state Sync reply old new)
   sync_result (Ok reply) stop old mid new stopped may tells entered = sync_stopped reply stop old mid new stopped may tells entered
   sync_result (Err error) stop old mid new stopped may tells entered = tt
 
   -- and else the session is unserved.
-  pub unsynced_result : (result : Result Reply AllocError) (stop : Stop) (old mid new : SessionState D) → IsAtRest old.core.memory → HasStopped stop old mid → OnErr result (stop ≡ stops.NoMemory) → OnErr result (new ≡ mid) → OnErr result (IsUnserved state old new)
+  pub unsynced_result : (result : Result Reply AllocError) (stop : WritebackEnd) (old mid new : SessionState D) → IsAtRest old.core.memory → HasStopped stop old mid → OnErr result (stop ≡ stops.NoMemory) → OnErr result (new ≡ mid) → OnErr result (IsUnserved state old new)
   unsynced_result (Ok reply) stop old mid new rest stopped none same = tt
   unsynced_result (Err error) stop old mid new rest stopped none same =
       subst (λ (s : SessionState D). IsUnserved state old s) (sym same)
-      (moved_unserved old mid (stopped_moves stop old mid stopped (ap (λ (t : Stop). stopped_by {T = Unit {0}} (Err t)) none)) (works_rest old.core.memory mid.core.memory stopped.worked.memory rest))
+      (moved_unserved old mid (stopped_moves stop old mid stopped (ap (λ (t : WritebackEnd). stopped_by {T = Unit {0}} (Err t)) none)) (works_rest old.core.memory mid.core.memory stopped.worked.memory rest))
 
   -- A sync acknowledges all commits that were made before room was made for it.
   pub synced_all : (reply : Reply) (op : Op) (commits : ℕ) (old mid new : SessionState D) → old.commits ≡ commits → mid ≡ record old { spare = mid.spare } → IsServed state op reply mid new → AcknowledgesAll commits reply

@@ -1,10 +1,11 @@
 -- How the parts of a call move a session, and what an operation leaves of it.
-use Rattle.std.specs.Prelude.{◌≡◌, ℕ, ◌<◌, ◌≤◌, ⊤, true, Option, Some, None, IsSome, List, [], ◌∷◌, ◌++◌, length}
+use Rattle.std.specs.Prelude.{◌≡◌, ◌⊎◌, ℕ, ◌<◌, ◌≤◌, ⊤, Bool, true, false, not, Option, Some, None, IsSome, List, [], ◌∷◌, ◌++◌, length}
 use Rattle.btree_map.specs.Trees.{keys_in}
 use Rattle.core_volume.specs.Commits.{AreIntended}
 use Rattle.core_state.specs.Events.{intended_by}
 use Rattle.core_volume.specs.Rulings.{IsRefused}
 use Rattle.core_state.specs.States.{State, mine, other_holder}
+use Rattle.core_volume.specs.Volumes.{Volume}
 use Rattle.core_actors.specs.declared.answer.Answer.{Answer}
 use Rattle.core_actors.specs.declared.answer.Answer.TheVariants as answers
 use Rattle.core_actors.specs.declared.answer.Halt.{Halt as MemoryHalt}
@@ -23,9 +24,10 @@ use Rattle.fs_plan.specs.Plans.{is_planned}
 use Rattle.key_meaning.specs.Forest.{Read, forest_in}
 use Rattle.plain_forest.specs.Forest.{Forest}
 use Rattle.forest_ops.specs.declared.halt.Halt.{Halt}
+use Rattle.vol_core.specs.Rested.{IsRested}
 use Rattle.vol_session.specs.Sessions.{IfSoundKeys, IsPlanNow, SessionState}
-use Rattle.vol_session.specs.declared.stop.Stop.{Stop}
-use Rattle.vol_session.specs.declared.stop.Stop.TheVariants as stops
+use Rattle.vol_session.specs.declared.writeback_end.WritebackEnd.{WritebackEnd}
+use Rattle.vol_session.specs.declared.writeback_end.WritebackEnd.TheVariants as stops
 use Rattle.volume.specs.Answers.{HasCause, IsAnswered, nothing_short}
 use Rattle.volume.specs.States.{IsAtRest}
 
@@ -111,8 +113,23 @@ IsUnmade memory (answers.Refused refusal) = IsRefused memory.volume (intended_by
 IsUnmade memory answers.NoMemory = ⊤
 IsUnmade memory other = ⊥
 
+-- whether a checkpoint may make the room that a refused commit lacks: in the ring, or in buckets, where it would free some
+abbrev pub lacks_room : Refusal → Bool
+lacks_room (refusals.RingFull full) = true
+lacks_room (refusals.NoSpace none) = not none.idle
+lacks_room other = false
+
+-- whether a commit that is answered so may be made after a checkpoint
+abbrev pub may_be_helped : Answer → Bool
+may_be_helped (answers.Refused refusal) = lacks_room refusal
+may_be_helped other = false
+
+-- A checkpoint doesn't help a commit: none would, or both works rest.
+abbrev pub IsHelpless : Volume → Bool → Type 0
+IsHelpless volume may_help = (may_help ≡ false) ⊎ IsRested volume
+
 -- The reply to a change tells why a checkpoint ended early; want of memory is told by none.
-abbrev pub TellsStop : Stop → Reply → Type 0
+abbrev pub TellsStop : WritebackEnd → Reply → Type 0
 TellsStop (stops.DeviceFault dev) reply = reply ≡ replies.DeviceFault dev
 TellsStop (stops.Halted halt) reply = reply ≡ replies.Halted halt.dev halt.tick
 TellsStop stops.Spent reply = reply ≡ replies.Spent
@@ -121,7 +138,7 @@ TellsStop (stops.Foreign refusal) reply = reply ≡ replies.NoSpace nothing_shor
 TellsStop stops.NoMemory reply = ⊥
 
 -- The reply to a sync tells why it ended early: where the ring has no room, no block of it is left.
-abbrev pub TellsSync : Stop → Reply → Type 0
+abbrev pub TellsSync : WritebackEnd → Reply → Type 0
 TellsSync (stops.DeviceFault dev) reply = reply ≡ replies.DeviceFault dev
 TellsSync (stops.Halted halt) reply = reply ≡ replies.Halted halt.dev halt.tick
 TellsSync stops.Spent reply = reply ≡ replies.Spent

@@ -7,7 +7,7 @@ ghost use Rattle.forest_ops.specs.declared.operation.Reply.TheVariants.{Okay};
 ghost use Rattle.vol_core.specs.Rested.{IsRested};
 ghost use Rattle.vol_session.specs.Sessions.{IsPlanNow};
 ghost use Rattle.vol_session.specs.Writeback.{stopped_by};
-ghost use Rattle.volume.specs.Serving.{IsChange, IsDoneNow, IsEntered, IsIntended, IsServed, IsStepped, IsUnderWay, IsUnmade, IsUnserved, TellsStop};
+ghost use Rattle.volume.specs.Serving.{IsChange, IsDoneNow, IsEntered, IsHelpless, IsIntended, IsServed, IsStepped, IsUnderWay, IsUnmade, IsUnserved, TellsStop, lacks_room, may_be_helped};
 ghost use Rattle.volume.specs.States.{IsAtRest};
 
 use crate::serving::{end, fail, lack, nothing_short};
@@ -16,7 +16,7 @@ use forest_ops::{Op, Reply};
 use fs_plan::Plan;
 use std::alloc::{AllocError, Global};
 use vol_core::{Answer, Event, Halt, Opening, Refusal};
-use vol_session::{Session, Stop, Uncommitted, checkpoint};
+use vol_session::{Session, Uncommitted, WritebackEnd, checkpoint};
 use vol_types::Updates;
 
 /// Makes the change that a plan of client 0's operation says. Where the journal or the buckets are short, a checkpoint is made first.
@@ -33,11 +33,9 @@ pub(crate) fn make<D: Devices, O: Opening>(
     ensures served { IfOk result (λ reply. IsServed D.state plan.op reply session.old session.new) }
     ensures unserved { OnErr result (IsUnserved D.state session.old session.new) }
 {
-    let Plan {
-        op,
-        updates,
-        reply: _reply,
-    } = plan;
+    // What isn't handed on is dropped by name, here and below: that spares the proof the drop of each variant on each way out.
+    let Plan { op, updates, reply } = plan;
+    drop(reply);
     if !intend(session, updates) {
         return lack(alloc, session, op, nothing_short(alloc));
     }
@@ -60,7 +58,7 @@ fn intend<D: Devices, O: Opening>(session: &mut Session<D, O>, updates: Updates)
     if !session.memory().may(0, &intent) {
         return false;
     }
-    session.step(intent);
+    drop(session.step(intent));
     true
 }
 
@@ -76,8 +74,12 @@ fn commit<D: Devices, O: Opening>(
     ensures unserved { OnErr result (IsUnserved D.state session.old session.new) }
 {
     session.memory().see_kept();
-    match session.commit(op, Reply::Okay) {
-        Ok(()) => Ok(Reply::Okay),
+    let committed = session.commit(op, Reply::Okay);
+    match committed {
+        Ok(()) => {
+            drop(committed);
+            Ok(Reply::Okay)
+        }
         Err(not) => settle(alloc, session, not),
     }
 }
@@ -94,13 +96,55 @@ fn settle<D: Devices, O: Opening>(
     ensures served { IfOk result (λ reply. IsServed D.state not.op reply session.old session.new) }
     ensures unserved { OnErr result (IsUnserved D.state session.old session.new) }
 {
-    // What isn't handed on is dropped by name, here and below: that spares the proof the drop of each variant on each way out.
     let Uncommitted { answer, op, reply } = not;
     drop(reply);
+    if may_be_helped(&answer) {
+        drop(answer);
+        return try_again(alloc, session, op);
+    }
+    fail_uncommitted(alloc, session, op, answer)
+}
+
+// Whether a commit that is answered so may be made after a checkpoint.
+fn may_be_helped(answer: &Answer) -> bool
+    ensures { result ≡ may_be_helped answer.now }
+{
+    match answer {
+        Answer::Refused(refusal) => lacks_room(refusal),
+        _ => false,
+    }
+}
+
+// Whether a checkpoint may make the room that a refused commit lacks: in the ring, or in buckets, where it would free some.
+fn lacks_room(refusal: &Refusal) -> bool
+    ensures { result ≡ lacks_room refusal.now }
+{
+    match refusal {
+        Refusal::RingFull(_) => true,
+        Refusal::NoSpace(none) => !none.idle,
+        _ => false,
+    }
+}
+
+// A change that wasn't committed fails, since a checkpoint doesn't help, or both works rest.
+fn fail_uncommitted<D: Devices, O: Opening>(
+    alloc: Global,
+    session: &mut Session<D, O>,
+    op: Op,
+    answer: Answer,
+) -> Result<Reply, AllocError>
+    requires spare { 0 < session.old.spare }
+    requires intended { IsIntended session.old.core.memory op }
+    requires unmade { IsUnmade session.old.core.memory answer }
+    requires helpless { IsHelpless session.old.core.memory.volume (may_be_helped answer) }
+    ensures served { IfOk result (λ reply. IsServed D.state op reply session.old session.new) }
+    ensures unserved { OnErr result (IsUnserved D.state session.old session.new) }
+{
     match answer {
         Answer::Refused(refusal) => refuse(alloc, session, op, refusal),
         Answer::NoMemory => {
             end(session);
+            drop(answer);
             drop(op);
             Err(AllocError)
         }
@@ -108,7 +152,7 @@ fn settle<D: Devices, O: Opening>(
     }
 }
 
-// The commit of a change is refused.
+// The commit of a change is refused, and a checkpoint doesn't help, or both works rest.
 fn refuse<D: Devices, O: Opening>(
     alloc: Global,
     session: &mut Session<D, O>,
@@ -119,20 +163,28 @@ fn refuse<D: Devices, O: Opening>(
     requires intended { IsIntended session.old.core.memory op }
     requires refused { IsRefused session.old.core.memory.volume
         (intended_by session.old.core.memory 0) true refusal }
+    requires helpless { IsHelpless session.old.core.memory.volume (lacks_room refusal) }
     ensures served { IfOk result (λ reply. IsServed D.state op reply session.old session.new) }
     ensures unserved { OnErr result (IsUnserved D.state session.old session.new) }
 {
     match refusal {
-        Refusal::Halted(halt) => Ok(fail_halted(session, op, halt)),
-        Refusal::Spent => Ok(fail_spent(session, op)),
-        Refusal::NeedSplit(_) => lack(alloc, session, op, nothing_short(alloc)),
-        Refusal::RingFull(_) => try_again(alloc, session, op),
-        Refusal::NoSpace(none) => {
-            if none.idle {
-                return lack(alloc, session, op, none.short);
-            }
-            try_again(alloc, session, op)
+        Refusal::Halted(halt) => {
+            drop(refusal);
+            Ok(fail_halted(session, op, halt))
         }
+        Refusal::Spent => {
+            drop(refusal);
+            Ok(fail_spent(session, op))
+        }
+        Refusal::NeedSplit(_) => {
+            drop(refusal);
+            lack(alloc, session, op, nothing_short(alloc))
+        }
+        Refusal::RingFull(_) => {
+            drop(refusal);
+            lack(alloc, session, op, nothing_short(alloc))
+        }
+        Refusal::NoSpace(none) => lack(alloc, session, op, none.short),
     }
 }
 
@@ -166,59 +218,17 @@ fn commit_at_rest<D: Devices, O: Opening>(
     ensures unserved { OnErr result (IsUnserved D.state session.old session.new) }
 {
     session.memory().see_kept();
-    match session.commit(op, Reply::Okay) {
-        Ok(()) => Ok(Reply::Okay),
-        Err(not) => settle_at_rest(alloc, session, not),
-    }
-}
-
-// A change wasn't committed though both works rest, so it fails.
-fn settle_at_rest<D: Devices, O: Opening>(
-    alloc: Global,
-    session: &mut Session<D, O>,
-    not: Uncommitted,
-) -> Result<Reply, AllocError>
-    requires spare { 0 < session.old.spare }
-    requires intended { IsIntended session.old.core.memory not.op }
-    requires unmade { IsUnmade session.old.core.memory not.answer }
-    requires rested { IsRested session.old.core.memory.volume }
-    ensures served { IfOk result (λ reply. IsServed D.state not.op reply session.old session.new) }
-    ensures unserved { OnErr result (IsUnserved D.state session.old session.new) }
-{
-    let Uncommitted { answer, op, reply } = not;
-    drop(reply);
-    match answer {
-        Answer::Refused(refusal) => refuse_at_rest(alloc, session, op, refusal),
-        Answer::NoMemory => {
-            end(session);
-            drop(op);
-            Err(AllocError)
+    let committed = session.commit(op, Reply::Okay);
+    match committed {
+        Ok(()) => {
+            drop(committed);
+            Ok(Reply::Okay)
         }
-        _ => unreachable!(),
-    }
-}
-
-// The commit of a change is refused though both works rest.
-fn refuse_at_rest<D: Devices, O: Opening>(
-    alloc: Global,
-    session: &mut Session<D, O>,
-    op: Op,
-    refusal: Refusal,
-) -> Result<Reply, AllocError>
-    requires spare { 0 < session.old.spare }
-    requires intended { IsIntended session.old.core.memory op }
-    requires refused { IsRefused session.old.core.memory.volume
-        (intended_by session.old.core.memory 0) true refusal }
-    requires rested { IsRested session.old.core.memory.volume }
-    ensures served { IfOk result (λ reply. IsServed D.state op reply session.old session.new) }
-    ensures unserved { OnErr result (IsUnserved D.state session.old session.new) }
-{
-    match refusal {
-        Refusal::Halted(halt) => Ok(fail_halted(session, op, halt)),
-        Refusal::Spent => Ok(fail_spent(session, op)),
-        Refusal::NeedSplit(_) => lack(alloc, session, op, nothing_short(alloc)),
-        Refusal::RingFull(_) => lack(alloc, session, op, nothing_short(alloc)),
-        Refusal::NoSpace(none) => lack(alloc, session, op, none.short),
+        Err(not) => {
+            let Uncommitted { answer, op, reply } = not;
+            drop(reply);
+            fail_uncommitted(alloc, session, op, answer)
+        }
     }
 }
 
@@ -227,7 +237,7 @@ fn give_up<D: Devices, O: Opening>(
     alloc: Global,
     session: &mut Session<D, O>,
     op: Op,
-    stop: Stop,
+    stop: WritebackEnd,
 ) -> Result<Reply, AllocError>
     requires spare { 0 < session.old.spare }
     requires intended { IsIntended session.old.core.memory op }
@@ -238,16 +248,27 @@ fn give_up<D: Devices, O: Opening>(
     ensures rest { OnErr result (IsAtRest session.new.core.memory) }
 {
     match stop {
-        Stop::DeviceFault(dev) => {
+        WritebackEnd::DeviceFault(dev) => {
+            drop(stop);
             fail(session, op, Reply::DeviceFault(dev));
             Ok(Reply::DeviceFault(dev))
         }
-        Stop::Halted(halt) => Ok(fail_halted(session, op, halt)),
-        Stop::Spent => Ok(fail_spent(session, op)),
-        Stop::NoSpace(none) => lack(alloc, session, op, none.short),
-        Stop::Foreign(_) => lack(alloc, session, op, nothing_short(alloc)),
-        Stop::NoMemory => {
+        WritebackEnd::Halted(halt) => {
+            drop(stop);
+            Ok(fail_halted(session, op, halt))
+        }
+        WritebackEnd::Spent => {
+            drop(stop);
+            Ok(fail_spent(session, op))
+        }
+        WritebackEnd::NoSpace(none) => lack(alloc, session, op, none.short),
+        WritebackEnd::Foreign(_) => {
+            drop(stop);
+            lack(alloc, session, op, nothing_short(alloc))
+        }
+        WritebackEnd::NoMemory => {
             end(session);
+            drop(stop);
             drop(op);
             Err(AllocError)
         }

@@ -98,7 +98,10 @@ fn plan_from<D: Devices, O: Opening, B: Begun>(
     session.memory().see_kept();
     match planned {
         Ok(plan) => (session, Ok(plan)),
-        Err(_) => (session, Err(AllocError)),
+        Err(_) => {
+            drop(planned);
+            (session, Err(AllocError))
+        }
     }
 }
 
@@ -157,9 +160,13 @@ fn look<D: Devices, O: Opening>(
     ensures err { OnErr result (session.new.core.memory ≡ session.old.core.memory) }
 {
     session.memory().see_kept();
-    match session.step(Event::Look(query)) {
+    let answer = session.step(Event::Look(query));
+    match answer {
         Answer::Found(keys) => Ok(keys),
-        Answer::NoMemory => Err(AllocError),
+        Answer::NoMemory => {
+            drop(answer);
+            Err(AllocError)
+        }
         _ => unreachable!(),
     }
 }
@@ -178,9 +185,13 @@ fn look_ids<D: Devices, O: Opening>(
     ensures err { OnErr result (session.new.core.memory ≡ session.old.core.memory) }
 {
     session.memory().see_kept();
-    match session.step(Event::LookIds) {
+    let answer = session.step(Event::LookIds);
+    match answer {
         Answer::Ids(tree) => Ok(tree),
-        Answer::NoMemory => Err(AllocError),
+        Answer::NoMemory => {
+            drop(answer);
+            Err(AllocError)
+        }
         _ => unreachable!(),
     }
 }

@@ -17,7 +17,7 @@ use forest_ops::{Halt, Op, Reply};
 use fs_plan::Plan;
 use std::alloc::{AllocError, Global};
 use vol_core::{Answer, Event, Opening, Refusal};
-use vol_session::{Session, Stop, sync_all};
+use vol_session::{Session, WritebackEnd, sync_all};
 use vol_types::{Counts, Duplicate, Short};
 
 /// Answers an operation of client 0, where the history has room for its entry.
@@ -80,22 +80,24 @@ fn sync<D: Devices, O: Opening>(session: &mut Session<D, O>) -> Result<Reply, Al
 // A sync fails, as the work on the journal ended early.
 fn stop_sync<D: Devices, O: Opening>(
     session: &mut Session<D, O>,
-    stop: Stop,
+    stop: WritebackEnd,
 ) -> Result<Reply, AllocError>
     requires spare { 0 < session.old.spare }
     requires rest { IsAtRest session.old.core.memory }
     requires journal { MayStopSync stop }
     ensures tells { IfOk result (TellsSync stop) }
     ensures entered { IfOk result (λ reply. IsEntered Sync reply session.old session.new) }
-    ensures none { OnErr result (stop ≡ Stop.NoMemory) }
+    ensures none { OnErr result (stop ≡ WritebackEnd.NoMemory) }
     ensures same { OnErr result (session.new ≡ session.old) }
 {
     match stop {
-        Stop::DeviceFault(dev) => {
+        WritebackEnd::DeviceFault(dev) => {
+            drop(stop);
             session.tell(Op::Sync, Reply::DeviceFault(dev));
             Ok(Reply::DeviceFault(dev))
         }
-        Stop::Halted(halt) => {
+        WritebackEnd::Halted(halt) => {
+            drop(stop);
             session.tell(
                 Op::Sync,
                 Reply::Halted {
@@ -108,16 +110,21 @@ fn stop_sync<D: Devices, O: Opening>(
                 tick: halt.tick,
             })
         }
-        Stop::Spent => {
+        WritebackEnd::Spent => {
+            drop(stop);
             session.tell(Op::Sync, Reply::Spent);
             Ok(Reply::Spent)
         }
-        Stop::Foreign(_) => {
+        WritebackEnd::Foreign(_) => {
+            drop(stop);
             session.tell(Op::Sync, Reply::Spent);
             Ok(Reply::Spent)
         }
-        Stop::NoMemory => Err(AllocError),
-        Stop::NoSpace(_) => unreachable!(),
+        WritebackEnd::NoMemory => {
+            drop(stop);
+            Err(AllocError)
+        }
+        WritebackEnd::NoSpace(_) => unreachable!(),
     }
 }
 
@@ -184,11 +191,8 @@ fn tell<D: Devices, O: Opening>(session: &mut Session<D, O>, plan: Plan)
     requires now { IsPlanNow session.old.core.memory 0 plan }
     ensures { IsEntered plan.op plan.reply session.old session.new }
 {
-    let Plan {
-        op,
-        updates: _updates,
-        reply,
-    } = plan;
+    let Plan { op, updates, reply } = plan;
+    drop(updates);
     session.tell(op, reply);
     end(session);
 }
@@ -200,7 +204,7 @@ fn begin<D: Devices, O: Opening>(session: &mut Session<D, O>)
     ensures under { IsUnderWay session.new.core.memory }
 {
     session.memory().see_kept();
-    session.step(Event::Begin { first: true });
+    drop(session.step(Event::Begin { first: true }));
 }
 
 /// Client 0 ends its operation.
@@ -210,7 +214,7 @@ pub(crate) fn end<D: Devices, O: Opening>(session: &mut Session<D, O>)
     ensures rest { IsAtRest session.new.core.memory }
 {
     session.memory().see_kept();
-    session.step(Event::Finish);
+    drop(session.step(Event::Finish));
 }
 
 /// The operation of client 0 fails: its reply joins the history, and it has ended. It takes no memory.

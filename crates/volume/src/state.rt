@@ -103,9 +103,12 @@ impl<D: Devices, O: Opening> VolState<D, O> {
             ≡ (D.state self.old.core.devices).faults) }
         ensures goes_on { GoOn (D.state self.old.core.devices) (D.state self.new.core.devices) }
     {
-        self.session.see_kept();
+        self.session.see_history();
         let _count = self.session.devices().count();
-        self.session.reserve()?;
+        if let Err(error) = self.session.reserve() {
+            drop(op);
+            return Err(error);
+        }
         let result = answer(self.alloc, &mut self.session, op);
         self.session.see_numbers();
         self.session.see_room();
@@ -145,7 +148,7 @@ impl<D: Devices, O: Opening> VolState<D, O> {
             alloc: _,
             mut session,
         } = self;
-        session.see_kept();
+        session.see_history();
         let halted = halt_of(&mut session);
         let (devices, trace, acks) = session.into_parts();
         Finished {

@@ -3,7 +3,7 @@ use Rattle.std.specs.Prelude.{codes, decimal}
 use Rattle.script_text.specs.declared.reading.LineFault.{LineFault}
 use Rattle.shell.specs.Outcome.{bad_end, early_line}
 use Rattle.shell.specs.declared.early_end.EarlyEnd.{EarlyEnd}
-use Rattle.shell.specs.declared.early_end.EarlyEnd.TheVariants.{BadLine, Device, Source}
+use Rattle.shell.specs.declared.early_end.EarlyEnd.TheVariants.{BadLine, Device, OutOfMemory, Refused, Source, TooLong, Usage}
 use Rattle.shell.proofs.EarlyEnds.{given_as, prefix_as}
 use Rattle.shell.proofs.early_end.print_early_end.Goals as goal
 
@@ -15,6 +15,54 @@ bad_line end line cause number text is same ends =
 -- the line of a device that failed
 device_line : (end : EarlyEnd) (dev number : ℕ) → end ≡ Device dev → number ≡ dev → codes "error 6 device " ++ decimal number ++ codes "\n" ≡ early_line end
 device_line end dev number is same = ap (λ (n : ℕ). codes "error 6 device " ++ decimal n ++ codes "\n") same ∙ ap early_line (sym is)
+
+pub returns-in-Usage-clause-ok : goal.returns-in-Usage-clause-ok
+returns-in-Usage-clause-ok g c tells =
+    let K = g.K.Sink in
+    given_as c.give_all.result (K.held c.args.sink.now) (K.held c.give_all.new.sink) (early_line Usage) (early_line c.args.end)
+    (ap early_line (sym c.in-Usage.is)) (c.give_all.ensures.ok tells)
+
+pub returns-in-Usage-clause-failed : goal.returns-in-Usage-clause-failed
+returns-in-Usage-clause-failed g c tells =
+    let K = g.K.Sink in
+    prefix_as c.give_all.result (K.held c.args.sink.now) (K.held c.give_all.new.sink) (early_line Usage) (early_line c.args.end)
+    (ap early_line (sym c.in-Usage.is)) (c.give_all.ensures.failed tells)
+
+pub returns-in-TooLong-clause-ok : goal.returns-in-TooLong-clause-ok
+returns-in-TooLong-clause-ok g c tells =
+    let K = g.K.Sink in
+    given_as c.give_all-in-TooLong.result (K.held c.args.sink.now) (K.held c.give_all-in-TooLong.new.sink) (early_line TooLong) (early_line c.args.end)
+    (ap early_line (sym c.in-TooLong.is)) (c.give_all-in-TooLong.ensures.ok tells)
+
+pub returns-in-TooLong-clause-failed : goal.returns-in-TooLong-clause-failed
+returns-in-TooLong-clause-failed g c tells =
+    let K = g.K.Sink in
+    prefix_as c.give_all-in-TooLong.result (K.held c.args.sink.now) (K.held c.give_all-in-TooLong.new.sink) (early_line TooLong) (early_line c.args.end)
+    (ap early_line (sym c.in-TooLong.is)) (c.give_all-in-TooLong.ensures.failed tells)
+
+pub returns-in-OutOfMemory-clause-ok : goal.returns-in-OutOfMemory-clause-ok
+returns-in-OutOfMemory-clause-ok g c tells =
+    let K = g.K.Sink in
+    given_as c.give_all-in-OutOfMemory.result (K.held c.args.sink.now) (K.held c.give_all-in-OutOfMemory.new.sink) (early_line OutOfMemory) (early_line c.args.end)
+    (ap early_line (sym c.in-OutOfMemory.is)) (c.give_all-in-OutOfMemory.ensures.ok tells)
+
+pub returns-in-OutOfMemory-clause-failed : goal.returns-in-OutOfMemory-clause-failed
+returns-in-OutOfMemory-clause-failed g c tells =
+    let K = g.K.Sink in
+    prefix_as c.give_all-in-OutOfMemory.result (K.held c.args.sink.now) (K.held c.give_all-in-OutOfMemory.new.sink) (early_line OutOfMemory) (early_line c.args.end)
+    (ap early_line (sym c.in-OutOfMemory.is)) (c.give_all-in-OutOfMemory.ensures.failed tells)
+
+pub returns-in-Refused-clause-ok : goal.returns-in-Refused-clause-ok
+returns-in-Refused-clause-ok g c tells =
+    let K = g.K.Sink in
+    given_as c.print_refusal.result (K.held c.args.sink.now) (K.held c.print_refusal.new.sink) (early_line (Refused c.in-Refused.refusal)) (early_line c.args.end)
+    (ap early_line (sym c.in-Refused.is)) (c.print_refusal.ensures.ok tells)
+
+pub returns-in-Refused-clause-failed : goal.returns-in-Refused-clause-failed
+returns-in-Refused-clause-failed g c tells =
+    let K = g.K.Sink in
+    prefix_as c.print_refusal.result (K.held c.args.sink.now) (K.held c.print_refusal.new.sink) (early_line (Refused c.in-Refused.refusal)) (early_line c.args.end)
+    (ap early_line (sym c.in-Refused.is)) (c.print_refusal.ensures.failed tells)
 
 pub returns-in-BadLine-clause-ok : goal.returns-in-BadLine-clause-ok
 returns-in-BadLine-clause-ok g c tells =

@@ -6,9 +6,9 @@ pub returns-in-Ok-clause-informs : goal.returns-in-Ok-clause-informs
 returns-in-Ok-clause-informs g c =
     let D = g.D.Devices in
     let K = g.K.Sink in
-    let ended = c.end_told.result in
-    let told = c.end_told.ensures in
-    inl (told_found D.state K.tells D.tells (K.held c.args.sink.now) (K.held c.end_told.new.sink) (K.faults c.args.sink.now) (K.faults c.end_told.new.sink) ended.status ended.early_end ended.trace ended.acks
+    let ended = c.end_told-ended.result in
+    let told = c.end_told-ended.ensures in
+    inl (told_found D.state K.tells D.tells (K.held c.args.sink.now) (K.held c.end_told-ended.new.sink) (K.faults c.args.sink.now) (K.faults c.end_told-ended.new.sink) ended.status ended.early_end ended.trace ended.acks
     c.args.devices c.info_text.new.devices ended.devices told.devices c.info_text.ensures.read c.in-Ok.text c.in-Ok.ensures.text told.early told.ends)
 
 pub returns-in-Err-clause-informs : goal.returns-in-Err-clause-informs

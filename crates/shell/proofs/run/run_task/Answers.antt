@@ -6,7 +6,7 @@ use Rattle.shell.specs.declared.early_end.EarlyEnd.TheVariants.{OutOfMemory}
 use Rattle.shell.specs.declared.task.Task.{Task}
 use Rattle.shell.specs.Tasks.{IsFormat, IsInfo}
 use Rattle.shell.specs.Mounts.{OnlyReadUnmounted}
-use Rattle.shell.specs.Runs.{Run}
+use Rattle.shell.specs.Runs.{Run, run_of}
 use Rattle.shell.proofs.Asking.{Fits, format_fits}
 use Rattle.shell.proofs.EndingEarly.{ended_early, formatted}
 use Rattle.shell.proofs.Informing.{informed}
@@ -23,22 +23,7 @@ returns-in-Info g c arguments asked =
     let K = g.K.Sink in
     let ended = c.inform.result in
     let info : IsInfo arguments (D.state c.args.devices).sizes = asked ∙ ap (λ (task : Task). Some task) c.in-Info.is in
-    let all : Run g.row.D.Denot g.row.K.Denot = record {
-      arguments = arguments;
-      streams = record { left = S.left c.args.source.now; left_after = S.left c.args.source.now; held = K.held c.args.sink.now; held_after = K.held c.inform.new.sink };
-      faults = record { source = S.faults c.args.source.now; source_after = S.faults c.args.source.now; sink = K.faults c.args.sink.now; sink_after = K.faults c.inform.new.sink };
-      sink = c.args.sink.now;
-      sink_after = c.inform.new.sink;
-      devices = c.args.devices;
-      devices_after = ended.devices;
-      state = D.state c.args.devices;
-      state_after = D.state ended.devices;
-      status = ended.status;
-      early_end = ended.early_end;
-      trace = ended.trace;
-      acks = ended.acks;
-      shorts = ended.shorts;
-    } in
+    let all : Run g.row.D.Denot g.row.K.Denot = run_of S.left S.faults K.held K.faults D.state arguments c.args.source.now c.args.source.now c.args.sink.now c.inform.new.sink c.args.devices ended in
     informed S.tells K.tells D.tells K.held K.given_at all info refl refl c.runs_are_safe.ensures.opening c.inform.ensures.shorts c.inform.ensures.informs
 
 pub formatted_line-requires : goal.formatted_line-requires
@@ -47,14 +32,14 @@ formatted_line-requires g c =
     let fits : Fits (length sizes) c.in-Format.layout = format_fits (length sizes) c.requires.arguments c.in-Format.layout (c.requires.asked ∙ ap (λ (task : Task). Some task) c.in-Format.is) in
     fits.some
 
-pub format_devices-requires-clause-layout : goal.format_devices-requires-clause-layout
-format_devices-requires-clause-layout g c =
+pub format_devices-ended-requires-clause-layout : goal.format_devices-ended-requires-clause-layout
+format_devices-ended-requires-clause-layout g c =
     let sizes = (g.D.Devices.state c.args.devices).sizes in
     let fits : Fits (length sizes) c.in-Format.layout = format_fits (length sizes) c.requires.arguments c.in-Format.layout (c.requires.asked ∙ ap (λ (task : Task). Some task) c.in-Format.is) in
     fits.is
 
-pub format_devices-requires-clause-count : goal.format_devices-requires-clause-count
-format_devices-requires-clause-count g c =
+pub format_devices-ended-requires-clause-count : goal.format_devices-ended-requires-clause-count
+format_devices-ended-requires-clause-count g c =
     let sizes = (g.D.Devices.state c.args.devices).sizes in
     let fits : Fits (length sizes) c.in-Format.layout = format_fits (length sizes) c.requires.arguments c.in-Format.layout (c.requires.asked ∙ ap (λ (task : Task). Some task) c.in-Format.is) in
     fits.count
@@ -65,25 +50,10 @@ returns-in-Ok g c arguments asked =
     let S = g.S.Source in
     let K = g.K.Sink in
     let layout = c.in-Format.layout in
-    let ended = c.format_devices.result in
+    let ended = c.format_devices-ended.result in
     let format : IsFormat arguments (D.state c.args.devices).sizes layout = asked ∙ ap (λ (task : Task). Some task) c.in-Format.is in
-    let all : Run g.row.D.Denot g.row.K.Denot = record {
-      arguments = arguments;
-      streams = record { left = S.left c.args.source.now; left_after = S.left c.args.source.now; held = K.held c.args.sink.now; held_after = K.held c.format_devices.new.sink };
-      faults = record { source = S.faults c.args.source.now; source_after = S.faults c.args.source.now; sink = K.faults c.args.sink.now; sink_after = K.faults c.format_devices.new.sink };
-      sink = c.args.sink.now;
-      sink_after = c.format_devices.new.sink;
-      devices = c.args.devices;
-      devices_after = ended.devices;
-      state = D.state c.args.devices;
-      state_after = D.state ended.devices;
-      status = ended.status;
-      early_end = ended.early_end;
-      trace = ended.trace;
-      acks = ended.acks;
-      shorts = ended.shorts;
-    } in
-    formatted S.tells K.tells D.tells K.held K.given_at all layout format c.format_devices.ensures.formats refl refl c.format_devices.ensures.shorts
+    let all : Run g.row.D.Denot g.row.K.Denot = run_of S.left S.faults K.held K.faults D.state arguments c.args.source.now c.args.source.now c.args.sink.now c.format_devices-ended.new.sink c.args.devices ended in
+    formatted S.tells K.tells D.tells K.held K.given_at all layout format c.format_devices-ended.ensures.formats refl refl c.format_devices-ended.ensures.shorts
 
 pub returns : goal.returns
 returns g c arguments asked =
@@ -94,23 +64,7 @@ returns g c arguments asked =
     let early = c.end_early.ensures in
     let ended = c.end_early.result in
     let old = D.state first in
-    let left = S.left c.args.source.now in
-    let all : Run g.row.D.Denot g.row.K.Denot = record {
-      arguments = arguments;
-      streams = record { left = left; left_after = left; held = K.held c.args.sink.now; held_after = K.held c.end_early.new.sink };
-      faults = record { source = S.faults c.args.source.now; source_after = S.faults c.args.source.now; sink = K.faults c.args.sink.now; sink_after = K.faults c.end_early.new.sink };
-      sink = c.args.sink.now;
-      sink_after = c.end_early.new.sink;
-      devices = first;
-      devices_after = ended.devices;
-      state = old;
-      state_after = D.state ended.devices;
-      status = ended.status;
-      early_end = ended.early_end;
-      trace = ended.trace;
-      acks = ended.acks;
-      shorts = ended.shorts;
-    } in
+    let all : Run g.row.D.Denot g.row.K.Denot = run_of S.left S.faults K.held K.faults D.state arguments c.args.source.now c.args.source.now c.args.sink.now c.end_early.new.sink first ended in
     ended_early S.tells K.tells D.tells K.held K.given_at all OutOfMemory early.ends
     (inl (record { cause = inl tt; untouched = early.devices })) refl (inr refl)
     (subst (λ d. OnlyReadUnmounted D.tells old (D.state d)) (sym early.devices) (λ told unfailed error. only_read_here D.tells old))

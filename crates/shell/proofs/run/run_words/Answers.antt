@@ -5,7 +5,7 @@ use Rattle.vol_session.specs.Runs.{RunSurvives}
 use Rattle.shell.specs.Tasks.{IsAsked, task_of}
 use Rattle.shell.specs.Causes.{ArgumentsCause, SourceFailed}
 use Rattle.shell.specs.Mounts.{OnlyReadUnmounted}
-use Rattle.shell.specs.Runs.{Run}
+use Rattle.shell.specs.Runs.{Run, run_of}
 use Rattle.shell.proofs.EndingEarly.{arguments_cause, arguments_source, ended_early}
 use Rattle.shell.proofs.Sessions.{untouched_survives}
 use Rattle.shell.proofs.run.run_words.Goals as goal
@@ -31,23 +31,7 @@ returns-in-Err g c =
     let ended = c.end_early.result in
     let old = D.state first in
     let words = map (rc_str_bytes {Z = Global}) c.args.words.now in
-    let left = S.left c.args.source.now in
-    let all : Run g.row.D.Denot g.row.K.Denot = record {
-      arguments = words;
-      streams = record { left = left; left_after = left; held = K.held c.args.sink.now; held_after = K.held c.end_early.new.sink };
-      faults = record { source = S.faults c.args.source.now; source_after = S.faults c.args.source.now; sink = K.faults c.args.sink.now; sink_after = K.faults c.end_early.new.sink };
-      sink = c.args.sink.now;
-      sink_after = c.end_early.new.sink;
-      devices = first;
-      devices_after = ended.devices;
-      state = old;
-      state_after = D.state ended.devices;
-      status = ended.status;
-      early_end = ended.early_end;
-      trace = ended.trace;
-      acks = ended.acks;
-      shorts = ended.shorts;
-    } in
+    let all : Run g.row.D.Denot g.row.K.Denot = run_of S.left S.faults K.held K.faults D.state words c.args.source.now c.args.source.now c.args.sink.now c.end_early.new.sink first ended in
     ended_early S.tells K.tells D.tells K.held K.given_at all c.from.result early.ends
     (inl (record {
       cause = inl (subst (ArgumentsCause words old.sizes) (sym c.from.ensures) (arguments_cause words old.sizes c.in-Err.fault (λ usage. subst (λ n. task_of n words ≡ None) c.count.ensures.count (c.in-Err.ensures.usage usage))));

@@ -1,6 +1,6 @@
 use Rattle.std.proofs.Common.{sym, ◌∙◌}
 use Rattle.vol_session.proofs.JournalStops.{journal_event}
-use Rattle.vol_session.proofs.Stepping.{may_make}
+use Rattle.vol_session.proofs.StageProgress.{may_make}
 use Rattle.vol_session.proofs.rounds.make.Goals as goal
 
 pub make_event-requires-clause-fits : goal.make_event-requires-clause-fits

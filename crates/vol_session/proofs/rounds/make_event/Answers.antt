@@ -4,7 +4,7 @@ use Rattle.vol_session.specs.Left.{works_left}
 use Rattle.vol_session.specs.Rounds.{Goes}
 use Rattle.vol_session.specs.Writeback.{MayStopSync}
 use Rattle.vol_session.proofs.JournalStops.{journal_stops}
-use Rattle.vol_session.proofs.Stepping.{goes_so, less_left, made_so}
+use Rattle.vol_session.proofs.StageProgress.{goes_so, less_left, made_so}
 use Rattle.vol_session.proofs.rounds.make_event.Goals as goal
 
 pub returns-clause-goes : goal.returns-clause-goes

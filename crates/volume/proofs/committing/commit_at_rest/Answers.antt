@@ -1,22 +1,31 @@
+use Rattle.std.proofs.Common.{inr, subst, sym}
+use Rattle.vol_core.specs.Rested.{IsRested}
 use Rattle.volume.proofs.Served.{not_made, served_later}
 use Rattle.volume.proofs.committing.commit_at_rest.Goals as goal
 
-pub settle_at_rest-requires-clause-intended : goal.settle_at_rest-requires-clause-intended
-settle_at_rest-requires-clause-intended g c =
+pub fail_uncommitted-requires-clause-intended : goal.fail_uncommitted-requires-clause-intended
+fail_uncommitted-requires-clause-intended g c =
     let why = c.in-Err.ensures.err in
-    (not_made g.D.Devices.state c.args.op c.in-Err.not.op c.args.session.now c.commit.new.self c.in-Err.not.answer c.memory.result.now c.memory.ensures.memory c.see_kept.ensures.kept why.0 why.1 why.3 c.commit.ensures.devices
+    (not_made g.D.Devices.state c.args.op c.in-Err.not.op c.args.session.now c.commit-committed.new.self c.in-Err.not.answer c.memory.result.now c.memory.ensures.memory c.see_kept.ensures.kept why.0 why.1 why.3 c.commit-committed.ensures.devices
     c.requires.intended).intended
 
-pub settle_at_rest-requires-clause-unmade : goal.settle_at_rest-requires-clause-unmade
-settle_at_rest-requires-clause-unmade g c =
+pub fail_uncommitted-requires-clause-unmade : goal.fail_uncommitted-requires-clause-unmade
+fail_uncommitted-requires-clause-unmade g c =
     let why = c.in-Err.ensures.err in
-    (not_made g.D.Devices.state c.args.op c.in-Err.not.op c.args.session.now c.commit.new.self c.in-Err.not.answer c.memory.result.now c.memory.ensures.memory c.see_kept.ensures.kept why.0 why.1 why.3 c.commit.ensures.devices
+    (not_made g.D.Devices.state c.args.op c.in-Err.not.op c.args.session.now c.commit-committed.new.self c.in-Err.not.answer c.memory.result.now c.memory.ensures.memory c.see_kept.ensures.kept why.0 why.1 why.3 c.commit-committed.ensures.devices
     c.requires.intended).unmade
+
+pub fail_uncommitted-requires-clause-helpless : goal.fail_uncommitted-requires-clause-helpless
+fail_uncommitted-requires-clause-helpless g c =
+    let why = c.in-Err.ensures.err in
+    let not = not_made g.D.Devices.state c.args.op c.in-Err.not.op c.args.session.now c.commit-committed.new.self c.in-Err.not.answer c.memory.result.now c.memory.ensures.memory c.see_kept.ensures.kept why.0 why.1 why.3 c.commit-committed.ensures.devices
+    c.requires.intended in
+    inr (subst IsRested (sym not.volume) c.requires.rested)
 
 pub returns-in-Err-clause-served : goal.returns-in-Err-clause-served
 returns-in-Err-clause-served g c =
     let why = c.in-Err.ensures.err in
     let state = g.D.Devices.state in
-    let not = not_made state c.args.op c.in-Err.not.op c.args.session.now c.commit.new.self c.in-Err.not.answer c.memory.result.now c.memory.ensures.memory c.see_kept.ensures.kept why.0 why.1 why.3 c.commit.ensures.devices
+    let not = not_made state c.args.op c.in-Err.not.op c.args.session.now c.commit-committed.new.self c.in-Err.not.answer c.memory.result.now c.memory.ensures.memory c.see_kept.ensures.kept why.0 why.1 why.3 c.commit-committed.ensures.devices
     c.requires.intended in
-    served_later state c.settle_at_rest.result c.args.op c.in-Err.not.op c.args.session.now c.commit.new.self c.settle_at_rest.new.session not.moved why.1 c.settle_at_rest.ensures.served
+    served_later state c.fail_uncommitted.result c.args.op c.in-Err.not.op c.args.session.now c.commit-committed.new.self c.fail_uncommitted.new.session not.moved why.1 c.fail_uncommitted.ensures.served

@@ -2,7 +2,8 @@ use Rattle.std.proofs.Common.{subst, true}
 use Rattle.core_state.specs.Events.{intended_by}
 use Rattle.core_volume.specs.Rulings.{IsRefused}
 use Rattle.core_actors.specs.declared.answer.Refusal.{Refusal}
-use Rattle.volume.proofs.Lacking.{buckets_are_full, commit_is_spent, leaf_is_full}
+use Rattle.volume.specs.Serving.{IsHelpless, lacks_room}
+use Rattle.volume.proofs.Lacking.{buckets_are_full, commit_is_spent, leaf_is_full, ring_is_full}
 use Rattle.volume.proofs.Replying.{intended_is_done}
 use Rattle.volume.proofs.Served.{lack_result, spent_served}
 use Rattle.volume.proofs.committing.refuse.Goals as goal
@@ -16,8 +17,27 @@ fail_spent-requires-clause-done g c = intended_is_done c.args.session.now.core.m
 pub lack-requires-clause-done : goal.lack-requires-clause-done
 lack-requires-clause-done g c = intended_is_done c.args.session.now.core.memory c.args.op c.requires.intended
 
-pub lack-requires-then-none-clause-done : goal.lack-requires-then-none-clause-done
-lack-requires-then-none-clause-done g c = intended_is_done c.args.session.now.core.memory c.args.op c.requires.intended
+pub lack-requires-in-RingFull-clause-done : goal.lack-requires-in-RingFull-clause-done
+lack-requires-in-RingFull-clause-done g c = intended_is_done c.args.session.now.core.memory c.args.op c.requires.intended
+
+pub lack-requires-in-NoSpace-clause-done : goal.lack-requires-in-NoSpace-clause-done
+lack-requires-in-NoSpace-clause-done g c = intended_is_done c.args.session.now.core.memory c.args.op c.requires.intended
+
+pub returns-in-RingFull-clause-served : goal.returns-in-RingFull-clause-served
+returns-in-RingFull-clause-served g c =
+    let memory = c.args.session.now.core.memory in
+    let refused = subst (λ (refusal : Refusal). IsRefused memory.volume (intended_by memory 0) true refusal) c.in-RingFull.is c.requires.refused in
+    let helpless = subst (λ (refusal : Refusal). IsHelpless memory.volume (lacks_room refusal)) c.in-RingFull.is c.requires.helpless in
+    lack_result g.D.Devices.state c.lack-in-RingFull.result c.args.op c.nothing_short-in-RingFull.result c.args.session.now c.lack-in-RingFull.new.session
+    (ring_is_full memory c.args.op c.requires.intended c.in-RingFull.field-0 c.nothing_short-in-RingFull.result c.nothing_short-in-RingFull.ensures helpless refused) c.lack-in-RingFull.ensures.entered c.lack-in-RingFull.ensures.reply
+
+pub returns-in-NoSpace-clause-served : goal.returns-in-NoSpace-clause-served
+returns-in-NoSpace-clause-served g c =
+    let memory = c.args.session.now.core.memory in
+    let refused = subst (λ (refusal : Refusal). IsRefused memory.volume (intended_by memory 0) true refusal) c.in-NoSpace.is c.requires.refused in
+    let helpless = subst (λ (refusal : Refusal). IsHelpless memory.volume (lacks_room refusal)) c.in-NoSpace.is c.requires.helpless in
+    lack_result g.D.Devices.state c.lack-in-NoSpace.result c.args.op c.in-NoSpace.none.short c.args.session.now c.lack-in-NoSpace.new.session
+    (buckets_are_full memory c.args.op c.requires.intended c.in-NoSpace.none helpless refused) c.lack-in-NoSpace.ensures.entered c.lack-in-NoSpace.ensures.reply
 
 pub returns-in-NeedSplit-clause-served : goal.returns-in-NeedSplit-clause-served
 returns-in-NeedSplit-clause-served g c =
@@ -31,10 +51,3 @@ returns-in-Spent-clause-served g c =
     let memory = c.args.session.now.core.memory in
     let refused = subst (λ (refusal : Refusal). IsRefused memory.volume (intended_by memory 0) true refusal) c.in-Spent.is c.requires.refused in
     spent_served g.D.Devices.state c.args.op c.fail_spent.result c.args.session.now c.fail_spent.new.session c.fail_spent.ensures.reply (commit_is_spent memory c.args.op c.requires.intended refused) c.fail_spent.ensures.entered
-
-pub returns-then-none-clause-served : goal.returns-then-none-clause-served
-returns-then-none-clause-served g c =
-    let memory = c.args.session.now.core.memory in
-    let refused = subst (λ (refusal : Refusal). IsRefused memory.volume (intended_by memory 0) true refusal) c.in-NoSpace.is c.requires.refused in
-    lack_result g.D.Devices.state c.lack-then-none.result c.args.op c.in-NoSpace.none.short c.args.session.now c.lack-then-none.new.session
-    (buckets_are_full memory c.args.op c.requires.intended c.in-NoSpace.none c.if-none.true refused) c.lack-then-none.ensures.entered c.lack-then-none.ensures.reply

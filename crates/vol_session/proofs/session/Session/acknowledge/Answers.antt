@@ -5,7 +5,7 @@ use Rattle.forest_ops.specs.declared.operation.Op.TheVariants.{Sync}
 use Rattle.forest_ops.specs.declared.operation.Reply.TheVariants.{Synced}
 use Rattle.vol_core.specs.Left.{KeepsLeft}
 use Rattle.vol_core.specs.Safety.{MayBegin}
-use Rattle.vol_session.proofs.Kept.{acknowledged_all}
+use Rattle.vol_session.proofs.SessionInvariant.{acknowledged_all}
 use Rattle.vol_session.specs.Sessions.{IsSession}
 use Rattle.vol_session.proofs.session.Session.acknowledge.Goals as goal
 

@@ -3,7 +3,7 @@ use Rattle.core_volume.specs.Volumes.{IsVolume}
 use Rattle.dev_model.specs.Devices.{now}
 use Rattle.vol_core.specs.Left.{KeepsLeft}
 use Rattle.vol_core.specs.Safety.{MayBegin}
-use Rattle.vol_session.proofs.Kept.{opened}
+use Rattle.vol_session.proofs.SessionInvariant.{opened}
 use Rattle.vol_session.specs.Sessions.{IsSession}
 use Rattle.vol_session.proofs.session.Session.of.Goals as goal
 

@@ -1,8 +1,8 @@
 use Rattle.std.proofs.Common.{subst}
 use Rattle.core_volume.specs.Volumes.{IsVolume, KeepParts}
 use Rattle.journal_writer.specs.Queues.{IsQueue}
-use Rattle.vol_session.proofs.Kept.{stepped}
-use Rattle.vol_session.proofs.Moves.{step_moves}
+use Rattle.vol_session.proofs.SessionInvariant.{stepped}
+use Rattle.vol_session.proofs.UncommittingEvents.{step_moves}
 use Rattle.vol_session.proofs.NumbersStepped.{numbers-stepped}
 use Rattle.vol_session.proofs.WriterKept.{writer-stepped}
 use Rattle.vol_session.proofs.session.Session.step.Goals as goal

@@ -1,5 +1,5 @@
 use Rattle.std.proofs.Common.{sym, subst}
-use Rattle.vol_session.proofs.Kept.{told}
+use Rattle.vol_session.proofs.SessionInvariant.{told}
 use Rattle.vol_session.specs.Sessions.{IsSession, IsToldNow}
 use Rattle.vol_session.proofs.session.Session.tell.Goals as goal
 

@@ -13,9 +13,9 @@ returns-clause-no_commit g c =
 pub returns-clause-legal : goal.returns-clause-legal
 returns-clause-legal g c = λ tells begins.
     let same : c.into_parts-devices.result.1 ≡ c.self.inside.session.trace = c.into_parts-devices.ensures.trace ∙ ap (λ (s : SessionState g.row.D.Denot). s.trace) c.halt_of-halted.ensures.rest in
-    subst (λ (trace : History). IsLegal (forest_found g.O.Opening.found g.O.Opening.start) trace) (sym same) (c.see_kept.ensures.legal tells begins)
+    subst (λ (trace : History). IsLegal (forest_found g.O.Opening.found g.O.Opening.start) trace) (sym same) (c.see_history.ensures.legal tells begins)
 
 pub returns-clause-exact : goal.returns-clause-exact
 returns-clause-exact g c = λ tells begins.
     let same : c.into_parts-devices.result.1 ≡ c.self.inside.session.trace = c.into_parts-devices.ensures.trace ∙ ap (λ (s : SessionState g.row.D.Denot). s.trace) c.halt_of-halted.ensures.rest in
-    subst (λ (trace : History). EachEntry (IsExact (forest_found g.O.Opening.found g.O.Opening.start)) trace) (sym same) (c.see_kept.ensures.exact tells begins)
+    subst (λ (trace : History). EachEntry (IsExact (forest_found g.O.Opening.found g.O.Opening.start)) trace) (sym same) (c.see_history.ensures.exact tells begins)

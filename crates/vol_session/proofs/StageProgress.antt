@@ -30,11 +30,11 @@ use Rattle.vol_session.specs.Writing.{HasParts}
 use Rattle.vol_session.specs.Left.{entries_left, flags_left, nodes_left, parts_left, works_left}
 use Rattle.vol_session.specs.Rounds.{Goes, GoesWell, IsDue, IsNext, IsOfDue, IsSeen, event_of, outcome_of, stop_of}
 use Rattle.vol_session.specs.Writeback.{stopped_by}
-use Rattle.vol_session.proofs.Flags.{few_flags, length-with_flags}
+use Rattle.vol_session.proofs.FlushFlags.{few_flags, length-with_flags}
 use Rattle.vol_session.proofs.JournalFalls.{falls-flushed, falls-sealed, falls-settled, falls-written, less_nodes}
-use Rattle.vol_session.proofs.Made.{IsMadeSo, block_so, flushed_so, frozen_so, placed_so, sealed_so, settled_so, told_so, written_so}
+use Rattle.vol_session.proofs.DueEvents.{IsMadeSo, block_so, flushed_so, frozen_so, placed_so, sealed_so, settled_so, told_so, written_so}
 use Rattle.vol_session.proofs.NodesFall.{entries-placed, falls-frozen, nodes-placed, nodes-written}
-use Rattle.vol_session.proofs.Resting.{flying, journal_flushes, journal_is, nodes_are, nodes_flush, part_left, quiet, sealing_is, some_left, writing_is}
+use Rattle.vol_session.proofs.WorkStages.{flying, journal_flushes, journal_is, nodes_are, nodes_flush, part_left, quiet, sealing_is, some_left, writing_is}
 
 -- ---- what is due
 

@@ -9,8 +9,8 @@ use Rattle.dev_model.specs.Frames.{after_writes}
 use Rattle.vol_session.specs.Sessions.{SessionState}
 use Rattle.vol_session.specs.Rounds.{Goes, GoesWell}
 use Rattle.vol_session.specs.Writeback.{IsWorked, KeepsKeys, StopsWith, stopped_by}
-use Rattle.vol_session.specs.declared.stop.Stop.{Stop}
-use Rattle.vol_session.specs.declared.stop.Stop.TheVariants as stops
+use Rattle.vol_session.specs.declared.writeback_end.WritebackEnd.{WritebackEnd}
+use Rattle.vol_session.specs.declared.writeback_end.WritebackEnd.TheVariants as stops
 
 keeps_here : (memory : State) → KeepsKeys memory memory
 keeps_here memory = record { keys = refl; commits = refl; layout = refl; turn = refl; actor = record { operation = refl; looks = refl; has_ids = refl; intended = refl } }
@@ -38,7 +38,7 @@ worked_then {D} old mid new first second = record {
   rest = second.rest ∙ ap (λ (s : SessionState D). record s { core = new.core }) first.rest;
 }
 
-stops_then : {U : Type 0} (result : Result U Stop) (first before after : ℕ) (old mid new : Volume) → first ≤ before → mid.halted ≡ old.halted → StopsWith result before after mid new → StopsWith result first after old new
+stops_then : {U : Type 0} (result : Result U WritebackEnd) (first before after : ℕ) (old mid new : Volume) → first ≤ before → mid.halted ≡ old.halted → StopsWith result before after mid new → StopsWith result first after old new
 stops_then (Ok done) first before after old mid new later same is = is ∙ same
 stops_then (Err (stops.DeviceFault dev)) first before after old mid new later same is = let from = is.3 in (sym same ∙ is.0, is.1, is.2, omega (arith, later, from), is.4)
 stops_then (Err (stops.Halted halt)) first before after old mid new later same is = (is.0 ∙ same, is.1)
@@ -53,7 +53,7 @@ module _ {D : Type 0} (state : D → DevicesState) where
   goes_here session = record { worked = worked_here session; stops = refl; cause = refl; device = tt; goes_on = go_on_here (state session.core.devices) }
 
   -- One part was done after another one.
-  pub goes_then : {U : Type 0} (result : Result U Stop) (old mid new : SessionState D) → GoesWell state old mid → Goes state result mid new → Goes state result old new
+  pub goes_then : {U : Type 0} (result : Result U WritebackEnd) (old mid new : SessionState D) → GoesWell state old mid → Goes state result mid new → Goes state result old new
   goes_then result old mid new first second = record {
     worked = worked_then old mid new first.worked second.worked;
     stops = stops_then result (state old.core.devices).moment (state mid.core.devices).moment (state new.core.devices).moment old.core.memory.volume mid.core.memory.volume new.core.memory.volume first.goes_on.later first.stops second.stops;

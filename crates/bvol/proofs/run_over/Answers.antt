@@ -4,7 +4,7 @@ use Rattle.std.specs.declared.fs.File.{File}
 use Rattle.std.proofs.lemmas.List.{length-map}
 use Rattle.shell.specs.Tasks.{IsAsked, task_of}
 use Rattle.file_devices.specs.declared.image.Image.{Image}
-use Rattle.bvol.proofs.run_on.Goals as goal
+use Rattle.bvol.proofs.run_over.Goals as goal
 
 pub run_task-ended-requires-after_bounds : goal.run_task-ended-requires-after_bounds
 run_task-ended-requires-after_bounds g c κs within =

@@ -27,7 +27,7 @@ use Rattle.core_actors.specs.declared.answer.Refusal.{Refusal}
 use Rattle.core_actors.specs.declared.answer.Refusal.TheVariants as refusals
 use Rattle.vol_session.specs.Rounds.{IsOfDue, outcome_of, stop_of}
 use Rattle.vol_session.specs.Writeback.{KeepsKeys, KeepsTransaction, StopsWith}
-use Rattle.vol_session.proofs.Resting.{IsQuiet}
+use Rattle.vol_session.proofs.WorkStages.{IsQuiet}
 
 -- ---- what is under way
 

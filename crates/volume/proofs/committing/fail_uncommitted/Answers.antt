@@ -1,5 +1,5 @@
 use Rattle.volume.proofs.Served.{moved_unserved, stepped_moves}
-use Rattle.volume.proofs.committing.settle_at_rest.Goals as goal
+use Rattle.volume.proofs.committing.fail_uncommitted.Goals as goal
 
 pub returns-in-NoMemory-clause-unserved : goal.returns-in-NoMemory-clause-unserved
 returns-in-NoMemory-clause-unserved g c =

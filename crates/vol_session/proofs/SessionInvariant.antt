@@ -57,7 +57,7 @@ use Rattle.vol_session.proofs.GoodMarks.{good_joined, good_told, memory_means, m
 use Rattle.vol_session.proofs.LaterForests.{one_commit_more, same_count}
 use Rattle.vol_session.proofs.MarkParts.{AreAtMarks, joined_at, joined_commits, joined_oldest}
 use Rattle.vol_session.proofs.MovedMarks.{at_parts, moved_at, moved_commits, moved_durable, moved_layout, moved_rise, parts_at}
-use Rattle.vol_session.proofs.Moves.{Moves}
+use Rattle.vol_session.proofs.UncommittingEvents.{Moves}
 use Rattle.vol_session.proofs.NextEntries.{acks_later, acks_synced, acks_told, answer_is_exact, answer_is_legal, commit_is_exact, sync_is_exact, sync_is_legal}
 use Rattle.vol_session.proofs.NumbersKept.{low-committed}
 use Rattle.vol_session.proofs.NumbersStepped.{numbers-opened}

@@ -1,8 +1,8 @@
 use vol_core::{Halt, NoSpace, Refusal};
 
-/// Why a work ends before it is done.
-#[derive(PartialEq, Eq, Drop)]
-pub enum Stop {
+/// Why a work on what is durable ends before it is done.
+#[derive(Drop)]
+pub enum WritebackEnd {
     /// A write or a flush of this device failed, so that the session stops writing.
     DeviceFault(u8),
     /// The session had stopped writing before.
