@@ -159,7 +159,8 @@ fn push_listing(lines: &mut String, count: u64) -> Result<(), AllocError> {
 fn push_found(lines: &mut String, count: u64) -> Result<(), AllocError> {
     lines.push_str("@0 1 ")?;
     push_listing(lines, count)?;
-    lines.push_str("\nend commits 0 synced 0\n")
+    lines.push_str("\nend commits 0 synced 0\n")?;
+    Ok(())
 }
 
 fn push_script(script: &mut String) -> Result<(), AllocError> {
@@ -212,7 +213,8 @@ fn answer_all(expected: &mut Answers, failure: Failure) -> Result<(), AllocError
     expected.status = 6;
     let commits = expected.commits;
     let synced = expected.synced();
-    write!(expected.lines, "end commits {commits} synced {synced}\n")
+    write!(expected.lines, "end commits {commits} synced {synced}\n")?;
+    Ok(())
 }
 
 // The run of the script, which ends as expected.
@@ -227,7 +229,7 @@ fn run_of<'a>(script: &'a str, expected: &'a Answers) -> Trial<'a> {
 }
 
 // A run of `ls main:/` that prints this.
-fn listing_of(found: &str) -> Trial {
+fn listing_of<'a>(found: &'a str) -> Trial<'a> {
     Trial {
         script: b"ls main:/\n",
         status: Some(0),

@@ -1,11 +1,11 @@
 //! Runs, and how they must end.
 
 use crate::histories::{has_acks, is_history};
-use crate::volumes::taken;
 use dev_model::{MemDevices, NoGate};
 use forest_ops::{Acks, Trace};
 use shell::{Ended, run_words};
 use std::alloc::{AllocError, Global};
+use std::mem;
 use std::rc::RcStr;
 use text_io::{MemSink, MemSource};
 
@@ -88,6 +88,12 @@ fn sink_of(alloc: Global, trial: &Trial) -> Result<MemSink, AllocError> {
     Ok(sink.in_pieces(trial.most_given.max(1)))
 }
 
+/// The devices, in whose place blank ones stand.
+pub fn taken(alloc: Global, devices: &mut MemDevices) -> Result<MemDevices, AllocError> {
+    let blank = MemDevices::blank(alloc, &[0])?;
+    Ok(mem::replace(devices, blank))
+}
+
 // Makes a run. The devices are afterwards as it left them.
 fn run_over(
     alloc: Global,
@@ -104,9 +110,10 @@ fn run_over(
         devices: left,
         trace,
         acks,
-        shorts: _,
+        shorts,
         early_end: _,
     } = ended;
+    drop(shorts);
     let calls = left.calls().saturating_sub(before);
     *devices = left;
     Ok(Ran {
@@ -240,7 +247,7 @@ fn seen_for(
     trial: &Trial,
 ) -> Result<Option<Seen>, AllocError> {
     push_words(alloc, words, trial.arguments)?;
-    seen_with(alloc, devices, words, trial)
+    seen_with(alloc, devices, words.as_slice(), trial)
 }
 
 /// Makes the run of a trial, and says what is seen of it where it ends as it must.

@@ -1,10 +1,9 @@
 //! Fresh volumes, and devices of which blocks are changed between two runs.
 
-use crate::trials::{EMPTY_RUN, Trial};
+use crate::trials::{EMPTY_RUN, Trial, taken};
 use dev_model::{Devices, MemDevices, Pick};
 use geometry::{session_bytes, session_named};
 use std::alloc::{AllocError, Global};
-use std::mem;
 
 /// The id of the volumes of these tests, as the arguments give it.
 pub const ID_TEXT: &str = "00000000-0000-4000-8000-000000000001";
@@ -50,12 +49,6 @@ pub const FORMAT_TWO: Trial<'static> = Trial {
 /// the journal and 16 of each of nine roots are read; the next session is written and flushed; and the only entry is read once
 /// more, as the journal is mended. On two devices with two replicas of everything it makes twice as many.
 pub const MOUNTING: u64 = 407;
-
-/// The devices, in whose place blank ones stand.
-pub fn taken(alloc: Global, devices: &mut MemDevices) -> Result<MemDevices, AllocError> {
-    let blank = MemDevices::blank(alloc, &[0])?;
-    Ok(mem::replace(devices, blank))
-}
 
 /// Restarts the devices, with what this pick leaves.
 pub fn restart(alloc: Global, devices: &mut MemDevices, pick: Pick) -> Result<(), AllocError> {
