@@ -1,13 +1,35 @@
-//! Whole formats and runs over sources, sinks and devices in memory, for the crates that test them. All here serves tests
-//! alone, and promises no more than that it is safe and returns.
+//! Runs and formats over sources, sinks and devices in memory that crash at each call of their devices, or of which a call fails:
+//! what they print, how many calls they make, their history and acknowledgements, and what the next run finds on what is left.
+//! The crate holds tests alone. Whole runs that need no call to fail are those of `checks/golden`.
 #![tactic(auto)]
 
-mod runs;
+#[cfg(test)]
+mod blank_devices;
+#[cfg(test)]
+mod earlier_volumes;
+#[cfg(test)]
+mod failing_calls;
+#[cfg(test)]
+mod format_stages;
+#[cfg(test)]
+mod halted_sessions;
+#[cfg(test)]
+mod histories;
+#[cfg(test)]
+mod longer_script;
+#[cfg(test)]
+mod mending;
+#[cfg(test)]
+mod session_numbers;
+#[cfg(test)]
+mod source_pieces;
+#[cfg(test)]
 mod steps;
+#[cfg(test)]
+mod sync_crashes;
+#[cfg(test)]
+mod syncs;
+#[cfg(test)]
+mod trials;
+#[cfg(test)]
 mod volumes;
-
-pub use steps::{
-    ALL_WRITTEN, Crashed, EMPTY_RUN, FORMAT_ONE, FORMAT_TWO, NONE_WRITTEN, Seen, Start, Step,
-    Trial, crash_in, ends_so, fails_so, other_row, other_step,
-};
-pub use volumes::{ID_TEXT, MOUNTING};
