@@ -112,16 +112,16 @@ impl Pool {
         ensures short { IfErr result (IsFaultOf (IsShort blocks actor replicas held.now self.old)) }
         ensures err { OnErr result (self.new ≡ self.old) }
     {
+        let mut pointers = SpareList::new(alloc);
+        pointers.reserve(replicas as usize)?;
         let want = Want {
             actor,
             blocks: blocks as usize,
         };
         if count_givers(&self.devices, want, held.as_slice()) < replicas as usize {
-            let short = short_beside(alloc, &self.devices, blocks, held)?;
+            let short = short_of(alloc, &self.devices, blocks, held.copy(alloc)?)?;
             return Err(PoolFault::NoSpace(short));
         }
-        let mut pointers = SpareList::new(alloc);
-        pointers.reserve(replicas as usize)?;
         reserve_all(
             &mut self.devices,
             want,
@@ -298,20 +298,6 @@ fn take_nodes(devices: &mut [Device], replicas: u8)
         let device = &mut devices[dev as usize];
         device.take_node();
     }
-}
-
-// What is short, beside what is held back.
-fn short_beside(
-    alloc: Global,
-    devices: &[Device],
-    need: u8,
-    held: &Counts,
-) -> Result<Short, AllocError>
-    ensures { IfOk result (λ short. short ≡ record
-        { need = need; free = map free_count devices.now; held = held.now }) }
-{
-    let held = held.copy(alloc)?;
-    short_of(alloc, devices, need, held)
 }
 
 // What is short: how many blocks were asked for, and for each device its free buckets and those that are held back.

@@ -1,9 +1,7 @@
 -- What `expand` makes of updates: those of a plan, and those of the keys on space. See `Follows`.
-use Rattle.std.specs.Prelude.{true, false, Option, List, [], ◌++◌, map}
+use Rattle.std.specs.Prelude.{true, false, List, [], ◌++◌, map}
 use Rattle.vol_types.specs.KeyMaps.{KeyMap}
 use Rattle.vol_types.specs.declared.keys.Update.{Update}
-use Rattle.vol_types.specs.declared.positions.Pos.{Pos}
-use Rattle.vol_types.specs.declared.values.Value.{Value}
 use Rattle.key_triggers.specs.Changes.{values_after, values_before}
 use Rattle.key_triggers.specs.Owners.{Owners, held_by, left_by, owner_update}
 use Rattle.key_triggers.specs.Stamps.{stamped}
@@ -16,10 +14,6 @@ tallies_of keys updates = counted_values true (values_after updates []) (counted
 -- to which extents blocks belong by updates
 abbrev pub owners_of : KeyMap → List Update → Owners
 owners_of keys updates = held_by (values_after updates []) (left_by (values_before keys updates []) [])
-
--- the updates of the keys on space, by the values before and after
-abbrev pub space_updates : KeyMap → List (Pos × Option Value) → List (Pos × Option Value) → List Update
-space_updates keys before after = map (live_update keys) (counted_values true after (counted_values false before [])) ++ map owner_update (held_by after (left_by before []))
 
 -- the updates with the present generations, and after them those of the keys on space
 abbrev pub expanded : KeyMap → List Update → List Update

@@ -24,9 +24,8 @@ pub fn values_before<V: View>(
     ensures cause { IfErr result (IsCause (V.held view.new)) }
 {
     let mut values = BTreeMap::new(alloc);
-    if let Err(hold) = note_all_before(view, &mut values, updates) {
-        drop(values);
-        return Err(hold);
+    for update in updates.iter() {
+        note_before(view, &mut values, update)?;
     }
     Ok(values)
 }
@@ -39,43 +38,10 @@ pub fn values_after(
     ensures { IfOk result (λ values. values.entries ≡ values_after updates.now []) }
 {
     let mut values = BTreeMap::new(alloc);
-    if let Err(error) = note_all_after(alloc, &mut values, updates) {
-        drop(values);
-        return Err(error);
+    for update in updates.iter() {
+        note_after(alloc, &mut values, update)?;
     }
     Ok(values)
-}
-
-// Notes what stands before each update.
-fn note_all_before<V: View>(
-    view: &mut V,
-    values: &mut BTreeMap<Pos, Option<Value>>,
-    updates: &[Update],
-) -> Result<(), Hold>
-    ensures values { OnOk result ((keys : KeyMap) → GivesLooks keys (V.made view.new)
-        → values.new.entries ≡ values_before keys updates.now values.old.entries) }
-    ensures looks { GoesOn (V.made view.old) (V.made view.new) }
-    ensures ids { V.told view.new ≡ V.told view.old }
-    ensures cause { IfErr result (IsCause (V.held view.new)) }
-{
-    for update in updates.iter() {
-        note_before(view, values, update)?;
-    }
-    Ok(())
-}
-
-// Notes what each update puts or removes.
-fn note_all_after(
-    alloc: Global,
-    values: &mut BTreeMap<Pos, Option<Value>>,
-    updates: &[Update],
-) -> Result<(), AllocError>
-    ensures { OnOk result (values.new.entries ≡ values_after updates.now values.old.entries) }
-{
-    for update in updates.iter() {
-        note_after(alloc, values, update)?;
-    }
-    Ok(())
 }
 
 // Notes what stands before an update, if it is one of an extent or a hole.

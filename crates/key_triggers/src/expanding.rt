@@ -1,10 +1,7 @@
-ghost use Rattle.std.specs.Prelude.{◌≡◌, ◌++◌, [], All, List, IfErr, IfOk, OnOk, false, map, true};
-ghost use Rattle.key_triggers.specs.Changes.{values_after};
+ghost use Rattle.std.specs.Prelude.{◌≡◌, [], All, List, IfErr, IfOk, map};
 ghost use Rattle.key_triggers.specs.Owners.{held_by, left_by, owner_update};
-ghost use Rattle.key_triggers.specs.Expanding.{expanded, space_updates};
+ghost use Rattle.key_triggers.specs.Expanding.{expanded};
 ghost use Rattle.key_triggers.specs.Follows.{Follows, IsExpanded, MayFollow};
-ghost use Rattle.key_triggers.specs.Stamps.{stamped};
-ghost use Rattle.key_triggers.specs.Tallies.{counted_values, live_update};
 ghost use Rattle.key_view.specs.Holds.{IsCause};
 ghost use Rattle.key_view.specs.Seen.{GoesOn};
 ghost use Rattle.vol_types.specs.KeyMaps.{GivesLooks, KeyMap, with_updates};
@@ -16,7 +13,7 @@ use crate::changes::{values_after, values_before};
 use crate::laws::expanded_keys_follow;
 use crate::owners::{hold, leave, owner_updates};
 use crate::stamps::stamp_all;
-use crate::tallies::{Tally, count_values, live_updates};
+use crate::tallies::{count_values, live_updates};
 use key_view::{Hold, View};
 use std::alloc::{AllocError, Global};
 use std::collections::BTreeMap;
@@ -54,116 +51,16 @@ fn expanded<V: View>(alloc: Global, view: &mut V, updates: &[Update]) -> Result<
     ensures cause { IfErr result (IsCause (V.held view.new)) }
 {
     let before = values_before(alloc, view, updates)?;
-    let all = expanded_over(alloc, view, updates, &before);
-    drop(before);
-    all
-}
-
-// The same over the values before them.
-fn expanded_over<V: View>(
-    alloc: Global,
-    view: &mut V,
-    updates: &[Update],
-    before: &BTreeMap<Pos, Option<Value>>,
-) -> Result<Updates, Hold>
-    ensures updates { IfOk result (λ all. (keys : KeyMap) → GivesLooks keys (V.made view.new)
-        → all ≡ map (stamped keys) updates.now
-        ++ space_updates keys before.now.entries (values_after updates.now [])) }
-    ensures looks { GoesOn (V.made view.old) (V.made view.new) }
-    ensures ids { V.told view.new ≡ V.told view.old }
-    ensures cause { IfErr result (IsCause (V.held view.new)) }
-{
     let after = values_after(alloc, updates)?;
-    let all = all_updates(alloc, view, updates, before, &after);
-    drop(after);
-    all
-}
-
-// The updates with the present generations, and those of the keys on space by values before and after them.
-fn all_updates<V: View>(
-    alloc: Global,
-    view: &mut V,
-    updates: &[Update],
-    before: &BTreeMap<Pos, Option<Value>>,
-    after: &BTreeMap<Pos, Option<Value>>,
-) -> Result<Updates, Hold>
-    ensures updates { IfOk result (λ all. (keys : KeyMap) → GivesLooks keys (V.made view.new)
-        → all ≡ map (stamped keys) updates.now
-        ++ space_updates keys before.now.entries after.now.entries) }
-    ensures looks { GoesOn (V.made view.old) (V.made view.new) }
-    ensures ids { V.told view.new ≡ V.told view.old }
-    ensures cause { IfErr result (IsCause (V.held view.new)) }
-{
-    let mut all = stamp_all(alloc, view, updates)?;
-    if let Err(hold) = add_space(alloc, view, before, after, &mut all) {
-        drop(all);
-        return Err(hold);
-    }
-    Ok(all)
-}
-
-// Adds the updates of the keys on space.
-fn add_space<V: View>(
-    alloc: Global,
-    view: &mut V,
-    before: &BTreeMap<Pos, Option<Value>>,
-    after: &BTreeMap<Pos, Option<Value>>,
-    all: &mut Updates,
-) -> Result<(), Hold>
-    ensures updates { OnOk result ((keys : KeyMap) → GivesLooks keys (V.made view.new)
-        → all.new ≡ all.old ++ space_updates keys before.now.entries after.now.entries) }
-    ensures looks { GoesOn (V.made view.old) (V.made view.new) }
-    ensures ids { V.told view.new ≡ V.told view.old }
-    ensures cause { IfErr result (IsCause (V.held view.new)) }
-{
     let mut tallies = BTreeMap::new(alloc);
-    let added = add_lives(alloc, view, before, after, &mut tallies, all);
-    drop(tallies);
-    added?;
-    add_owners(alloc, before, after, all)?;
-    Ok(())
-}
-
-// Adds the updates of the keys of buckets, where nothing was counted so far.
-fn add_lives<V: View>(
-    alloc: Global,
-    view: &mut V,
-    before: &BTreeMap<Pos, Option<Value>>,
-    after: &BTreeMap<Pos, Option<Value>>,
-    tallies: &mut BTreeMap<Pos, Tally>,
-    all: &mut Updates,
-) -> Result<(), Hold>
-    requires { tallies.old.entries ≡ [] }
-    ensures updates { OnOk result ((keys : KeyMap) → GivesLooks keys (V.made view.new)
-        → all.new ≡ all.old ++ map (live_update keys) (counted_values true after.now.entries
-        (counted_values false before.now.entries []))) }
-    ensures looks { GoesOn (V.made view.old) (V.made view.new) }
-    ensures ids { V.told view.new ≡ V.told view.old }
-    ensures cause { IfErr result (IsCause (V.held view.new)) }
-{
-    count_values(tallies, false, before)?;
-    count_values(tallies, true, after)?;
-    let mut lives = live_updates(alloc, view, tallies)?;
-    let added = all.append(&mut lives);
-    drop(lives);
-    added?;
-    Ok(())
-}
-
-// Adds the updates of the keys of blocks.
-fn add_owners(
-    alloc: Global,
-    before: &BTreeMap<Pos, Option<Value>>,
-    after: &BTreeMap<Pos, Option<Value>>,
-    all: &mut Updates,
-) -> Result<(), AllocError>
-    ensures { OnOk result (all.new ≡ all.old ++ map owner_update (held_by after.now.entries
-        (left_by before.now.entries []))) }
-{
-    let mut owners = owners_of(alloc, before, after)?;
-    let added = all.append(&mut owners);
-    drop(owners);
-    added
+    count_values(&mut tallies, false, &before)?;
+    count_values(&mut tallies, true, &after)?;
+    let mut all = stamp_all(alloc, view, updates)?;
+    let mut lives = live_updates(alloc, view, &tallies)?;
+    let mut owners = owners_of(alloc, &before, &after)?;
+    all.append(&mut lives)?;
+    all.append(&mut owners)?;
+    Ok(all)
 }
 
 // The updates of the keys of blocks.
@@ -176,23 +73,7 @@ fn owners_of(
         (left_by before.now.entries []))) }
 {
     let mut owners = BTreeMap::new(alloc);
-    let updates = updates_over(alloc, before, after, &mut owners);
-    drop(owners);
-    updates
-}
-
-// The same, where no owner was noted so far.
-fn updates_over(
-    alloc: Global,
-    before: &BTreeMap<Pos, Option<Value>>,
-    after: &BTreeMap<Pos, Option<Value>>,
-    owners: &mut BTreeMap<Pos, Option<Pos>>,
-) -> Result<Updates, AllocError>
-    requires { owners.old.entries ≡ [] }
-    ensures { IfOk result (λ updates. updates ≡ map owner_update (held_by after.now.entries
-        (left_by before.now.entries []))) }
-{
-    leave(owners, before)?;
-    hold(owners, after)?;
-    owner_updates(alloc, owners)
+    leave(&mut owners, before)?;
+    hold(&mut owners, after)?;
+    owner_updates(alloc, &owners)
 }

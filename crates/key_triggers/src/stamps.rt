@@ -1,4 +1,4 @@
-ghost use Rattle.std.specs.Prelude.{◌≡◌, ◌++◌, IfErr, IfOk, OnOk, map, option_copied, option_map};
+ghost use Rattle.std.specs.Prelude.{◌≡◌, IfErr, IfOk, map, option_copied, option_map};
 ghost use Rattle.key_triggers.specs.Stamps.{generation_at, stamped, stamped_pointer, stamped_value};
 ghost use Rattle.key_view.specs.Holds.{IsCause};
 ghost use Rattle.key_view.specs.Seen.{GoesOn};
@@ -19,26 +19,6 @@ pub fn stamp_all<V: View>(alloc: Global, view: &mut V, updates: &[Update]) -> Re
     ensures cause { IfErr result (IsCause (V.held view.new)) }
 {
     let mut stamps = Updates::new(alloc);
-    if let Err(hold) = add_stamps(alloc, view, updates, &mut stamps) {
-        drop(stamps);
-        return Err(hold);
-    }
-    Ok(stamps)
-}
-
-// Adds the updates with the present generations.
-fn add_stamps<V: View>(
-    alloc: Global,
-    view: &mut V,
-    updates: &[Update],
-    stamps: &mut Updates,
-) -> Result<(), Hold>
-    ensures updates { OnOk result ((keys : KeyMap) → GivesLooks keys (V.made view.new)
-        → stamps.new ≡ stamps.old ++ map (stamped keys) updates.now) }
-    ensures looks { GoesOn (V.made view.old) (V.made view.new) }
-    ensures ids { V.told view.new ≡ V.told view.old }
-    ensures cause { IfErr result (IsCause (V.held view.new)) }
-{
     for update in updates.iter() {
         let value = stamp_value(alloc, view, update.value.as_ref())?;
         stamps.push(Update {
@@ -48,7 +28,7 @@ fn add_stamps<V: View>(
             value,
         })?;
     }
-    Ok(())
+    Ok(stamps)
 }
 
 // The value with the present generations.
@@ -79,15 +59,11 @@ fn stamp_extent<V: View>(alloc: Global, view: &mut V, extent: &Extent) -> Result
     ensures ids { V.told view.new ≡ V.told view.old }
     ensures cause { IfErr result (IsCause (V.held view.new)) }
 {
-    let digests = extent.digests.copy(alloc)?;
-    let pointers = match stamp_pointers(alloc, view, extent.pointers.as_slice()) {
-        Ok(pointers) => pointers,
-        Err(hold) => {
-            drop(digests);
-            return Err(hold);
-        }
-    };
-    Ok(Extent { pointers, digests })
+    let pointers = stamp_pointers(alloc, view, extent.pointers.as_slice())?;
+    Ok(Extent {
+        pointers,
+        digests: extent.digests.copy(alloc)?,
+    })
 }
 
 // The pointers with the present generations.

@@ -26,7 +26,6 @@ impl SnapTree {
     {
         let changes = changes_of(self.alloc, &self.snaps, updates)?;
         if !will_stand(&self.snaps, &self.names, &changes) {
-            drop(changes);
             return Err(SnapFault::NoNode);
         }
         let stale = stale_of(self.alloc, &self.snaps, &self.names, &changes)?;
@@ -38,8 +37,6 @@ impl SnapTree {
             &changes,
         )?;
         link_stale(&self.snaps, &mut self.links, &stale);
-        drop(stale);
-        drop(changes);
         Ok(())
     }
 }

@@ -1,10 +1,9 @@
 ghost use Rattle.std.specs.Map.{values_of};
-ghost use Rattle.std.specs.Prelude.{◌≡◌, ◌&&◌, ◌++◌, ◌∷◌, [], All, IfOk, IsSome, OnErr, OnOk, None, Some, is_none, is_some, map, unwrap_or};
+ghost use Rattle.std.specs.Prelude.{◌≡◌, ◌&&◌, All, IfOk, IsSome, OnErr, OnOk, None, Some, is_none, is_some, map, unwrap_or};
 ghost use Rattle.node_mem.specs.Nodes.{with_keys};
 ghost use Rattle.tree_keys.specs.Changes.{fresh_positions, keys_of_changed, keys_with, values_before};
 ghost use Rattle.tree_keys.specs.Cuts.{with_entries};
-ghost use Rattle.tree_keys.specs.PlanLaws.{IsPlanning};
-ghost use Rattle.vol_types.specs.Maps.{IsMap, put_at, value_at, with_value};
+ghost use Rattle.vol_types.specs.Maps.{IsMap, put_at, value_at};
 ghost use Rattle.vol_types.specs.Positions.{pos_cmp};
 ghost use Rattle.vol_types.specs.Ranges.{IsKeyValue};
 ghost use Rattle.vol_types.specs.declared.positions.Pos.{Pos as APos};
@@ -12,82 +11,58 @@ ghost use Rattle.vol_types.specs.declared.values.Value.{Value as AValue};
 ghost use Rattle.vol_types.specs.declared.values.Value.TheVariants.{White};
 
 use crate::TreeKeys;
-use crate::planned::LastValues;
+use crate::copies::copy_borrowed;
 use node_mem::Change;
 use std::alloc::{AllocError, Global};
 use std::collections::BTreeMap;
 use vol_types::{Listing, Pos, Value};
 
+/// What changes come to: the last value of each position that is changed, and for each change the value before it.
+#[derive(Drop)]
+pub(crate) struct Plan {
+    pub(crate) last: BTreeMap<Pos, Option<Value>>,
+    pub(crate) before: Listing<Option<Value>>,
+}
+
 impl TreeKeys {
-    /// Makes all changes in their order, or none, and adds to an empty list, for each, the value that its position had
-    /// before it.
-    pub(crate) fn put_noted<C: Change>(
-        &mut self,
-        alloc: Global,
-        changes: &[C],
-        before: &mut Listing<Option<Value>>,
-    ) -> Result<(), AllocError>
-        requires in_range { All (λ change. IsKeyValue (C.key change).value) changes.now }
-        requires empty { before.old ≡ [] }
-        ensures ok { OnOk result (self.new ≡ with_entries self.old
-            (with_keys (map C.key changes.now) self.old.entries)) }
-        ensures before { OnOk result (before.new ≡ values_before (map C.key changes.now)
-            self.old.entries) }
-        ensures err { OnErr result (self.new ≡ self.old) }
+    /// Works out what changes come to, without making them.
+    pub(crate) fn plan<C: Change>(&self, alloc: Global, changes: &[C]) -> Result<Plan, AllocError>
+        requires { All (λ change. IsKeyValue (C.key change).value) changes.now }
+        ensures rises { IfOk result (λ plan. IsMap pos_cmp plan.last.entries) }
+        ensures in_range { IfOk result (λ plan. All IsKeyValue (values_of plan.last.entries)) }
+        ensures last { IfOk result (λ plan. (pos : APos)
+            → unwrap_or (value_at pos_cmp pos plan.last.entries)
+            (value_at pos_cmp pos self.now.entries) ≡ value_at pos_cmp pos
+            (with_keys (map C.key changes.now) self.now.entries)) }
+        ensures before { IfOk result (λ plan. plan.before ≡ values_before (map C.key changes.now)
+            self.now.entries) }
     {
         let _ = &self.keys;
-        let mut values = LastValues::new(alloc);
-        if let Err(error) = self.note_all(alloc, changes, &mut values, before) {
-            drop(values);
-            return Err(error);
-        }
-        if let Err(error) = self.take_room(alloc, &values) {
-            drop(values);
-            return Err(error);
-        }
-        self.make(values);
-        Ok(())
-    }
-
-    // Notes changes, where none was so far.
-    fn note_all<C: Change>(
-        &self,
-        alloc: Global,
-        changes: &[C],
-        values: &mut LastValues,
-        before: &mut Listing<Option<Value>>,
-    ) -> Result<(), AllocError>
-        requires in_range { All (λ change. IsKeyValue (C.key change).value) changes.now }
-        requires none { values.old ≡ [] }
-        requires empty { before.old ≡ [] }
-        ensures { OnOk result (IsPlanning self.now.entries (map C.key changes.now) values.new
-            before.new) }
-    {
-        let _ = &self.keys;
+        let mut last = BTreeMap::new(alloc);
+        let mut before = Listing::new(alloc);
         for change in changes {
-            self.note_one(alloc, change, values, before)?;
+            let pos = *change.pos();
+            let value = copy_borrowed(alloc, change.value())?;
+            let earlier = last.insert(pos, value)?;
+            before.push(self.value_before(alloc, &pos, earlier)?)?;
         }
-        Ok(())
+        Ok(Plan { last, before })
     }
 
-    // Notes a change, and adds the value that its position had before it.
-    fn note_one<C: Change>(
+    // The value that a position got by an earlier change, or else a copy of the one that it has.
+    fn value_before(
         &self,
         alloc: Global,
-        change: &C,
-        values: &mut LastValues,
-        before: &mut Listing<Option<Value>>,
-    ) -> Result<(), AllocError>
-        requires { IsKeyValue (C.key change.now).value }
-        ensures noted { OnOk result (values.new ≡ with_value pos_cmp (C.key change.now).pos
-            (C.key change.now).value values.old) }
-        ensures before { OnOk result (before.new ≡ before.old ++ unwrap_or
-            (value_at pos_cmp (C.key change.now).pos values.old)
-            (value_at pos_cmp (C.key change.now).pos self.now.entries) ∷ []) }
+        pos: &Pos,
+        earlier: Option<Option<Value>>,
+    ) -> Result<Option<Value>, AllocError>
+        ensures { IfOk result (λ value. value ≡ unwrap_or earlier
+            (value_at pos_cmp pos.now self.now.entries)) }
     {
-        let value = values.note(alloc, self, change.pos(), change.value())?;
-        before.push(value)?;
-        Ok(())
+        match earlier {
+            None => copy_borrowed(alloc, self.get(pos)),
+            Some(value) => Ok(value),
+        }
     }
 
     /// The positions that get a value and have none.

@@ -22,6 +22,7 @@ mod making;
 mod planned;
 mod sizing;
 
+use crate::changing::Plan;
 use crate::copies::{copy_range, count_values, position_at, within};
 use crate::leaves::{clamped, copy_leaves, leaf_at, set_bytes, start_of, total};
 use crate::making::{are_ends, are_in_range, count_leaves};
@@ -299,11 +300,11 @@ impl TreeKeys {
         // After an `Err` all is as before.
         ensures err { OnErr result (self.new ≡ self.old) }
     {
-        let mut before = Listing::new(alloc);
-        if let Err(error) = self.put_noted(alloc, changes, &mut before) {
-            drop(before);
-            return Err(error);
-        }
+        let _ = &self.keys;
+        let Plan { last, before } = self.plan(alloc, changes)?;
+        let fresh = self.fresh(alloc, &last)?;
+        self.place(fresh.as_slice())?;
+        self.fill(last);
         Ok(before)
     }
 

@@ -77,30 +77,14 @@ impl LastValues {
         ensures err { OnErr result (self.new ≡ self.old) }
     {
         let before = self.value_at(alloc, keys, pos)?;
-        if let Err(error) = put_last(alloc, &mut self.last, pos, value) {
-            drop(before);
-            return Err(error);
-        }
+        let value = copy_borrowed(alloc, value)?;
+        put_last(&mut self.last, pos, value)?;
         Ok(before)
     }
 }
 
-// Gives a position a copy of its last value, so far.
+// Gives a position its last value, so far.
 fn put_last(
-    alloc: Global,
-    last: &mut BTreeMap<Pos, Option<Value>>,
-    pos: &Pos,
-    value: Option<&Value>,
-) -> Result<(), AllocError>
-    ensures ok { OnOk result (last.new.entries ≡ with_value pos_cmp pos.now
-        (option_copied value.entry) last.old.entries) }
-    ensures err { OnErr result (last.new.entries ≡ last.old.entries) }
-{
-    let value = copy_borrowed(alloc, value)?;
-    insert_last(last, pos, value)
-}
-
-fn insert_last(
     last: &mut BTreeMap<Pos, Option<Value>>,
     pos: &Pos,
     value: Option<Value>,

@@ -1,5 +1,5 @@
 ghost use Rattle.std.specs.Map.{keys_of};
-ghost use Rattle.std.specs.Prelude.{◌≡◌, ◌-◌, ◌<◌, ◌^◌, [], All, IfOk, OnOk, length, map, min, unwrap_or};
+ghost use Rattle.std.specs.Prelude.{◌≡◌, ◌-◌, ◌<◌, ◌^◌, All, IfOk, length, map, min, unwrap_or};
 ghost use Rattle.tree_keys.specs.Counts.{AreCounted};
 ghost use Rattle.tree_keys.specs.Cuts.{Cut, IsCut};
 ghost use Rattle.tree_keys.specs.Sizes.{IsSized};
@@ -39,53 +39,22 @@ pub(crate) fn bytes_after<C: Change>(
         { entries = keys.now.entries; ends = keys_of leaves.now.entries }) (map C.key changes.now)
         sizes.entries) }
 {
-    // The length of the key at each position that was changed so far.
-    let mut lengths = BTreeMap::new(alloc);
-    let mut sizes = BTreeMap::new(alloc);
-    let counted = count_changes(keys, leaves, changes, &mut lengths, &mut sizes);
-    drop(lengths);
-    if let Err(error) = counted {
-        drop(sizes);
-        return Err(error);
-    }
-    Ok(sizes)
-}
-
-// Notes the length of the key at each position that a change touches, and the bytes of its leaf after it, where none was
-// noted so far.
-fn count_changes<C: Change>(
-    keys: &BTreeMap<Pos, Value>,
-    leaves: &BTreeMap<Pos, u128>,
-    changes: &[C],
-    lengths: &mut BTreeMap<Pos, u32>,
-    sizes: &mut BTreeMap<Pos, u128>,
-) -> Result<(), AllocError>
-    requires cut { IsCut (record { entries = keys.now.entries; ends = keys_of leaves.now.entries }) }
-    requires counted { AreCounted (record {
-      entries = keys.now.entries;
-      ends = keys_of
-          leaves.now.entries;
-    }) leaves.now.entries }
-    requires in_range { All (λ change. IsKeyValue (C.key change).value) changes.now }
-    requires no_lengths { lengths.old.entries ≡ [] }
-    requires no_sizes { sizes.old.entries ≡ [] }
-    ensures { OnOk result (IsSized (record
-        { entries = keys.now.entries; ends = keys_of leaves.now.entries }) (map C.key changes.now)
-        sizes.new.entries) }
-{
     // So few keys of so few bytes each fit 128 bits together.
     let (count, more) = (keys.len(), changes.len());
     prove!(count < 1 << 63 && more <= usize::MAX);
+    // The length of the key at each position that was changed so far.
+    let mut lengths = BTreeMap::new(alloc);
+    let mut sizes = BTreeMap::new(alloc);
     for change in changes {
         let pos = wide(change.pos());
         let added = borrowed_length(change.value());
-        let before = length_so_far(lengths, keys, &pos);
+        let before = length_so_far(&lengths, keys, &pos);
         lengths.insert(pos, added)?;
         let (end, counted) = leaf_at(leaves, &pos);
-        let bytes = bytes_so_far(sizes, &end, counted);
+        let bytes = bytes_so_far(&sizes, &end, counted);
         sizes.insert(end, bytes + added as u128 - before as u128)?;
     }
-    Ok(())
+    Ok(sizes)
 }
 
 // How many bytes a leaf takes after some changes, or before them where none touched it.

@@ -8,7 +8,7 @@ use Rattle.tree_keys.specs.PlanLaws.{all_placed, filled, fresh-free}
 use Rattle.vol_types.specs.Maps.{IsMap, value_at}
 use Rattle.vol_types.specs.Positions.{pos_cmp}
 use Rattle.vol_types.specs.declared.values.Value.TheVariants.{White}
-use Rattle.tree_keys.proofs.TreeKeys.put_noted.Goals as goal
+use Rattle.tree_keys.proofs.TreeKeys.put_all.Goals as goal
 
 pub place-requires : goal.place-requires
 place-requires g c =

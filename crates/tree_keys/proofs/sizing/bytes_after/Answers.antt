@@ -11,7 +11,7 @@ use Rattle.vol_types.specs.Maps.{value_at, with_value}
 use Rattle.vol_types.specs.Positions.{pos_cmp}
 use Rattle.vol_types.specs.Ranges.{IsKeyValue}
 use Rattle.vol_types.specs.Widths.{PosFits}
-use Rattle.tree_keys.proofs.sizing.count_changes.Goals as goal
+use Rattle.tree_keys.proofs.sizing.bytes_after.Goals as goal
 
 pub overflow_add-bytes : goal.overflow_add-bytes
 overflow_add-bytes g c =
