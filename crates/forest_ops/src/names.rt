@@ -1,13 +1,27 @@
-ghost use Rattle.std.specs.Prelude.{◌≡◌};
+ghost use Rattle.std.specs.Prelude.{◌≡◌, ◌++◌, ◌∷◌, [], OnOk};
 ghost use Rattle.plain_forest.specs.Names.{is_dots, has_good_bytes, has_no_colon, is_good_name, is_good_subvolume_name};
 ghost use Rattle.forest_ops.specs.Subvolumes.{good_subvolume};
 
 use crate::Cause;
 use crate::refusals::refuse_if;
-use vol_types::Bytes;
+use std::alloc::{AllocError, Global};
+use vol_types::{Bytes, Duplicate, FlagList, FlaggedName};
 
 /// The greatest number of bytes in a name.
 const MAX_NAME_LENGTH: usize = 255;
+
+/// Adds a copy of a name with a flag to a list.
+pub fn push_flagged(
+    alloc: Global,
+    list: &mut FlagList,
+    name: &Bytes,
+    flag: u8,
+) -> Result<(), AllocError>
+    ensures { OnOk result (list.new ≡ list.old ++ record { name = name.now; flag = flag } ∷ []) }
+{
+    let name = name.copy(alloc)?;
+    Ok(list.push(FlaggedName { name, flag })?)
+}
 
 /// Whether a subvolume may have the name.
 pub fn good_subvolume(name: &Bytes) -> Result<(), Cause>

@@ -1,4 +1,4 @@
-ghost use Rattle.std.specs.Prelude.{◌≡◌, ◌+◌, ◌≤◌, map, length, option_copied, replicate, OnOk, OnErr, IfOk};
+ghost use Rattle.std.specs.Prelude.{◌≡◌, ◌+◌, ◌≤◌, [], map, length, option_copied, replicate, OnOk, OnErr, IfOk};
 ghost use Rattle.std.specs.Ordering.{nat_cmp};
 ghost use Rattle.plain_forest.specs.Maps.{value_at, changed_at};
 ghost use Rattle.forest_ops.specs.Names.{links_of};
@@ -13,12 +13,13 @@ ghost use Rattle.forest_ops.specs.Steps.{flagged, status_of};
 use crate::content::Content;
 use crate::directories::Directories;
 use crate::name_table::NameTable;
+use crate::names::push_flagged;
 use crate::place::{Change, NamePlace};
 use crate::{Cause, Reply};
 use std::alloc::{AllocError, Global};
 use std::collections::BTreeMap;
 use std::marker::Model;
-use vol_types::{Bytes, Duplicate, FlagList, FlaggedName, copy_map};
+use vol_types::{Bytes, Duplicate, FlagList, copy_map};
 
 /// A subvolume with its file tree: by number the bytes of each file and the names of each directory.
 #[derive(Drop)]
@@ -194,16 +195,34 @@ impl Subvolume {
         ensures { IfOk result (λ list. list ≡ map (flagged self.now) names.now) }
     {
         let mut list = FlagList::new(alloc);
+        match self.push_names(alloc, names, &mut list) {
+            Ok(()) => Ok(list),
+            Err(failed) => {
+                drop(list);
+                Err(failed)
+            }
+        }
+    }
+
+    // Adds the names of a directory with their kinds to none.
+    fn push_names(
+        &self,
+        alloc: Global,
+        names: &NameTable,
+        list: &mut FlagList,
+    ) -> Result<(), AllocError>
+        requires { list.old ≡ [] }
+        ensures { OnOk result (list.new ≡ map (flagged self.now) names.now) }
+    {
         for (name, number) in names.iter() {
             let flag = if self.directory(*number).is_some() {
                 2
             } else {
                 1
             };
-            let name = name.copy(alloc)?;
-            list.push(FlaggedName { name, flag })?;
+            push_flagged(alloc, list, name, flag)?;
         }
-        Ok(list)
+        Ok(())
     }
 
     /// Makes a change. An `Err` changes nothing.

@@ -8,13 +8,14 @@ ghost use Rattle.forest_ops.specs.Places.{changed, Fits};
 ghost use Rattle.forest_ops.specs.Steps.{flagged_subvolume};
 
 use crate::name_table::{NAMES_PER_SLOT, insert_slotted};
+use crate::names::push_flagged;
 use crate::place::Change;
 use crate::subvolume::Subvolume;
 use crate::tally::Tally;
 use std::alloc::{AllocError, Global};
 use std::collections::BTreeMap;
 use std::marker::Model;
-use vol_types::{Bytes, Duplicate, FlagList, FlaggedName, copy_map};
+use vol_types::{Bytes, Duplicate, FlagList, copy_map};
 
 /// The subvolumes of a forest, which contracts see rising by their names. They count the names of each slot. Each call
 /// but a listing costs the logarithm of their number, and what it does to a tree.
@@ -126,12 +127,24 @@ impl Subvolumes {
         ensures { IfOk result (λ list. list ≡ map flagged_subvolume self.now) }
     {
         let mut list = FlagList::new(alloc);
-        for (name, tree) in self.trees.iter() {
-            let flag = u8::from(tree.is_locked());
-            let name = name.copy(alloc)?;
-            list.push(FlaggedName { name, flag })?;
+        match self.push_names(alloc, &mut list) {
+            Ok(()) => Ok(list),
+            Err(failed) => {
+                drop(list);
+                Err(failed)
+            }
         }
-        Ok(list)
+    }
+
+    // Adds the names of the subvolumes to none.
+    fn push_names(&self, alloc: Global, list: &mut FlagList) -> Result<(), AllocError>
+        requires { list.old ≡ [] }
+        ensures { OnOk result (list.new ≡ map flagged_subvolume self.now) }
+    {
+        for (name, tree) in self.trees.iter() {
+            push_flagged(alloc, list, name, u8::from(tree.is_locked()))?;
+        }
+        Ok(())
     }
 }
 
