@@ -73,9 +73,3 @@ new_found one other f passed next trees is agree nodes read new =
 -- Images that agree on the base of what was found agree on the nodes of btrees that have the same.
 pub agree_still : (one other : Image) (f : Found) (trees : TreesRead) → AgreeOnBase f one other → trees.nodes ≡ f.trees.nodes → All (AgreeOnNode one other) (nodes_of trees.nodes)
 agree_still one other f trees agree nodes = subst (λ ns. All (AgreeOnNode one other) (nodes_of ns)) (sym nodes) agree.nodes
-
--- So it is found with them.
-pub next_found : (one other : Image) (f : Found) (passed : ℕ) (next : FoundEntry) (trees : TreesRead) → found one ≡ Ok f → AgreeOnBase f one other
-    → trees_of (sets_in f.layout one) (updates_of (drop passed f.needed ++ next ∷ [])) next.entry.roots ≡ Ok trees → trees.nodes ≡ f.trees.nodes → IsNewest (with_entry passed next trees f) other
-    → found other ≡ Ok (with_entry passed next trees f)
-next_found one other f passed next trees is agree read nodes new = new_found one other f passed next trees is agree (agree_still one other f trees agree nodes) read new

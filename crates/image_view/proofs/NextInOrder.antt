@@ -16,7 +16,6 @@ use Rattle.vol_types.specs.declared.pointers.NodePtr.{NodePtr}
 use Rattle.image_view.proofs.NeededEntries.{AreNeeded, are_needed, places_of, some_places}
 use Rattle.image_view.proofs.NextBlocks.{BlockLaws}
 use Rattle.image_view.proofs.NextBase.{ends_before, follow_kept, room_for}
-use Rattle.image_view.proofs.NextFound.{agree_still}
 use Rattle.image_view.proofs.NextStands.{made_or_next, next_made_whole, owners_stay}
 use Rattle.image_view.proofs.NextNewest.{EachPasses, next_newest, other_sequence, still_there}
 use Rattle.image_view.proofs.OtherSession.{alike-same}
@@ -118,10 +117,6 @@ module _ (laws : BlockLaws) (one : Image) (f : Found) (is : found one ≡ Ok f) 
     copies = alike-same (with_entry passed next trees f) one other (nodes_of trees.nodes) nodes are.copies;
     births = are.births;
   }
-
-  -- So it is with the nodes that were found.
-  pub in_order_with : IsToldApart f (area_of one) blocks → (trees : TreesRead) → trees.nodes ≡ f.trees.nodes → trees.ends ≡ f.trees.ends → IsInOrder (with_entry passed next trees f) other
-  in_order_with told trees nodes ends = in_order_new told trees (agree_still one other f trees agree nodes) (in_order_still one f passed next trees order nodes ends)
 
   -- What was found is in order too, as long as the next entry is whole on no device.
   pub in_order_without : AreNumberedBelow f.layout f.session f.last.end (area_of one) → ((dev : ℕ) → IsWholeOn f.layout (area_of other) dev next → ⊥) → IsInOrder f other

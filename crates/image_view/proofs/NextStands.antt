@@ -2,10 +2,8 @@
 -- then is whole.
 use Rattle.std.proofs.Common.{◌≡◌, ◌≢◌, ◌⊎◌, inl, inr, ⊎_elim, ℕ, zero, suc, ◌+◌, ◌%◌, ◌<◌, ◌≤◌, List, [], length, get_or, Some, sym, ap, subst, ◌∙◌, arith}
 use Rattle.std.proofs.lemmas.Bool.{cases_eq, cases_lt}
-use Rattle.std.proofs.lemmas.List.{get_or_default}
-use Rattle.std.proofs.lemmas.List.Elements.{All-weaker}
 use Rattle.std.proofs.lemmas.Option.{same_Some}
-use Rattle.std.specs.Prelude.{All, is_some}
+use Rattle.std.specs.Prelude.{is_some}
 use Rattle.dev_model.specs.Disk.{Disk, Image}
 use Rattle.journal_ring.specs.Entries.{IsMadeOf, IsWhole}
 use Rattle.journal_ring.specs.EntryBlocks.{AreEntryBlocks, part_head}
@@ -24,8 +22,8 @@ use Rattle.image_view.proofs.NextBlocks.{BlockLaws, IsOld, IsOwn, old_or_next, o
 use Rattle.image_view.proofs.NextNewest.{EachPasses}
 use Rattle.image_view.specs.CrashEntries.{OnlyHeldEntriesOpen}
 use Rattle.image_view.specs.Found.{AreOwned, Found, IsInOrder, PassesNone}
-use Rattle.image_view.specs.Mends.{HasNoEqualDigest, IsPlaceOf, StandsIn}
-use Rattle.image_view.specs.NextEntries.{AreNumberedBelow, AreOldOrNext, HasNoEqualDigestWith, HoldOldOrNext, IsNext, IsToldApart, IsWritten, StandsOrIsOf}
+use Rattle.image_view.specs.Mends.{IsPlaceOf}
+use Rattle.image_view.specs.NextEntries.{AreNumberedBelow, AreOldOrNext, HoldOldOrNext, IsNext, IsToldApart, IsWritten}
 
 -- A place is one of the first so many from a number on, or it isn't.
 pub is_place : (journal number place count : ℕ) → ((p : ℕ) × (p < count) × (place ≡ (number + p) % journal)) ⊎ ((p : ℕ) → p < count → place ≢ (number + p) % journal)
@@ -132,16 +130,3 @@ module _ (laws : BlockLaws) (f : Found) (some : 0 < f.layout.journal) (passed : 
           let at : own.part ≡ p = sym (ap (λ (h : Head). h.part) (own_head block head own.part own.within own.bytes_are opens)) ∙ continues.part in
           own.bytes_are ∙ ap (λ n. get_or blocks n []) at ∙ ap (λ (bs : List (List ℕ)). get_or bs p []) (sym same_parts))
           (old_or d ((next.number + p) % f.layout.journal) block head mirror (omega (arith, some)) stands opens)
-
--- Where the entry is written no two records have one digest, if so it was with its blocks.
-pub digests_stay : (layout : Layout) (next : FoundEntry) (blocks : List (List ℕ)) (one other : Image) → IsWritten layout next blocks one other → HasNoEqualDigestWith layout (area_of one) blocks → HasNoEqualDigest layout (area_of other)
-digests_stay layout next blocks one other written apart parts others payload second digest stand stand_too = apart parts others payload second digest (each parts stand) (each others stand_too)
-  where
-    there : (bytes : List ℕ) → StandsIn layout (area_of other) bytes → StandsOrIsOf layout (area_of one) blocks bytes
-    there bytes stands = ⊎_elim
-        (λ old. inl (record { dev = stands.dev; place = stands.place; mirror = stands.mirror; within = stands.within; stands = old }))
-        (λ own. inr (own.part, own.within, get_or_default blocks own.part bytes [] own.within ∙ sym own.bytes_are))
-        (stood layout next blocks one other written stands.dev stands.place bytes stands.mirror stands.within stands.stands)
-
-    each : (bs : List (List ℕ)) → All (StandsIn layout (area_of other)) bs → All (StandsOrIsOf layout (area_of one) blocks) bs
-    each bs all = All-weaker (StandsIn layout (area_of other)) (StandsOrIsOf layout (area_of one) blocks) there bs all

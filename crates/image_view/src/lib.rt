@@ -17,7 +17,4 @@ pub use laws::{
 };
 pub use needed_entries::needed_entries_are_counted;
 pub use new_nodes::{crashes_leave_new_nodes, new_nodes_are_found, new_nodes_hold_the_keys};
-pub use next_entry::{
-    blocks_of_a_session_are_numbered_below, crashes_leave_the_next_entry_or_not,
-    written_entries_are_found,
-};
+pub use next_entry::{blocks_of_a_session_are_numbered_below, crashes_leave_the_next_entry_or_not};

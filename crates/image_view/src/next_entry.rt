@@ -2,21 +2,19 @@ ghost use Rattle.std.specs.Prelude.{Some, slice_get, ◌≡◌, ◌⊎◌, ◌<�
 ghost use Rattle.dev_model.specs.Crashes.{SameBut};
 ghost use Rattle.dev_model.specs.Disk.{Disk, Image};
 ghost use Rattle.key_meaning.specs.Checks.{AreNodesPlaced};
-ghost use Rattle.journal_ring.specs.Entries.{IsMadeOf, IsWholeOn};
 ghost use Rattle.journal_ring.specs.EntryBlocks.{AreEntryBlocks, parts_of};
 ghost use Rattle.journal_ring.specs.Parts.{Area, AreSame, area_of};
 ghost use Rattle.journal_ring.specs.declared.found.FoundEntry.{FoundEntry as AFound};
 ghost use Rattle.vol_types.specs.declared.layout.Layout.{Layout as ALayout};
 ghost use Rattle.image_view.specs.Bases.{AgreeOnBase, IsNewest};
 ghost use Rattle.image_view.specs.CrashEntries.{OnlyHeldEntriesOpen};
-ghost use Rattle.image_view.specs.Found.{AreOwned, Found, IsInOrder, PassesNone, found, node_places, sets_in, updates_of};
-ghost use Rattle.image_view.specs.Mends.{HasNoEqualDigest, IsMending, IsPlaceOf};
-ghost use Rattle.image_view.specs.NextEntries.{AreNumberedBelow, HasNoEqualDigestWith, HoldOldOrNext, IsNext, IsToldApart, IsWritten, NonePassesBut, with_entry};
+ghost use Rattle.image_view.specs.Found.{AreOwned, Found, IsInOrder, found, node_places, sets_in, updates_of};
+ghost use Rattle.image_view.specs.Mends.{IsMending, IsPlaceOf};
+ghost use Rattle.image_view.specs.NextEntries.{AreNumberedBelow, HoldOldOrNext, IsNext, IsToldApart, IsWritten, NonePassesBut, with_entry};
 ghost use Rattle.image_view.specs.Trees.{TreesRead, trees_of};
 
 use journal_ring::{
     leading_entries_are_needed, mended_entries_stay_whole, one_entry_counts, whole_entries_stay,
-    written_entries_are_whole,
 };
 use record_codec::{entries_are_exact, entry_lengths};
 use sealed_block::{opened_blocks_are_sealed, sealed_blocks_open};
@@ -71,60 +69,6 @@ pub fn crashes_leave_the_next_entry_or_not()
     entry_lengths();
     opened_blocks_are_sealed();
     sealed_blocks_open();
-}
-
-/// Once the next entry stands on every metadata device, the journal areas are else as they were, and what was found is still there, the
-/// entry is whole and found with what was found before, and in order again. No two records have one digest then, if so it was with its
-/// blocks.
-pub fn written_entries_are_found()
-    ensures whole { (one other : Image) (f : Found) (passed : ℕ) (next : AFound)
-        (blocks : List (List ℕ)) → IsNext f passed next → IsWritten f.layout next blocks one other
-        → (dev : ℕ) → dev < f.layout.metadata_replicas
-        → IsWholeOn f.layout (area_of other) dev next }
-    ensures made { (one other : Image) (f : Found) (passed : ℕ) (next : AFound)
-        (blocks : List (List ℕ)) → found one ≡ Ok f → IsInOrder f one
-        → IsNext f passed next → IsWritten f.layout next blocks one other → IsToldApart f (area_of one) blocks
-        → (entry : AFound) (parts : List (List ℕ))
-        → IsMadeOf f.layout (area_of other) entry parts → PassesNone f entry ⊎ (entry ≡ next) }
-    ensures newest { (one other : Image) (f : Found) (passed : ℕ) (next : AFound)
-        (blocks : List (List ℕ)) (trees : TreesRead) → found one ≡ Ok f
-        → IsNext f passed next → AgreeOnBase f one other → IsWritten f.layout next blocks one other
-        → ((dev : ℕ) (entry : AFound) → IsWholeOn f.layout (area_of other) dev entry
-        → PassesNone f entry ⊎ (entry ≡ next)) → IsNewest (with_entry passed next trees f) other }
-    // The btrees are what the entries that it needs, and it, mean over the nodes' sets in the image before.
-    ensures agreeing { (one other : Image) (f : Found) (passed : ℕ) (next : AFound)
-        (trees : TreesRead) → found one ≡ Ok f → AgreeOnBase f one other
-        → trees_of (sets_in f.layout one) (updates_of (drop passed f.needed ++ next ∷ []))
-        next.entry.roots ≡ Ok trees → trees.nodes ≡ f.trees.nodes
-        → IsNewest (with_entry passed next trees f) other
-        → found other ≡ Ok (with_entry passed next trees f) }
-    ensures found { (one other : Image) (f : Found) (passed : ℕ) (next : AFound)
-        (blocks : List (List ℕ)) (trees : TreesRead) → found one ≡ Ok f → IsInOrder f one
-        → IsNext f passed next → AgreeOnBase f one other
-        → IsWritten f.layout next blocks one other → IsToldApart f (area_of one) blocks
-        → trees_of (sets_in f.layout one) (updates_of (drop passed f.needed ++ next ∷ []))
-        next.entry.roots ≡ Ok trees → trees.nodes ≡ f.trees.nodes
-        → found other ≡ Ok (with_entry passed next trees f) }
-    ensures in_order { (one other : Image) (f : Found) (passed : ℕ) (next : AFound)
-        (blocks : List (List ℕ)) (trees : TreesRead) → found one ≡ Ok f → IsInOrder f one
-        → IsNext f passed next → AgreeOnBase f one other
-        → IsWritten f.layout next blocks one other → IsToldApart f (area_of one) blocks
-        → trees.nodes ≡ f.trees.nodes → trees.ends ≡ f.trees.ends
-        → IsInOrder (with_entry passed next trees f) other }
-    ensures digests { (layout : ALayout) (next : AFound) (blocks : List (List ℕ))
-        (one other : Image) → IsWritten layout next blocks one other
-        → HasNoEqualDigestWith layout (area_of one) blocks
-        → HasNoEqualDigest layout (area_of other) }
-{
-    leading_entries_are_needed();
-    whole_entries_stay();
-    one_entry_counts();
-    mended_entries_stay_whole();
-    entries_are_exact();
-    entry_lengths();
-    opened_blocks_are_sealed();
-    sealed_blocks_open();
-    written_entries_are_whole();
 }
 
 /// The blocks that a session wrote into the journal areas have numbers below the one that it writes next, and are told apart by that from
