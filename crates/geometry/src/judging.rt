@@ -116,13 +116,20 @@ pub(crate) fn judge(
         return Err(SuperFault::Version);
     }
     let layout = named_layout(alloc, model_copy(first, copies))?;
-    if !belong(alloc, sizes.len(), &layout, copies)? {
+    let Ok(are_its_own) = belong(alloc, sizes.len(), &layout, copies) else {
+        drop(layout);
+        return Err(SuperFault::NoMemory);
+    };
+    if !are_its_own {
+        drop(layout);
         return Err(SuperFault::Mixed);
     }
     if !have_form(copies) {
+        drop(layout);
         return Err(SuperFault::BadLayout);
     }
     if !is_layout_of(sizes, &layout) {
+        drop(layout);
         return Err(SuperFault::BadLayout);
     }
     Ok(layout)

@@ -9,6 +9,13 @@ use dev_model::Devices;
 use std::alloc::{AllocError, Global};
 use vol_types::{BLOCK_SIZE, Bytes};
 
+/// A block of zeros.
+pub(crate) fn zero_block(alloc: Global) -> Result<Vec<u8>, AllocError>
+    ensures { IfOk result (λ bytes. length bytes.items ≡ 4096) }
+{
+    vec![in alloc; 0; BLOCK_SIZE]
+}
+
 /// A block's bytes. It costs one read, and takes memory for the block.
 pub fn read_block<D: Devices>(
     alloc: Global,
@@ -25,7 +32,7 @@ pub fn read_block<D: Devices>(
         (D.state devices.old).faults }
     ensures device { IfSome (failed_device result) (λ failed. failed ≡ dev) }
 {
-    let mut bytes = vec![in alloc; 0; BLOCK_SIZE]?;
+    let mut bytes = zero_block(alloc)?;
     match devices.read(dev, block, &mut bytes) {
         Ok(()) => Ok(Bytes::from(bytes)),
         Err(_) => Err(DiskFault::DeviceFault(dev)),

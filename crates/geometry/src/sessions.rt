@@ -12,12 +12,12 @@ ghost use Rattle.geometry.specs.Sessions.{IsSessionBlock, IsSessionPlace, greate
 
 use crate::fault::DiskFault;
 use crate::mirrors::settle_mirrors;
-use crate::reading::read_block;
+use crate::reading::{read_block, zero_block};
 use dev_model::Devices;
 use sealed_block::{Head, SESSION, payload, seal, sealed_blocks_open, unseal};
 use std::alloc::{AllocError, Global};
 use vol_digest::digest;
-use vol_types::{BLOCK_SIZE, Bytes, Layout};
+use vol_types::{Bytes, Layout};
 
 /// The block of each metadata device in which a session is sealed: 4 or 5, by turns.
 pub fn session_place(session: u64) -> u32
@@ -63,7 +63,7 @@ fn sealed_session(alloc: Global, id: &[u8; 16], session: u64) -> Result<Bytes, A
         session) }
     ensures size { IfOk result (λ bytes. length bytes ≡ 4096) }
 {
-    let mut bytes = vec![in alloc; 0; BLOCK_SIZE]?;
+    let mut bytes = zero_block(alloc)?;
     session_bytes(id, session, &mut bytes);
     Ok(Bytes::from(bytes))
 }
