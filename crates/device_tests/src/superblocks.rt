@@ -5,7 +5,7 @@ ghost use Rattle.std.specs.Prelude.{◌≡◌};
 ghost use Rattle.dev_model.specs.Devices.{now};
 ghost use Rattle.dev_model.specs.Disk.{NothingPending};
 
-use crate::layouts::{CALLS, EQUAL, FOREIGN_ID, ID, ONE, UNEQUAL, filled, layout_on, put};
+use crate::layouts::{EQUAL, FOREIGN_ID, ID, ONE, UNEQUAL, filled, layout_on, put};
 use dev_model::{Devices, MemDevices};
 use geometry::{SuperFault, read_super, write_super};
 use sealed_block::{Head, SUPERBLOCK, seal};
@@ -38,8 +38,6 @@ const BASE: Super = Super {
 };
 
 static FIRST: Super = BASE;
-
-static SECOND: Super = Super { dev: 1, ..BASE };
 
 static BEHIND_FIRST: Super = Super { block: 8, ..BASE };
 
@@ -369,51 +367,5 @@ fn bad_versions_and_payloads(rt: HostRuntime) -> Result<(), Fail> {
             SuperFault::BadLayout
         )?
     );
-    Ok(())
-}
-
-// The first copy of each device alone.
-fn first_copies() -> [Block; 4] {
-    [
-        Block::Copy(FIRST),
-        Block::Blank,
-        Block::Copy(SECOND),
-        Block::Blank,
-    ]
-}
-
-// Whether a read of which this call fails names the device, and another one says the layout.
-fn names_once(
-    alloc: Global,
-    devices: &mut MemDevices,
-    call: u64,
-    dev: u8,
-    layout: Layout,
-) -> Result<bool, Fail> {
-    devices.fail_at(&[call])?;
-    let failed = read_super(alloc, devices).err();
-    let is_read = read_super(alloc, devices) == Ok(layout);
-    Ok(failed == Some(SuperFault::DeviceFault(dev)) && is_read)
-}
-
-fn names_failed(alloc: Global, call: u64, dev: u8) -> Result<bool, Fail> {
-    let layout = layout_of(alloc, &FIRST)?;
-    let mut devices = devices_with(alloc, &EQUAL, &first_copies())?;
-    names_once(alloc, &mut devices, call, dev, layout)
-}
-
-// The first call whose failure names another device.
-fn first_other_call(alloc: Global) -> Result<Option<u64>, Fail> {
-    for (call, dev) in CALLS.iter() {
-        if !names_failed(alloc, *call, *dev)? {
-            return Ok(Some(*call));
-        }
-    }
-    Ok(None)
-}
-
-#[test]
-fn a_read_that_fails_ends_it(rt: HostRuntime) -> Result<(), Fail> {
-    assert!(rt; first_other_call(rt.alloc())? == None);
     Ok(())
 }

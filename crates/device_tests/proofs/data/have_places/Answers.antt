@@ -3,7 +3,7 @@ use Rattle.dev_model.specs.Devices.{IsPlace}
 use Rattle.dev_model.specs.Memory.{mem_state}
 use Rattle.vol_types.specs.declared.pointers.Place.{Place}
 use Rattle.data_io.proofs.WrittenPlaces.{get_or-places_of, length-places_of, no_pointer}
-use Rattle.journal_tests.proofs.data.have_places.Goals as goal
+use Rattle.device_tests.proofs.data.have_places.Goals as goal
 
 pub returns : goal.returns
 returns c done place (k, within, at) =
