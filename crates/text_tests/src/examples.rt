@@ -1,10 +1,10 @@
 //! The examples of docs/SEMANTICS.md, over a forest without devices.
 
 use crate::reading::said;
-use forest_ops::{Forest, Op, Reply};
+use forest_ops::{Cause, Forest, Op, Reply};
 use script_text::{ReadFault, fault_word, is_line_skipped, read_client, reply_line};
 use std::alloc::{AllocError, Global};
-use vol_types::Bytes;
+use vol_types::{Bytes, Duplicate};
 
 /// The examples of docs/SEMANTICS.md: scripts, and the lines that answer them.
 static EXAMPLES: [(&str, &str); 20] = [
@@ -376,23 +376,22 @@ static BAD_LINES: [(&str, &str); 13] = [
 
 /// A session over a forest without devices.
 #[derive(Drop)]
-struct Session {
-    forest: Forest,
+pub(crate) struct Session {
+    pub forest: Forest,
     /// How many commits it has made.
-    commits: u64,
+    pub commits: u64,
     /// The lines of its replies.
-    answered: Bytes,
+    pub answered: Bytes,
 }
 
 impl Session {
-    // A session over the fresh forest.
-    fn fresh(alloc: Global) -> Result<Self, AllocError> {
-        let forest = Forest::fresh(alloc)?;
-        Ok(Session {
+    /// A session over a forest.
+    pub fn over(alloc: Global, forest: Forest) -> Self {
+        Session {
             forest,
             commits: 0,
             answered: Bytes::new(alloc),
-        })
+        }
     }
 
     // Runs the line of this number.
@@ -419,8 +418,21 @@ impl Session {
         }
     }
 
-    // Answers an operation of a client.
+    // Answers a copy of an operation of a client.
     fn answer(
+        &mut self,
+        alloc: Global,
+        client: u8,
+        number: u32,
+        op: &Op,
+    ) -> Result<(), AllocError> {
+        let op = op.copy(alloc)?;
+        let answered = self.answer_copy(alloc, client, number, &op);
+        drop(op);
+        answered
+    }
+
+    fn answer_copy(
         &mut self,
         alloc: Global,
         client: u8,
@@ -432,11 +444,13 @@ impl Session {
             self.commits = self.commits.saturating_add(1);
         }
         let reply = with_count(self.commits, reply);
-        reply_line(alloc, &mut self.answered, client, number, &reply)
+        let put = reply_line(alloc, &mut self.answered, client, number, &reply);
+        drop(reply);
+        put
     }
 
     // Runs the lines of a script.
-    fn run_all(&mut self, alloc: Global, script: &str) -> Result<(), ReadFault> {
+    pub fn run_all(&mut self, alloc: Global, script: &str) -> Result<(), ReadFault> {
         let mut number: u32 = 0;
         for line in script.split('\n') {
             number = number.saturating_add(1);
@@ -448,12 +462,26 @@ impl Session {
     }
 }
 
-// The reply to an operation of a client, and whether it is a commit.
+// The cause of a refusal.
+fn cause_of(reply: &Reply) -> Option<Cause> {
+    match reply {
+        Reply::Refused(cause) => Some(*cause),
+        _ => None,
+    }
+}
+
+// The reply to an operation of a client, and whether it is a commit. It fails where a refusal wasn't told before.
 fn applied(forest: &mut Forest, client: u8, op: &Op) -> Result<(Reply, bool), AllocError> {
-    let before = forest.copy()?;
     // Whoever was read is below 16 already.
-    let reply = forest.apply(client % 16, op)?;
-    let is_commit = before.commits(op, &reply);
+    let client = client % 16;
+    let refusal = forest.refusal(client, op);
+    let may_commit = forest.commits(op, &Reply::Okay);
+    let reply = forest.apply(client, op)?;
+    if cause_of(&reply) != refusal {
+        drop(reply);
+        return Err(AllocError);
+    }
+    let is_commit = may_commit && reply.is_done();
     Ok((reply, is_commit))
 }
 
@@ -473,19 +501,33 @@ fn said_by(alloc: Global, line: &[u8]) -> Result<(u8, Option<Op>), ReadFault> {
 }
 
 // Whether a script is answered so in a session.
-fn is_answered_in(session: &mut Session, alloc: Global, script: &str, replies: &str) -> bool {
-    match session.run_all(alloc, script) {
-        Ok(()) => session.answered.as_slice() == replies.as_bytes(),
-        Err(_) => false,
-    }
+pub(crate) fn is_answered_in(
+    session: &mut Session,
+    alloc: Global,
+    script: &str,
+    replies: &str,
+) -> bool {
+    session.answered.truncate(0);
+    session.run_all(alloc, script).is_ok() && session.answered.as_slice() == replies.as_bytes()
 }
 
 // Whether a script is answered so.
 pub(crate) fn is_answered(alloc: Global, script: &str, replies: &str) -> bool {
-    match Session::fresh(alloc) {
-        Ok(mut session) => is_answered_in(&mut session, alloc, script, replies),
+    match Forest::fresh(alloc) {
+        Ok(forest) => {
+            let mut session = Session::over(alloc, forest);
+            let answered = is_answered_in(&mut session, alloc, script, replies);
+            drop(session);
+            answered
+        }
         Err(_) => false,
     }
+}
+
+// Whether one line of client 0 is done in a session.
+pub(crate) fn is_done(session: &mut Session, alloc: Global, line: &[u8]) -> bool {
+    session.answered.truncate(0);
+    session.run(alloc, 1, line).is_ok() && session.answered.as_slice() == b"@0 1 ok\n".as_slice()
 }
 
 // The fault of a line.

@@ -105,35 +105,61 @@ fn other_forms_stay_shut(rt: HostRuntime) {
     assert!(rt; unseal(short) == None);
 }
 
-// So many full payloads and a byte.
-fn full_and_one(alloc: Global, full: u16, last: u8) -> Result<Vec<u8>, AllocError> {
-    let mut payload = Vec::new(alloc);
+static SEVENS: [u8; 3968] = [7; 3968];
+
+// Appends so many full payloads and a byte.
+fn put_full(payload: &mut Vec<u8>, full: u16, last: u8) -> Result<(), AllocError> {
     for _ in 0..full {
-        payload.extend_from_slice(&[7; 3968])?;
+        payload.extend_from_slice(&SEVENS)?;
     }
-    payload.push(last)?;
-    Ok(payload)
+    Ok(payload.push(last)?)
 }
 
-// The blocks of 63 full payloads and a byte, with this digest of the whole.
-fn most_blocks(alloc: Global, whole: [u8; 32]) -> Result<Vec<u8>, AllocError> {
-    let mut blocks = Vec::new(alloc);
+// The digest of so many full payloads and a byte.
+fn digest_of_full(alloc: Global, full: u16, last: u8) -> Result<[u8; 32], AllocError> {
+    let mut payload = Vec::new(alloc);
+    let put = put_full(&mut payload, full, last);
+    let whole = digest(payload.as_slice());
+    drop(payload);
+    put?;
+    Ok(whole)
+}
+
+// Appends the blocks of 63 full payloads and a byte, with this digest of the whole.
+fn put_most(blocks: &mut Vec<u8>, whole: [u8; 32]) -> Result<(), AllocError> {
     for part in 0..63 {
-        blocks.extend_from_slice(&part_of(part, 64, &[7; 3968], whole))?;
+        blocks.extend_from_slice(&part_of(part, 64, &SEVENS, whole))?;
     }
-    blocks.extend_from_slice(&part_of(63, 64, &[8], whole))?;
-    Ok(blocks)
+    blocks.extend_from_slice(&part_of(63, 64, &[8], whole))
+}
+
+// The digest of the joined blocks and their length.
+fn joined(alloc: Global, blocks: &[u8]) -> Option<([u8; 32], usize)> {
+    match join(alloc, blocks) {
+        Ok(payload) => {
+            let found = (digest(payload.as_slice()), payload.len());
+            drop(payload);
+            Some(found)
+        }
+        Err(_) => None,
+    }
+}
+
+fn most_joined(alloc: Global, whole: [u8; 32]) -> Option<([u8; 32], usize)> {
+    let mut blocks = Vec::new(alloc);
+    let put = put_most(&mut blocks, whole).is_ok();
+    let found = joined(alloc, blocks.as_slice());
+    drop(blocks);
+    if put { found } else { None }
 }
 
 #[test]
 fn parts_are_joined(rt: HostRuntime) -> Result<(), Fail> {
     let alloc = rt.alloc();
-    let payload = full_and_one(alloc, 63, 8)?;
-    let blocks = most_blocks(alloc, digest(payload.as_slice()))?;
-    let joined = join(alloc, blocks.as_slice())?;
-    assert!(rt; joined.as_slice() == payload.as_slice());
-    let one = join(alloc, &part_of(0, 1, b"hello", digest(b"hello")))?;
-    assert!(rt; one.as_slice() == b"hello".as_slice());
+    let whole = digest_of_full(alloc, 63, 8)?;
+    assert!(rt; most_joined(alloc, whole) == Some((whole, 63 * 3968 + 1)));
+    let hello = digest(b"hello");
+    assert!(rt; joined(alloc, &part_of(0, 1, b"hello", hello)) == Some((hello, 5)));
     Ok(())
 }
 
@@ -141,7 +167,7 @@ fn parts_are_joined(rt: HostRuntime) -> Result<(), Fail> {
 // another number, or zeros.
 fn block_of(letter: u8, whole: [u8; 32]) -> [u8; 4096] {
     match letter {
-        b'a' => part_of(0, 2, &[7; 3968], whole),
+        b'a' => part_of(0, 2, &SEVENS, whole),
         b'b' => part_of(1, 2, &[8], whole),
         b'o' => part_of(1, 2, &[9], whole),
         b'n' => changed(part_of(1, 2, &[8], whole), 40, 0),
@@ -149,19 +175,25 @@ fn block_of(letter: u8, whole: [u8; 32]) -> [u8; 4096] {
     }
 }
 
-// The blocks that letters stand for.
-fn blocks_of(alloc: Global, letters: &str) -> Result<Vec<u8>, AllocError> {
-    let payload = full_and_one(alloc, 1, 8)?;
-    let whole = digest(payload.as_slice());
-    let mut blocks = Vec::new(alloc);
+// Appends the blocks that letters stand for.
+fn put_blocks(blocks: &mut Vec<u8>, letters: &str, whole: [u8; 32]) -> Result<(), AllocError> {
     for letter in letters.bytes() {
         blocks.extend_from_slice(&block_of(letter, whole))?;
     }
-    Ok(blocks)
+    Ok(())
+}
+
+// Whether the blocks that letters stand for are no record for this reason, or are one.
+fn has_fault(alloc: Global, letters: &str, whole: [u8; 32], fault: Option<JoinFault>) -> bool {
+    let mut blocks = Vec::new(alloc);
+    let put = put_blocks(&mut blocks, letters, whole).is_ok();
+    let found = join(alloc, blocks.as_slice()).err();
+    drop(blocks);
+    put && found == fault
 }
 
 /// Blocks by letters, and why they are no record, if they are none.
-const JOINED: [(&str, Option<JoinFault>); 9] = [
+static JOINED: [(&str, Option<JoinFault>); 9] = [
     ("ab", None),
     ("a", Some(JoinFault::Foreign(1))),
     ("b", Some(JoinFault::Foreign(0))),
@@ -176,12 +208,9 @@ const JOINED: [(&str, Option<JoinFault>); 9] = [
 #[test]
 fn first_faults(rt: HostRuntime) -> Result<(), Fail> {
     let alloc = rt.alloc();
-    for (letters, fault) in JOINED {
-        let blocks = blocks_of(alloc, letters)?;
-        assert!(rt;
-            join(alloc, blocks.as_slice()).err() == fault,
-            "at {letters}"
-        );
+    let whole = digest_of_full(alloc, 1, 8)?;
+    for (letters, fault) in JOINED.iter() {
+        assert!(rt; has_fault(alloc, letters, whole, *fault), "at {letters}");
     }
     Ok(())
 }

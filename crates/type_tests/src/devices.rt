@@ -3,215 +3,239 @@
 use dev_model::{Devices, Gate, MemDevices, NoGate, Pick};
 use std::alloc::{AllocError, Global};
 use std::test::Fail;
-use vol_types::{Failed, Place};
+use vol_types::Place;
 
-const PICKS: [Pick; 3] = [Pick::AllWritten, Pick::NoneWritten, Pick::Torn];
+static ONES: [u8; 4096] = [1; 4096];
 
-// The first and the last byte of a block, if it is there.
-fn ends(
-    devices: &mut MemDevices,
-    alloc: Global,
-    dev: u8,
-    block: u32,
-) -> Result<Option<(u8, u8)>, Fail> {
+static TWOS: [u8; 4096] = [2; 4096];
+
+// The first and the last byte of a block, if it is there and is read.
+fn ends(devices: &mut MemDevices, dev: u8, block: u32) -> Option<(u8, u8)> {
     if dev >= devices.count() || block >= devices.blocks(dev) {
-        return Ok(None);
+        return None;
     }
-    let mut found = vec![in alloc; 9; 4096]?;
-    devices.read(dev, block, &mut found)?;
-    Ok(found.first().copied().zip(found.last().copied()))
+    let mut found = [9; 4096];
+    match devices.read(dev, block, &mut found) {
+        Ok(()) => Some((found[0], found[4095])),
+        Err(_) => None,
+    }
 }
 
-// A write of ones, a flush and a write of twos, of which the calls with these numbers fail.
-fn written(alloc: Global, failing: &[u64]) -> Result<MemDevices, Fail> {
+// Writes a block, if it is there, and says whether that succeeds.
+fn write(devices: &mut MemDevices, dev: u8, block: u32, bytes: &[u8; 4096]) -> bool {
+    if dev >= devices.count() || block >= devices.blocks(dev) {
+        return false;
+    }
+    devices.write(dev, block, bytes).is_ok()
+}
+
+// Flushes a device, if it is there, and says whether that succeeds.
+fn flush(devices: &mut MemDevices, dev: u8) -> bool {
+    dev < devices.count() && devices.flush(dev).is_ok()
+}
+
+// Makes a device longer, and says whether that succeeds.
+fn extend(devices: &mut MemDevices, dev: u8, blocks: u32) -> bool {
+    if dev >= devices.count() || blocks < devices.blocks(dev) {
+        return false;
+    }
+    devices.extend(dev, blocks).is_ok()
+}
+
+// Two devices of zeros, of which the calls with these numbers are to fail.
+fn blank(alloc: Global, failing: &[u64]) -> Result<MemDevices, AllocError> {
     let mut devices = MemDevices::blank(alloc, &[4, 8])?;
-    devices.fail_at(failing)?;
-    let ones = vec![in alloc; 1; 4096]?;
-    let twos = vec![in alloc; 2; 4096]?;
-    let _ = devices.write(1, 2, &ones);
-    let _ = devices.flush(1);
-    let _ = devices.write(1, 2, &twos);
+    if let Err(failed) = devices.fail_at(failing) {
+        drop(devices);
+        return Err(failed);
+    }
     Ok(devices)
 }
 
-// What a crash leaves at the place that was written, and at another one.
-fn left(
-    alloc: Global,
-    failing: &[u64],
-    pick: Pick,
-) -> Result<(Option<(u8, u8)>, Option<(u8, u8)>), Fail> {
-    let mut after = written(alloc, failing)?.restart(pick)?;
-    two_ends(&mut after, alloc)
+// The calls before a crash.
+#[derive(Clone, Copy)]
+enum Run {
+    // A write of ones, a flush and a write of twos.
+    Twice,
+    // An extension, a write of ones behind the old end, and a flush.
+    Longer,
 }
 
-fn two_ends(
-    devices: &mut MemDevices,
-    alloc: Global,
-) -> Result<(Option<(u8, u8)>, Option<(u8, u8)>), Fail> {
-    let first = ends(devices, alloc, 1, 2)?;
-    let other = ends(devices, alloc, 0, 3)?;
-    Ok((first, other))
+fn make(devices: &mut MemDevices, run: Run) {
+    match run {
+        Run::Twice => {
+            let _ = write(devices, 1, 2, &ONES);
+            let _ = flush(devices, 1);
+            let _ = write(devices, 1, 2, &TWOS);
+        }
+        Run::Longer => {
+            let _ = extend(devices, 0, 6);
+            let _ = write(devices, 0, 5, &ONES);
+            let _ = flush(devices, 0);
+        }
+    }
+}
+
+// What a run leaves on the devices, of which one call is to fail.
+fn made(alloc: Global, failing: u64, run: Run) -> Result<MemDevices, AllocError> {
+    let mut devices = blank(alloc, &[failing])?;
+    make(&mut devices, run);
+    Ok(devices)
+}
+
+// A run with a call that fails and a pick of what a crash leaves; what is at two places then.
+type Row = (Run, u64, Pick, [Option<(u8, u8)>; 2]);
+
+static CRASHES: [Row; 18] = [
+    (Run::Twice, 9, Pick::AllWritten, [Some((2, 2)), None]),
+    (Run::Twice, 9, Pick::NoneWritten, [Some((1, 1)), None]),
+    (Run::Twice, 9, Pick::Torn, [Some((2, 1)), None]),
+    (Run::Twice, 2, Pick::AllWritten, [Some((1, 1)), None]),
+    (Run::Twice, 2, Pick::NoneWritten, [Some((1, 1)), None]),
+    (Run::Twice, 2, Pick::Torn, [Some((1, 1)), None]),
+    (Run::Twice, 1, Pick::AllWritten, [Some((2, 2)), None]),
+    (Run::Twice, 1, Pick::NoneWritten, [Some((0, 0)), None]),
+    (Run::Twice, 1, Pick::Torn, [Some((2, 0)), None]),
+    (Run::Twice, 0, Pick::AllWritten, [Some((2, 2)), None]),
+    (Run::Twice, 0, Pick::NoneWritten, [Some((0, 0)), None]),
+    (Run::Twice, 0, Pick::Torn, [Some((2, 0)), None]),
+    (
+        Run::Longer,
+        2,
+        Pick::AllWritten,
+        [Some((0, 0)), Some((1, 1))],
+    ),
+    (Run::Longer, 2, Pick::NoneWritten, [Some((0, 0)), None]),
+    (Run::Longer, 2, Pick::Torn, [Some((0, 0)), Some((1, 0))]),
+    (
+        Run::Longer,
+        9,
+        Pick::AllWritten,
+        [Some((0, 0)), Some((1, 1))],
+    ),
+    (
+        Run::Longer,
+        9,
+        Pick::NoneWritten,
+        [Some((0, 0)), Some((1, 1))],
+    ),
+    (Run::Longer, 9, Pick::Torn, [Some((0, 0)), Some((1, 1))]),
+];
+
+// Whether a crash leaves it so, and zeros at another place.
+fn is_left(alloc: Global, row: &Row) -> bool {
+    let (run, failing, pick, wanted) = row;
+    let Ok(devices) = made(alloc, *failing, *run) else {
+        return false;
+    };
+    match devices.restart(*pick) {
+        Ok(mut after) => {
+            let found = [ends(&mut after, 1, 2), ends(&mut after, 0, 5)];
+            let other = ends(&mut after, 0, 3);
+            drop(after);
+            found == *wanted && other == Some((0, 0))
+        }
+        Err(_) => false,
+    }
 }
 
 #[test]
-fn a_crash_leaves_what_is_picked(rt: HostRuntime) -> Result<(), Fail> {
-    let alloc = rt.alloc();
-    let rows: [(u64, [(u8, u8); 3]); 4] = [
-        (9, [(2, 2), (1, 1), (2, 1)]),
-        (2, [(1, 1), (1, 1), (1, 1)]),
-        (1, [(2, 2), (0, 0), (2, 0)]),
-        (0, [(2, 2), (0, 0), (2, 0)]),
-    ];
-    for (failing, expected) in rows.iter() {
-        for (pick, bytes) in PICKS.iter().zip(expected.iter()) {
-            let found = left(alloc, &[*failing], *pick)?;
-            assert!(rt; found == (Some(*bytes), Some((0, 0))));
-        }
+fn a_crash_leaves_what_is_picked(rt: HostRuntime) {
+    for (number, row) in CRASHES.iter().enumerate() {
+        assert!(rt; is_left(rt.alloc(), row), "row {number}");
     }
-    Ok(())
 }
 
-// Devices that hold ones, and whose next write fails and leaves this.
-fn about_to_fail(alloc: Global, leaves: Pick) -> Result<MemDevices, Fail> {
-    let mut devices = written(alloc, &[2])?.restart(Pick::NoneWritten)?;
-    devices.fail_at(&[0])?;
+// What a write of twos over ones leaves that fails, and then what a crash leaves of it.
+type FailedRow = (Pick, Pick, (u8, u8), (u8, u8));
+
+static FAILED: [FailedRow; 9] = [
+    (Pick::AllWritten, Pick::AllWritten, (2, 2), (2, 2)),
+    (Pick::AllWritten, Pick::NoneWritten, (2, 2), (1, 1)),
+    (Pick::AllWritten, Pick::Torn, (2, 2), (2, 1)),
+    (Pick::NoneWritten, Pick::AllWritten, (1, 1), (1, 1)),
+    (Pick::NoneWritten, Pick::NoneWritten, (1, 1), (1, 1)),
+    (Pick::NoneWritten, Pick::Torn, (1, 1), (1, 1)),
+    (Pick::Torn, Pick::AllWritten, (2, 1), (2, 1)),
+    (Pick::Torn, Pick::NoneWritten, (2, 1), (1, 1)),
+    (Pick::Torn, Pick::Torn, (2, 1), (2, 1)),
+];
+
+// Whether a write of twos over ones fails and leaves this.
+fn fails(devices: &mut MemDevices, leaves: Pick, left: (u8, u8)) -> bool {
     devices.failed_writes_leave(leaves);
-    Ok(devices)
+    let written = write(devices, 1, 2, &ONES) && flush(devices, 1);
+    written && !write(devices, 1, 2, &TWOS) && ends(devices, 1, 2) == Some(left)
 }
 
-// Whether a write of twos fails.
-fn fails(alloc: Global, devices: &mut MemDevices) -> Result<bool, AllocError> {
-    let twos = vec![in alloc; 2; 4096]?;
-    if devices.count() != 2 || devices.blocks(1) != 8 {
-        return Ok(false);
-    }
-    Ok(devices.write(1, 2, &twos).is_err())
-}
-
-// What a write that fails leaves; none where it doesn't fail.
-fn left_by_failure(alloc: Global, leaves: Pick) -> Result<Option<(u8, u8)>, Fail> {
-    let mut devices = about_to_fail(alloc, leaves)?;
-    seen_after_failure(alloc, &mut devices)
-}
-
-fn seen_after_failure(alloc: Global, devices: &mut MemDevices) -> Result<Option<(u8, u8)>, Fail> {
-    if !fails(alloc, devices)? {
-        return Ok(None);
-    }
-    ends(devices, alloc, 1, 2)
-}
-
-// The same after a crash.
-fn left_by_crash(alloc: Global, leaves: Pick, pick: Pick) -> Result<Option<(u8, u8)>, Fail> {
-    let mut after = failed(alloc, leaves)?.restart(pick)?;
-    ends(&mut after, alloc, 1, 2)
-}
-
-// Devices whose write of twos failed.
-fn failed(alloc: Global, leaves: Pick) -> Result<MemDevices, Fail> {
-    let mut devices = about_to_fail(alloc, leaves)?;
-    if fails(alloc, &mut devices)? {
-        Ok(devices)
-    } else {
-        Err(Fail::from("the write doesn't fail"))
+fn is_left_by_failure(alloc: Global, row: &FailedRow) -> bool {
+    let (leaves, pick, left, wanted) = row;
+    let Ok(mut devices) = blank(alloc, &[2]) else {
+        return false;
+    };
+    let failed = fails(&mut devices, *leaves, *left);
+    match devices.restart(*pick) {
+        Ok(mut after) => {
+            let found = ends(&mut after, 1, 2);
+            drop(after);
+            failed && found == Some(*wanted)
+        }
+        Err(_) => false,
     }
 }
 
 #[test]
-fn a_failed_write_leaves_what_it_is_to(rt: HostRuntime) -> Result<(), Fail> {
-    let alloc = rt.alloc();
-    let rows: [[(u8, u8); 4]; 3] = [
-        [(2, 2), (2, 2), (1, 1), (2, 1)],
-        [(1, 1), (1, 1), (1, 1), (1, 1)],
-        [(2, 1), (2, 1), (1, 1), (2, 1)],
-    ];
-    for (leaves, expected) in PICKS.iter().zip(rows.iter()) {
-        assert!(rt; left_by_failure(alloc, *leaves)? == Some(expected[0]));
-        for (pick, bytes) in PICKS.iter().zip(expected[1..].iter()) {
-            assert!(rt; left_by_crash(alloc, *leaves, *pick)? == Some(*bytes));
-        }
+fn a_failed_write_leaves_what_it_is_to(rt: HostRuntime) {
+    for (number, row) in FAILED.iter().enumerate() {
+        assert!(rt; is_left_by_failure(rt.alloc(), row), "row {number}");
     }
-    Ok(())
 }
 
-// Which of a read, a write, a flush, an extension and another flush fail.
-fn which_fail(alloc: Global, devices: &mut MemDevices) -> Result<[bool; 5], AllocError> {
-    let mut block = vec![in alloc; 1; 4096]?;
-    if devices.count() != 1 || devices.blocks(0) != 4 {
-        return Ok([false; 5]);
-    }
-    let read = devices.read(0, 3, &mut block).is_err();
-    let written = devices.write(0, 3, &block).is_err();
-    let flushed = devices.flush(0).is_err();
-    let extended = devices.extend(0, 6).is_err();
-    let last = devices.count() > 0 && devices.flush(0) == Err(Failed);
-    Ok([read, written, flushed, extended, last])
-}
-
-// Which of five calls fail where the call with this number does, and the fifth one; how many calls there were; and how many
-// were short of memory.
-fn outcome(alloc: Global, failing: u64) -> Result<([bool; 5], u64, u64), Fail> {
-    let mut devices = MemDevices::blank(alloc, &[4])?;
-    devices.fail_at(&[failing])?;
+// Whether of a read, a write, a flush, an extension and another flush this one and the last one fail, and no other.
+fn fail_so(devices: &mut MemDevices, failing: u64) -> bool {
     devices.fail_from(4);
-    outcome_of(alloc, &mut devices)
+    (ends(devices, 0, 3).is_none() == (failing == 0))
+        && (write(devices, 0, 3, &ONES) == (failing != 1))
+        && (flush(devices, 0) == (failing != 2))
+        && (extend(devices, 0, 6) == (failing != 3))
+        && !flush(devices, 0)
+        && devices.calls() == 5
+        && devices.shortages() == 0
 }
 
-fn outcome_of(alloc: Global, devices: &mut MemDevices) -> Result<([bool; 5], u64, u64), Fail> {
-    let failed = which_fail(alloc, devices)?;
-    Ok((failed, devices.calls(), devices.shortages()))
-}
-
-#[test]
-fn calls_fail_where_they_are_to(rt: HostRuntime) -> Result<(), Fail> {
-    let alloc = rt.alloc();
-    for failing in 0..4 {
-        let fails = [failing == 0, failing == 1, failing == 2, failing == 3, true];
-        assert!(rt; outcome(alloc, failing)? == (fails, 5, 0));
-    }
-    Ok(())
-}
-
-// A device that was extended and written behind its old end, where the call with this number fails.
-fn extended(alloc: Global, failing: u64) -> Result<MemDevices, Fail> {
-    let ones = vec![in alloc; 1; 4096]?;
-    let mut devices = MemDevices::blank(alloc, &[4])?;
-    devices.fail_at(&[failing])?;
-    devices.extend(0, 6)?;
-    let _ = devices.write(0, 5, &ones);
-    let _ = devices.flush(0);
-    Ok(devices)
-}
-
-// What a crash leaves behind the old end.
-fn left_of_new(alloc: Global, failing: u64, pick: Pick) -> Result<Option<(u8, u8)>, Fail> {
-    let mut after = extended(alloc, failing)?.restart(pick)?;
-    ends(&mut after, alloc, 0, 5)
-}
-
-#[test]
-fn new_blocks_may_be_gone_until_a_flush(rt: HostRuntime) -> Result<(), Fail> {
-    let alloc = rt.alloc();
-    let rows: [(u64, [Option<(u8, u8)>; 3]); 2] = [
-        (2, [Some((1, 1)), None, Some((1, 0))]),
-        (9, [Some((1, 1)), Some((1, 1)), Some((1, 1))]),
-    ];
-    for (failing, expected) in rows.iter() {
-        for (pick, bytes) in PICKS.iter().zip(expected.iter()) {
-            assert!(rt; left_of_new(alloc, *failing, *pick)? == *bytes);
+fn is_failing(alloc: Global, failing: u64) -> bool {
+    match blank(alloc, &[failing]) {
+        Ok(mut devices) => {
+            let failed = fail_so(&mut devices, failing);
+            drop(devices);
+            failed
         }
+        Err(_) => false,
     }
-    Ok(())
+}
+
+#[test]
+fn calls_fail_where_they_are_to(rt: HostRuntime) {
+    for failing in 0..4 {
+        assert!(rt; is_failing(rt.alloc(), failing), "call {failing}");
+    }
+}
+
+fn patched(alloc: Global) -> Result<MemDevices, AllocError> {
+    let mut devices = MemDevices::blank(alloc, &[4])?;
+    if let Err(failed) = devices.patch(&Place { dev: 0, block: 1 }, &TWOS) {
+        drop(devices);
+        return Err(failed);
+    }
+    devices.restart(Pick::NoneWritten)
 }
 
 #[test]
 fn a_patch_stays(rt: HostRuntime) -> Result<(), Fail> {
-    let alloc = rt.alloc();
-    let twos = vec![in alloc; 2; 4096]?;
-    let mut devices = MemDevices::blank(alloc, &[4])?;
-    devices.patch(&Place { dev: 0, block: 1 }, &twos)?;
-    let mut after = devices.restart(Pick::NoneWritten)?;
-    assert!(rt; ends(&mut after, alloc, 0, 1)? == Some((2, 2)));
+    let mut after = patched(rt.alloc())?;
+    let found = ends(&mut after, 0, 1);
+    drop(after);
+    assert!(rt; found == Some((2, 2)));
     NoGate.at(0, 1);
     Ok(())
 }
@@ -223,7 +247,9 @@ fn can_be_shared<T: Sync>(_value: &T) {}
 
 #[test]
 fn threads_may_use_them(rt: HostRuntime) -> Result<(), Fail> {
-    can_be_sent(&MemDevices::blank(rt.alloc(), &[4])?);
+    let devices = MemDevices::blank(rt.alloc(), &[4])?;
+    can_be_sent(&devices);
+    drop(devices);
     can_be_shared(&NoGate);
     Ok(())
 }
