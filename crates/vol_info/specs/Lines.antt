@@ -47,11 +47,13 @@ btree_name Backptrs = codes "backptrs"
 btree_name Deleted = codes "deleted"
 btree_name Counters = codes "counters"
 
--- the line of a btree: the level of its root, its nodes and its keys
+-- the level of a btree's root, its nodes and its keys
+unfoldable pub counts_text : BtreeFacts → List ℕ
+counts_text facts = codes " level " ++ decimal facts.level ++ codes " nodes " ++ decimal facts.nodes ++ codes " keys " ++ decimal facts.keys ++ codes "\n"
+
+-- the line of a btree
 unfoldable pub btree_line : BtreeFacts → List ℕ
-btree_line facts =
-    codes "btree " ++ btree_name facts.btree ++ codes " level " ++ decimal facts.level ++ codes " nodes " ++ decimal facts.nodes
-    ++ codes " keys " ++ decimal facts.keys ++ codes "\n"
+btree_line facts = codes "btree " ++ btree_name facts.btree ++ counts_text facts
 
 -- the line of a device: its buckets, those that are free, and those in which something lies
 unfoldable pub device_line : DeviceFacts → List ℕ

@@ -1,4 +1,4 @@
-ghost use Rattle.std.specs.Prelude.{◌≡◌, ◌++◌, IfOk, OnOk, map};
+ghost use Rattle.std.specs.Prelude.{◌≡◌, ◌++◌, ◌∷◌, [], IfOk, OnOk, map};
 ghost use Rattle.std.specs.List.{flat_map};
 ghost use Rattle.std.specs.Map.{values_of};
 ghost use Rattle.image_view.specs.Trees.{all_btrees};
@@ -49,9 +49,29 @@ fn facts_of_these(
 {
     let mut facts = Listing::new(alloc);
     for btree in btrees {
-        facts.push(facts_of_btree(alloc, found, *btree)?)?;
+        match add_btree(alloc, &mut facts, found, *btree) {
+            Ok(()) => {}
+            Err(error) => {
+                drop(facts);
+                return Err(error);
+            }
+        }
     }
     Ok(facts)
+}
+
+// Adds what is told of a btree.
+fn add_btree(
+    alloc: Global,
+    facts: &mut Listing<BtreeFacts>,
+    found: &FoundVolume,
+    btree: Btree,
+) -> Result<(), AllocError>
+    ensures { OnOk result (facts.new ≡ facts.old ++ btree_facts (found_of found.now).trees btree ∷ []) }
+{
+    let one = facts_of_btree(alloc, found, btree)?;
+    facts.push(one)?;
+    Ok(())
 }
 
 // What is told of a btree.

@@ -1,4 +1,4 @@
-ghost use Rattle.std.specs.Prelude.{◌≡◌, ◌<◌, ◌≤◌, ◌++◌, [], true, false, IfOk, OnOk, count_by, length, map, option_and_then, slice_get, slice_index_or};
+ghost use Rattle.std.specs.Prelude.{◌≡◌, ◌<◌, ◌≤◌, ◌++◌, ◌∷◌, [], Some, true, false, IfOk, OnOk, count_by, length, map, option_and_then, slice_get, slice_index_or};
 ghost use Rattle.std.specs.List.{flat_map, range_with_len};
 ghost use Rattle.std.specs.Option.{option_map_or};
 ghost use Rattle.bucket_pool.specs.NodeBuckets.{AreFixed};
@@ -114,10 +114,24 @@ fn live_keys(alloc: Global, entries: &[(Pos, Value)]) -> Result<Keys, AllocError
 {
     let mut keys = Keys::new(alloc);
     for (pos, value) in entries {
-        let value = Some(value.copy(alloc)?);
-        keys.push(Key { pos: *pos, value })?;
+        match add_key(alloc, &mut keys, *pos, value) {
+            Ok(()) => {}
+            Err(error) => {
+                drop(keys);
+                return Err(error);
+            }
+        }
     }
     Ok(keys)
+}
+
+// Adds a key that has a value.
+fn add_key(alloc: Global, keys: &mut Keys, pos: Pos, value: &Value) -> Result<(), AllocError>
+    ensures { OnOk result (keys.new ≡ keys.old ++ record { pos = pos; value = Some value.now } ∷ []) }
+{
+    let value = Some(value.copy(alloc)?);
+    keys.push(Key { pos, value })?;
+    Ok(())
 }
 
 // The places of all nodes of btrees.

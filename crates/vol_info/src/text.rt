@@ -1,6 +1,6 @@
-ghost use Rattle.std.specs.Prelude.{◌≡◌, ◌≤◌, ◌++◌, IfOk, OnOk, length};
+ghost use Rattle.std.specs.Prelude.{◌≡◌, ◌≤◌, ◌++◌, IfOk, OnOk, length, string_bytes};
 ghost use Rattle.std.specs.List.{flat_map};
-ghost use Rattle.vol_info.specs.Lines.{btree_line, btree_name, copies_text, device_line, facts_lines, journal_line, session_line, sizes_text, volume_line};
+ghost use Rattle.vol_info.specs.Lines.{btree_line, btree_name, copies_text, counts_text, device_line, facts_lines, journal_line, session_line, sizes_text, volume_line};
 
 use crate::facts::{BtreeFacts, DeviceFacts, Facts, JournalFacts};
 use command_line::id_text;
@@ -8,25 +8,47 @@ use std::alloc::{AllocError, Global};
 use vol_types::{Btree, Bytes, Layout};
 
 /// The lines that say the facts of a volume. They are as long as it has btrees and devices.
-#[tactic(auto, unfolding(crate::specs::Lines::facts_lines))]
 pub fn facts_text(alloc: Global, facts: &Facts) -> Result<Bytes, AllocError>
     requires { 1 ≤ length facts.now.layout.blocks }
     ensures { IfOk result (λ text. text ≡ facts_lines facts.now) }
 {
     let mut text = Bytes::new(alloc);
-    add_volume(alloc, &mut text, &facts.layout)?;
+    match add_facts(alloc, &mut text, facts) {
+        Ok(()) => Ok(text),
+        Err(error) => {
+            drop(text);
+            Err(error)
+        }
+    }
+}
+
+// Adds the lines that say the facts of a volume.
+#[tactic(auto, unfolding(crate::specs::Lines::facts_lines))]
+fn add_facts(alloc: Global, text: &mut Bytes, facts: &Facts) -> Result<(), AllocError>
+    requires { 1 ≤ length facts.now.layout.blocks }
+    ensures { OnOk result (text.new ≡ text.old ++ facts_lines facts.now) }
+{
+    add_volume(alloc, text, &facts.layout)?;
     add_session(
         alloc,
-        &mut text,
+        text,
         facts.session,
         facts.commits,
         facts.journal.sequence,
     )?;
-    add_journal(alloc, &mut text, &facts.journal)?;
-    add_btrees(alloc, &mut text, facts.btrees.as_slice())?;
-    add_devices(alloc, &mut text, facts.devices.as_slice())?;
-    text.extend_from_slice(b"end\n")?;
-    Ok(text)
+    add_journal(alloc, text, &facts.journal)?;
+    add_btrees(alloc, text, facts.btrees.as_slice())?;
+    add_devices(alloc, text, facts.devices.as_slice())?;
+    text.extend_from_slice(b"end\n")
+}
+
+// Adds a line, and lets it go.
+fn add_line(text: &mut Bytes, line: String) -> Result<(), AllocError>
+    ensures { OnOk result (text.new ≡ text.old ++ string_bytes line) }
+{
+    let added = text.extend_from_slice(line.as_bytes());
+    drop(line);
+    added
 }
 
 // Adds the volume's id, and how it lies on its devices.
@@ -50,7 +72,7 @@ fn add_sizes(alloc: Global, text: &mut Bytes, layout: &Layout) -> Result<(), All
     let blocks = layout.blocks.as_slice()[0];
     let journal = layout.journal;
     let line = format!(in alloc; " devices {devices} blocks {blocks} journal {journal}")?;
-    text.extend_from_slice(line.as_bytes())
+    add_line(text, line)
 }
 
 // Adds how many copies there are.
@@ -61,7 +83,7 @@ fn add_copies(alloc: Global, text: &mut Bytes, layout: &Layout) -> Result<(), Al
     let data = layout.data_replicas;
     let meta = layout.metadata_replicas;
     let line = format!(in alloc; " data-replicas {data} meta-replicas {meta}\n")?;
-    text.extend_from_slice(line.as_bytes())
+    add_line(text, line)
 }
 
 // Adds the last session, the commits so far, and the sequence of the newest entry of the journal.
@@ -76,7 +98,7 @@ fn add_session(
     ensures { OnOk result (text.new ≡ text.old ++ session_line session commits sequence) }
 {
     let line = format!(in alloc; "session {session} commits {commits} sequence {sequence}\n")?;
-    text.extend_from_slice(line.as_bytes())
+    add_line(text, line)
 }
 
 // Adds what of the journal is needed.
@@ -88,7 +110,7 @@ fn add_journal(alloc: Global, text: &mut Bytes, facts: &JournalFacts) -> Result<
     let entries = facts.entries;
     let blocks = facts.blocks;
     let line = format!(in alloc; "journal from {oldest} entries {entries} blocks {blocks}\n")?;
-    text.extend_from_slice(line.as_bytes())
+    add_line(text, line)
 }
 
 // Adds the lines of btrees.
@@ -116,13 +138,21 @@ fn add_devices(alloc: Global, text: &mut Bytes, devices: &[DeviceFacts]) -> Resu
 fn add_btree(alloc: Global, text: &mut Bytes, facts: &BtreeFacts) -> Result<(), AllocError>
     ensures { OnOk result (text.new ≡ text.old ++ btree_line facts.now) }
 {
+    text.extend_from_slice(b"btree ")?;
+    text.extend_from_slice(name_of(facts.btree))?;
+    add_counts(alloc, text, facts)
+}
+
+// Adds the level of a btree's root, its nodes and its keys.
+#[tactic(auto, unfolding(crate::specs::Lines::counts_text))]
+fn add_counts(alloc: Global, text: &mut Bytes, facts: &BtreeFacts) -> Result<(), AllocError>
+    ensures { OnOk result (text.new ≡ text.old ++ counts_text facts.now) }
+{
     let level = facts.level;
     let nodes = facts.nodes;
     let keys = facts.keys;
     let line = format!(in alloc; " level {level} nodes {nodes} keys {keys}\n")?;
-    text.extend_from_slice(b"btree ")?;
-    text.extend_from_slice(name_of(facts.btree))?;
-    text.extend_from_slice(line.as_bytes())
+    add_line(text, line)
 }
 
 // The name of a btree.
@@ -152,5 +182,5 @@ fn add_device(alloc: Global, text: &mut Bytes, facts: &DeviceFacts) -> Result<()
     let free = facts.free;
     let used = facts.used;
     let line = format!(in alloc; "device {dev} buckets {buckets} free {free} used {used}\n")?;
-    text.extend_from_slice(line.as_bytes())
+    add_line(text, line)
 }

@@ -8,4 +8,4 @@ pub returns : goal.returns
 unfolding journal_line
 returns c =
     let line : string_bytes c.in_ok-line.line ≡ journal_line c.args.facts.now = c.in_ok-line.ensures.ok ∙ simp append_assoc in
-    on_ok_weaker c.extend_from_slice.result (λ added. added ∙ ap (λ more. c.args.text.now ++ more) (c.as_bytes.ensures.value ∙ line)) c.extend_from_slice.ensures.ok
+    on_ok_weaker c.add_line.result (λ added. added ∙ ap (λ more. c.args.text.now ++ more) line) c.add_line.ensures
