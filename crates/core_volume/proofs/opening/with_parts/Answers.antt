@@ -32,7 +32,7 @@ invariant_of-result c =
     c.waiting_changes_lead_from_durable_keys.ensures.empty)
 
 pub returns-clause-sound : goal.returns-clause-sound
-returns-clause-sound c = invariant_of-result c.before
+returns-clause-sound c = invariant_of-result c
 
 pub returns-clause-opened : goal.returns-clause-opened
 returns-clause-opened c =
