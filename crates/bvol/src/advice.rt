@@ -77,7 +77,10 @@ fn mount_text(refusal: MountRefusal) -> &'static str {
         MountRefusal::NoEntry => {
             "no entry of the journal is whole, no session is named, or no number is left for another one; restore the images from a copy, or format them anew"
         }
-        MountRefusal::MissingEntry(_) | MountRefusal::BadNode(_) | MountRefusal::Unsound(_) => {
+        MountRefusal::BadNode(_) => {
+            "nothing was written; look at the system's log of the disks, or restore the images from a copy"
+        }
+        MountRefusal::MissingEntry(_) | MountRefusal::Unsound(_) => {
             "nothing was written; restore the images from a copy"
         }
     }
@@ -100,7 +103,7 @@ fn write_mount<W: fmt::Write>(
             let block = place.block;
             write!(
                 f,
-                "bvol: {name}: the btree node at block {block} is damaged, here and on every other image that keeps it; {text}"
+                "bvol: {name}: the btree node at block {block} is damaged, or a read of it failed, and no other image makes it up; {text}"
             )
         }
         MountRefusal::Unsound(check) => write!(

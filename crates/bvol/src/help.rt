@@ -189,8 +189,8 @@ exit status:
      mount refused 5: the journal has no whole entry, or no session is named, or
      no number is left for another
      mount refused 6 seq S: entry S of the journal is needed, and is on no file
-     mount refused 7 at D:B: a node of a btree is damaged, in block B of file D
-     and wherever else it is kept
+     mount refused 7 at D:B: a node of a btree, in block B of file D, is damaged
+     or couldn't be read, and no other file makes it up
   4  error 4 source: standard input couldn't be read
   5  standard output couldn't be written
   6  error 6 device D: file D, from 0, isn't there, is in use, or can't be read
