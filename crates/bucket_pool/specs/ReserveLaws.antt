@@ -1,7 +1,7 @@
 -- What a reservation gives lay on blocks that were unused.
 use Rattle.std.proofs.Common.{◌≡◌, ℕ, zero, suc, ◌+◌, ◌-◌, ◌≤◌, ◌⊎◌, ⊎_elim, inl, inr, Bool, true, false, ◌&&◌, nat_le, if◌then◌else◌, Option, None, Some, is_some, unwrap_or, List, [], ◌∷◌, take, drop, replicate, slice_get, slice_index, refl, sym, ap, ◌∙◌, subst, arith}
 use Rattle.std.specs.List.{All, list_all, position_or_len}
-use Rattle.std.proofs.lemmas.Bool.{false≢true}
+use Rattle.std.proofs.lemmas.Bool.{and_parts, false≢true}
 use Rattle.std.proofs.lemmas.Bool.Decides.{nat_tests}
 use Rattle.std.proofs.lemmas.List.{take-replicate}
 use Rattle.std.proofs.lemmas.List.Elements.{All-cons, All-nil}
@@ -49,10 +49,6 @@ run_begins at count (slot ∷ slots) first is = choose (begins_empty count (slot
         let above = more.0 in
         (omega (arith, above), ap (λ n. begins_empty count (drop n (slot ∷ slots))) (let next : first - at ≡ suc (first - (at + 1)) = omega (arith, above) in next) ∙ more.1)
 
-both : (a b : Bool) → (a && b) ≡ true → (a ≡ true) × (b ≡ true)
-both true b is = (refl, is)
-both false b is = absurd (false≢true is)
-
 some_first : (o : Option ℕ) → is_some o ≡ true → o ≡ Some (unwrap_or o 0)
 some_first None is = absurd (false≢true is)
 some_first (Some first) is = refl
@@ -60,7 +56,7 @@ some_first (Some first) is = refl
 -- a bucket with room has so many blocks in a row where they are reserved
 room_unused : (count actor : ℕ) (bucket : Bucket) → has_room count actor bucket ≡ true → (is_current_of actor bucket ≡ true) × (begins_empty count (drop (run_of count bucket) (slots_of bucket.state)) ≡ true)
 room_unused count actor bucket is =
-    let test = both (is_current_of actor bucket) (is_some (first_run count (slots_of bucket.state))) is in
+    let test = and_parts (is_current_of actor bucket) (is_some (first_run count (slots_of bucket.state))) is in
     let run = run_begins 0 count (slots_of bucket.state) (run_of count bucket) (some_first (first_run count (slots_of bucket.state)) test.1) in
     (test.0, ap (λ n. begins_empty count (drop n (slots_of bucket.state))) (let same : run_of count bucket ≡ run_of count bucket - 0 = omega arith in same) ∙ run.1)
 

@@ -10,12 +10,8 @@ use Rattle.std.proofs.lemmas.Str.Parse.{IsNumeralModel, numerals_by_value, parse
 use Rattle.std.proofs.lemmas.Fmt.{decimal-digits_value, digits_decimal, digits_value-decimal, decimal_digit, decimal_nonempty, first_decimal}
 use Rattle.std.proofs.lemmas.Bool.Decides.{nat_tests}
 use Rattle.std.proofs.lemmas.Option.{none-some, same_Some}
+use Rattle.std.proofs.lemmas.Bool.{and_parts}
 use Rattle.command_line.specs.Numbers.{is_numeral, number}
-
--- both halves of an `and` that holds
-pub both : (a b : Bool) → (a && b) ≡ true → (a ≡ true) × (b ≡ true)
-both true b e = (refl, e)
-both false b e = absurd (true≢false (sym e))
 
 -- digits, as std defines them
 abbrev AreDigits : List ℕ → Type 0
@@ -34,14 +30,14 @@ numeral_parts : (text : List ℕ) → is_numeral text ≡ true → (0 < length t
 numeral_parts [] is = absurd (true≢false (sym is))
 numeral_parts (d ∷ []) is = (omega arith, rw is refl, λ _. refl)
 numeral_parts (a ∷ b ∷ rest) is =
-    let parts = both (not (a == 48)) (list_all is_ascii_digit (a ∷ b ∷ rest)) is in
+    let parts = and_parts (not (a == 48)) (list_all is_ascii_digit (a ∷ b ∷ rest)) is in
     let no_zero : a ≡ 48 → ⊥ = λ e. true≢false (sym parts.0 ∙ ap (λ n. not (n == 48)) e) in
     (omega arith, sym (all_same (a ∷ b ∷ rest)) ∙ parts.1, λ e. absurd (no_zero e))
 
 -- a list of digits that begins with 0 only where it is `0` is a numeral
 numeral_made : (text : List ℕ) → 0 < length text → AreDigits text → (get_or text 0 0 ≡ 48 → length text ≡ 1) → is_numeral text ≡ true
 numeral_made [] some are lead = absurd (omega arith)
-numeral_made (d ∷ []) some are lead = (both (is_ascii_digit d) true are).0
+numeral_made (d ∷ []) some are lead = (and_parts (is_ascii_digit d) true are).0
 numeral_made (a ∷ b ∷ rest) some are lead =
     let no_zero : not (a == 48) ≡ true = grind (arith, nat_tests, lead) in
     rw (no_zero, all_same (a ∷ b ∷ rest), are) refl

@@ -11,17 +11,17 @@ use Rattle.vol_types.specs.KeyMaps.{GivesLooks, IsLook, answer_of}
 use Rattle.vol_types.specs.declared.keys.Update.{Update}
 use Rattle.vol_types.specs.declared.queries.Query.{Query}
 use Rattle.vol_types.specs.declared.queries.Look.{Look}
-use Rattle.core_state.specs.Actors.{begun, dropped, ended, holds, idle_actor, told_of, with_fault, with_intent, with_look}
-use Rattle.core_state.specs.Commits.{AreIntended}
-use Rattle.core_state.specs.Uncommitted.{noted_why}
-use Rattle.core_state.specs.declared.commit.Why.{Why}
-use Rattle.core_state.specs.declared.commit.Why.TheVariants.{NoMemory, Refused}
+use Rattle.core_actors.specs.Actors.{begun, dropped, ended, holds, idle_actor, told_of, with_fault, with_intent, with_look}
+use Rattle.core_volume.specs.Commits.{AreIntended}
+use Rattle.core_state.specs.Events.{noted_why}
+use Rattle.core_volume.specs.declared.commit.Why.{Why}
+use Rattle.core_volume.specs.declared.commit.Why.TheVariants.{NoMemory, Refused}
 use Rattle.journal_writer.specs.declared.stage.Stage.{Stage}
 use Rattle.core_state.specs.States.{IsActor, IsState, State, actor_count, mine, other_holder}
-use Rattle.core_state.specs.Volumes.{IsVolume, Volume, first_halt, halted_at}
-use Rattle.core_state.specs.declared.answer.Halt.{Halt}
-use Rattle.core_state.proofs.Written.{halted-kept}
-use Rattle.core_state.specs.declared.actor.Actor.{Actor}
+use Rattle.core_volume.specs.Volumes.{IsVolume, Volume, first_halt, halted_at}
+use Rattle.core_actors.specs.declared.answer.Halt.{Halt}
+use Rattle.core_volume.proofs.Written.{halted-kept}
+use Rattle.core_actors.specs.declared.actor.Actor.{Actor}
 
 -- The turn is one actor's at most: whoever isn't the actor that changes still has the turn if it had it.
 abbrev pub KeepsTurns : ℕ → Option ℕ → Option ℕ → Type 0

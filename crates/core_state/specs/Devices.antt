@@ -5,8 +5,8 @@ use Rattle.journal_writer.specs.Writes.{WritesPart}
 use Rattle.journal_ring.specs.Rings.{RingState}
 use Rattle.node_writeback.specs.NodeWrites.{WritesNodePart}
 use Rattle.node_writeback.specs.declared.node.UnfinishedNode.{UnfinishedNode}
-use Rattle.core_state.specs.declared.answer.Answer.{Answer}
-use Rattle.core_state.specs.declared.answer.Answer.TheVariants.{DeviceFault, Done}
+use Rattle.core_actors.specs.declared.answer.Answer.{Answer}
+use Rattle.core_actors.specs.declared.answer.Answer.TheVariants.{DeviceFault, Done}
 
 -- The next part of the entry in flight was written, or a device failed that is named; with every other answer no device was called.
 abbrev pub WritesEntry : Type 0 → RingState → Answer → DevicesState → DevicesState → Type 0

@@ -9,22 +9,24 @@ use Rattle.vol_types.specs.declared.keys.Update.{Update}
 use Rattle.journal_writer.specs.Writers.{Writer, unsettled_by, with_flushed, with_next_part}
 use Rattle.journal_writer.specs.declared.stage.Stage.{Stage}
 use Rattle.journal_writer.specs.declared.stage.Stage.TheVariants as stages
-use Rattle.core_state.specs.Actors.{begun, committed, dropped, ended, holds, noted, told_of, with_fault, with_ids, with_intent, with_look}
-use Rattle.core_state.specs.Checkpoints.{AreInPlace, IsFreezeRefused, IsLeafFrozen, IsNodeStage, IsOtherNodeStage, IsPlacingRefused, after_refused, with_block}
-use Rattle.core_state.specs.Commits.{AreIntended, IsCommitted}
-use Rattle.core_state.specs.Rulings.{IsAllowed, IsRefused}
-use Rattle.core_state.specs.Sealing.{IsFlown, IsOtherStage, IsSealRefused, IsStage, settled_volume, with_writer}
+use Rattle.core_actors.specs.Actors.{begun, committed, dropped, ended, holds, noted, told_of, with_fault, with_ids, with_intent, with_look}
+use Rattle.core_volume.specs.Checkpoints.{AreInPlace, IsFreezeRefused, IsLeafFrozen, IsNodeStage, IsOtherNodeStage, IsPlacingRefused, after_refused, with_block}
+use Rattle.core_volume.specs.Commits.{AreIntended, IsCommitted}
+use Rattle.core_volume.specs.Rulings.{IsAllowed, IsRefused}
+use Rattle.core_volume.specs.Sealing.{IsFlown, IsOtherStage, IsSealRefused, IsStage, settled_volume, with_writer}
 use Rattle.core_state.specs.States.{State, actor_count, mine, other_holder, with_mine, with_turn, without_turn}
-use Rattle.core_state.specs.Volumes.{Volume, are_durable, commits_of, halted_at, node_stage_of, stage_of}
-use Rattle.core_state.specs.declared.actor.Actor.{Actor}
-use Rattle.core_state.specs.declared.answer.Answer.{Answer}
-use Rattle.core_state.specs.declared.answer.Answer.TheVariants.{At, DeviceFault, Done, Found, Ids, NoMemory, Refused, Wait}
-use Rattle.core_state.specs.declared.answer.Refusal.{Refusal}
-use Rattle.core_state.specs.declared.answer.Refusal.TheVariants as refusals
-use Rattle.core_state.specs.declared.event.Event.{Event}
-use Rattle.core_state.specs.declared.event.Event.TheVariants as events
-use Rattle.core_state.specs.declared.event.Work.{Work}
-use Rattle.core_state.specs.declared.event.Work.TheVariants as works
+use Rattle.core_volume.specs.Volumes.{Volume, are_durable, commits_of, halted_at, node_stage_of, stage_of}
+use Rattle.core_actors.specs.declared.actor.Actor.{Actor}
+use Rattle.core_actors.specs.declared.answer.Answer.{Answer}
+use Rattle.core_actors.specs.declared.answer.Answer.TheVariants.{At, DeviceFault, Done, Found, Ids, NoMemory, Refused, Wait}
+use Rattle.core_actors.specs.declared.answer.Refusal.{Refusal}
+use Rattle.core_actors.specs.declared.answer.Refusal.TheVariants as refusals
+use Rattle.core_actors.specs.declared.event.Event.{Event}
+use Rattle.core_actors.specs.declared.event.Event.TheVariants as events
+use Rattle.core_actors.specs.declared.event.Work.{Work}
+use Rattle.core_actors.specs.declared.event.Work.TheVariants as works
+use Rattle.core_volume.specs.declared.commit.Why.{Why}
+use Rattle.core_volume.specs.declared.commit.Why.TheVariants as whys
 
 -- An actor begins a transaction where it has none under way: the first one of an operation, or a further one of the operation that it has.
 pub record MayBegin (first : Bool) (actor : Actor) : Type 0 where
@@ -83,6 +85,16 @@ left actor change state = without_turn actor (with_mine actor (change (mine stat
 -- the updates that an actor intends
 abbrev pub intended_by : State → ℕ → List Update
 intended_by state actor = unwrap_or (mine state actor).intended []
+
+-- an actor whose updates weren't committed
+abbrev pub noted_why : Why → Actor → Actor
+noted_why (whys.Refused refusal) actor = noted refusal actor
+noted_why whys.NoMemory actor = actor
+
+-- what is answered then
+abbrev pub answer_of_why : Why → Answer
+answer_of_why (whys.Refused refusal) = Refused refusal
+answer_of_why whys.NoMemory = NoMemory
 
 -- The updates that an actor intends are made, all of them: nothing refuses that.
 pub record IsMade (old : State) (actor : ℕ) (counted : Bool) (new : State) : Type 0 where

@@ -1,14 +1,4 @@
-pub mod KeptIds
-pub mod Actors
-pub mod Volumes
-pub mod Rulings
-pub mod Commits
-pub mod Uncommitted
 pub mod Opening
 pub mod States
-pub mod Sealing
-pub mod HoldLaws
 pub mod Devices
 pub mod Events
-pub mod Nodes
-pub mod Checkpoints

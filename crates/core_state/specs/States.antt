@@ -2,11 +2,11 @@
 use Rattle.std.specs.Prelude.{◌≡◌, ℕ, ◌<◌, true, ◌==◌, if◌then◌else◌, IfSome, Option, Some, None, List, length, slice_index_or, slice_set}
 use Rattle.btree_map.specs.Trees.{keys_in}
 use Rattle.vol_types.specs.KeyMaps.{GivesLooks}
-use Rattle.core_state.specs.Actors.{holds, idle_actor}
-use Rattle.core_state.specs.Commits.{AreIntended}
-use Rattle.core_state.specs.Volumes.{IsVolume, Volume, halted_at}
-use Rattle.core_state.specs.declared.actor.Actor.{Actor}
-use Rattle.core_state.specs.declared.answer.Halt.{Halt}
+use Rattle.core_actors.specs.Actors.{holds, idle_actor}
+use Rattle.core_volume.specs.Commits.{AreIntended}
+use Rattle.core_volume.specs.Volumes.{IsVolume, Volume, halted_at}
+use Rattle.core_actors.specs.declared.actor.Actor.{Actor}
+use Rattle.core_actors.specs.declared.answer.Halt.{Halt}
 
 -- how many actors there are: 16 clients and the reclaimer
 abbrev pub actor_count : ℕ

@@ -1,13 +1,14 @@
 ghost use Rattle.std.specs.Prelude.{◌≡◌, ◌<◌, true};
 ghost use Rattle.core_state.specs.Devices.{FlushesDevice, WritesEntry, WritesNode};
 ghost use Rattle.core_state.specs.Events.{Fits, FlushGives, WriteGives, WriteSetGives};
-ghost use Rattle.core_state.specs.declared.event.Event.TheVariants.{Flush, WriteEntry, WriteSet};
+ghost use Rattle.core_actors.specs.declared.event.Event.TheVariants.{Flush, WriteEntry, WriteSet};
 ghost use Rattle.geometry.specs.Layouts.{is_layout_of};
 
 use crate::memory::Memory;
-use crate::{Answer, Refusal, Stage};
+use core_actors::{Answer, Refusal};
 use dev_model::Devices;
 use geometry::DiskFault;
+use journal_writer::Stage;
 use node_store::NodeFault;
 
 impl Memory {
@@ -20,7 +21,7 @@ impl Memory {
         ensures devices { WritesEntry D.tells self.old.volume.writer.ring result
             (D.state devices.old) (D.state devices.new) }
     {
-        if let Some(halt) = self.volume.halted {
+        if let Some(halt) = self.volume.halted() {
             return self.refused(actor, Refusal::Halted(halt));
         }
         if self.volume.stage() != Stage::WriteEntry {
@@ -42,7 +43,7 @@ impl Memory {
         ensures devices { WritesNode D.tells self.old.volume.work.unfinished result
             (D.state devices.old) (D.state devices.new) }
     {
-        if let Some(halt) = self.volume.halted {
+        if let Some(halt) = self.volume.halted() {
             return self.refused(actor, Refusal::Halted(halt));
         }
         if self.volume.node_stage() != Stage::WriteSet(node) {
@@ -65,7 +66,7 @@ impl Memory {
             (D.state devices.new) }
         ensures sizes { (D.state devices.new).sizes ≡ (D.state devices.old).sizes }
     {
-        if let Some(halt) = self.volume.halted {
+        if let Some(halt) = self.volume.halted() {
             return self.refused(actor, Refusal::Halted(halt));
         }
         match self.volume.flush(devices, dev) {

@@ -7,26 +7,12 @@
 //! actor that looks meanwhile is told to wait. So what a transaction has looked at is so until it commits.
 #![tactic(auto)]
 
-mod actor;
-mod answer;
-mod answering;
-mod checkpoint;
-mod commit;
 mod device_events;
-mod event;
-mod keys;
 mod memory;
-mod nodes;
 mod opening;
-mod roots;
-mod ruling;
-mod sealing;
-mod space;
-mod volume;
 
-pub use actor::{Actor, Failure};
-pub use answer::{Answer, Halt, NoSpace, Refusal};
-pub use event::{Event, Work};
+pub use core_actors::{
+    Actor, Answer, Event, Failure, Halt, NoSpace, Refusal, Work, node_places,
+};
 pub use journal_writer::{Durable, Stage};
 pub use memory::Memory;
-pub use nodes::node_places;

@@ -2,14 +2,14 @@ ghost use Rattle.std.specs.Prelude.{◌≡◌, ◌<◌, ◌↔◌, IsTrue, None}
 ghost use Rattle.btree_map.specs.Trees.{IsTrees};
 ghost use Rattle.core_state.specs.Events.{CommitGives, CommitNodesGives, EventGives, Fits, FitsActor, FreezeGives, IsNoted, IsOfMemory, IsTold, IsToldNodes, IsToldOf, MayBegin, SealGives, SettleGives, failed_by};
 ghost use Rattle.core_state.specs.States.{IsState, actor_count, mine, other_holder, with_halt};
-ghost use Rattle.core_state.specs.Volumes.{KeepParts};
-ghost use Rattle.core_state.specs.Uncommitted.{answer_of_why, noted_why};
-ghost use Rattle.core_state.specs.declared.event.Event.TheVariants.{Begin, Commit, CommitNodes, Drop, Finish, Freeze, Intend, Look, LookIds, Seal, Settle};
-ghost use Rattle.core_state.specs.declared.answer.Answer.TheVariants as Answer;
+ghost use Rattle.core_volume.specs.Volumes.{KeepParts};
+ghost use Rattle.core_state.specs.Events.{answer_of_why, noted_why};
+ghost use Rattle.core_actors.specs.declared.event.Event.TheVariants.{Begin, Commit, CommitNodes, Drop, Finish, Freeze, Intend, Look, LookIds, Seal, Settle};
+ghost use Rattle.core_actors.specs.declared.answer.Answer.TheVariants as Answer;
 
-use crate::commit::{Uncommitted, Why};
-use crate::volume::Volume;
-use crate::{Actor, Answer, Event, Halt, Refusal, Stage, Work};
+use core_actors::{Actor, Answer, Event, Halt, Refusal, Work};
+use core_volume::{Uncommitted, Volume, Why};
+use journal_writer::Stage;
 use std::alloc::Global;
 use std::marker::Model;
 use vol_types::{Query, Updates};
@@ -269,7 +269,7 @@ impl Memory {
         requires { Fits self.old actor Seal }
         ensures { SealGives self.old actor result self.new }
     {
-        if let Some(halt) = self.volume.halted {
+        if let Some(halt) = self.volume.halted() {
             return self.refused(actor, Refusal::Halted(halt));
         }
         if self.volume.stage() != Stage::Seal {
@@ -286,7 +286,7 @@ impl Memory {
         requires { Fits self.old actor Settle }
         ensures { SettleGives self.old actor result self.new }
     {
-        if let Some(halt) = self.volume.halted {
+        if let Some(halt) = self.volume.halted() {
             return self.refused(actor, Refusal::Halted(halt));
         }
         if self.volume.stage() != Stage::Settle {
@@ -300,7 +300,7 @@ impl Memory {
         requires { Fits self.old actor (Freeze node) }
         ensures { FreezeGives node self.old actor result self.new }
     {
-        if let Some(halt) = self.volume.halted {
+        if let Some(halt) = self.volume.halted() {
             return self.refused(actor, Refusal::Halted(halt));
         }
         if self.volume.node_stage() != Stage::Freeze(node) {
@@ -317,7 +317,7 @@ impl Memory {
         requires { Fits self.old actor CommitNodes }
         ensures { CommitNodesGives self.old actor result self.new }
     {
-        if let Some(halt) = self.volume.halted {
+        if let Some(halt) = self.volume.halted() {
             return self.refused(actor, Refusal::Halted(halt));
         }
         if self.volume.node_stage() != Stage::CommitNodes {

@@ -1,5 +1,6 @@
 ghost use Rattle.std.specs.Prelude.{◌≡◌, ◌<◌, MatchResult, length};
-ghost use Rattle.dev_model.specs.Devices.{no_fault_counts, with_read_fault, with_write_fault};
+ghost use Rattle.dev_model.specs.Devices.{no_fault_counts, risen, with_read_fault, with_write_fault};
+ghost use Rattle.dev_model.specs.Disk.{changed};
 
 use vol_types::Failed;
 
@@ -53,8 +54,7 @@ impl FaultTally {
         requires { dev < 8 }
         ensures { faults_in self.new ≡ with_read_fault dev (faults_in self.old) }
     {
-        let count = &mut self.calls[dev as usize];
-        *count = count.saturating_add(1);
+        raise(&mut self.calls, dev);
     }
 
     // A write or a flush has failed.
@@ -62,9 +62,17 @@ impl FaultTally {
         requires { dev < 8 }
         ensures { faults_in self.new ≡ with_write_fault dev (faults_in self.old) }
     {
-        let calls = &mut self.calls[dev as usize];
-        *calls = calls.saturating_add(1);
-        let writes = &mut self.writes[dev as usize];
-        *writes = writes.saturating_add(1);
+        raise(&mut self.calls, dev);
+        raise(&mut self.writes, dev);
     }
+}
+
+// Counts one more of this device.
+fn raise(counts: &mut [u64; 8], dev: u8)
+    requires { dev < 8 }
+    ensures count { length counts.new ≡ length counts.old }
+    ensures raised { counts.new ≡ changed dev risen counts.old }
+{
+    let count = &mut counts[dev as usize];
+    *count = count.saturating_add(1);
 }

@@ -2,7 +2,7 @@
 use Rattle.std.proofs.Common.{◌≡◌, ◌⊎◌, ⊎_elim, inl, inr, ℕ, ◌-◌, ◌<◌, ◌≤◌, Bool, true, false, cond, Some, None, List, [], ◌∷◌, ◌++◌, map, refl, sym, ap, ◌∙◌, arith}
 use Rattle.std.specs.Prelude.{◌&&◌, ◌||◌, ◌==◌, nat_le}
 use Rattle.std.specs.List.{list_any}
-use Rattle.std.proofs.lemmas.Bool.{eq-eqb, eqb-true, leb-false, true≢false}
+use Rattle.std.proofs.lemmas.Bool.{and_parts, eq-eqb, eqb-true, leb-false, true≢false}
 use Rattle.std.proofs.lemmas.Bool.Decides.{nat_tests}
 use Rattle.std.proofs.lemmas.Option.{same_Some, none-some as none_some}
 use Rattle.vol_types.specs.declared.values.Value.{Value}
@@ -15,10 +15,6 @@ use Rattle.extent_ops.specs.declared.stretches.Stretch.{Stretch}
 use Rattle.extent_ops.proofs.Gaps.{IsGap, IsLeft, outside-once, outside-sound, outside-whole}
 use Rattle.extent_ops.proofs.Members.{Has, any-has, has-append, has-first, has-map, has-second, map-has, none-has}
 use Rattle.extent_ops.proofs.Pieces.{blocks_of-part_of, covers-range, range-covers, shown_by, shown_by-part_of}
-
-both : (a b : Bool) → (a && b) ≡ true → (a ≡ true) × (b ≡ true)
-both true b are = (refl, are)
-both false b are = absurd (true≢false (sym are))
 
 neither : (a b : Bool) → (a || b) ≡ false → (a ≡ false) × (b ≡ false)
 neither true b none = absurd (true≢false none)
@@ -176,7 +172,7 @@ module _ (stretches : List Stretch) (from : ℕ) (rise : RiseFrom from stretches
       not_whole : (b : Bool) → list_any (is_whole (end - blocks_of value) end) (outside (end - blocks_of value) end stretches) ≡ b → b ≡ false
       not_whole true is =
           let found = any-has (is_whole (end - blocks_of value) end) (outside (end - blocks_of value) end stretches) is in
-          let tests = both (found.0.first == (end - blocks_of value)) (found.0.end == end) found.1.1 in
+          let tests = and_parts (found.0.first == (end - blocks_of value)) (found.0.end == end) found.1.1 in
           let low = eqb-true found.0.first (end - blocks_of value) tests.0 in let high = eqb-true found.0.end end tests.1 in
           absurd (true≢false (sym cut ∙ (gap_of found.0 found.1.0).free block (omega (arith, low, range.0)) (omega (arith, high, range.1))))
       not_whole false is = refl

@@ -6,7 +6,7 @@ use Rattle.std.specs.Map.{keys_of}
 use Rattle.std.specs.Ordering.{nat_cmp, ordering_then}
 use Rattle.std.specs.declared.cmp.Ordering.{Ordering}
 use Rattle.std.specs.declared.cmp.Ordering.TheVariants.{Less, Equal, Greater}
-use Rattle.std.proofs.lemmas.Bool.{eq-eqb, eqb-true, ltb-true, ltb-false, lt-ltb, true≢false}
+use Rattle.std.proofs.lemmas.Bool.{and_parts, eq-eqb, eqb-true, lt-ltb, ltb-false, ltb-true, true≢false}
 use Rattle.std.proofs.lemmas.Cmp.{ranked}
 use Rattle.std.proofs.lemmas.Map.Keys.{sorted_head, sorted_tail}
 use Rattle.std.proofs.lemmas.Option.{same_Some}
@@ -40,10 +40,6 @@ pub alike : (a b : Bool) → (a ≡ true → b ≡ true) → (b ≡ true → a �
 alike true b there back = sym (there refl)
 alike false true there back = back refl
 alike false false there back = refl
-
-both : (a b : Bool) → (a && b) ≡ true → (a ≡ true) × (b ≡ true)
-both true b are = (refl, are)
-both false b are = absurd (true≢false (sym are))
 
 pub has-any : {X : Type 0} (test : X → Bool) (x : X) (xs : List X) → Has x xs → test x ≡ true → list_any test xs ≡ true
 has-any test x [] has passes = elim has [ ]
@@ -177,7 +173,7 @@ module _ (snaps : Snaps) (parent : ℕ) (w : Stretch) (forward : w.first ≤ w.e
   met (k ∷ keys) key block rise has over le lt = by (is_counted snaps parent k) refl has (λ later. met keys key block rise.1 later over le lt)
     where
       parts : (is_counted snaps parent key ≡ true) × (covers_maybe key.pos.offset key.value block ≡ true)
-      parts = both (is_counted snaps parent key) (covers_maybe key.pos.offset key.value block) over
+      parts = and_parts (is_counted snaps parent key) (covers_maybe key.pos.offset key.value block) over
 
       range : (key.pos.offset - blocks_maybe key.value ≤ block) × (block < key.pos.offset)
       range = maybe-range key.pos.offset block key.value parts.1
@@ -218,7 +214,7 @@ module _ (snaps : Snaps) (parent : ℕ) (w : Stretch) (forward : w.first ≤ w.e
             k,
             (
               inl refl,
-              (λ block le lt. ((λ i. is i && range-maybe k.pos.offset block k.value (both (is_extent_maybe k.value) (is_ancestor_of snaps k.pos.snapshot parent) is).0 (omega (arith, first, le)) (omega (arith, end, lt)) i), omega (arith, first, le), omega (arith, end, lt, bounds.1))),
+              (λ block le lt. ((λ i. is i && range-maybe k.pos.offset block k.value (and_parts (is_extent_maybe k.value) (is_ancestor_of snaps k.pos.snapshot parent) is).0 (omega (arith, first, le)) (omega (arith, end, lt)) i), omega (arith, first, le), omega (arith, end, lt, bounds.1))),
               omega (arith, first, end),
             ),
           )
@@ -281,17 +277,17 @@ module _ (keys_map : KeyMap) (is : IsKeyMap keys_map) (file id first last : ℕ)
     over_above key block has over =
         let e = entry_of key has in
         let at : counted_over (snaps_of keys_map) parent block (key_of e.0) ≡ true = ap (counted_over (snaps_of keys_map) parent block) (sym e.1.2) ∙ over in
-        let parts = both (is_counted (snaps_of keys_map) parent (key_of e.0)) (covers e.0.0.offset e.0.1 block) at in
-        let counted = both (is_extent e.0.1) (is_ancestor_of (snaps_of keys_map) e.0.0.snapshot parent) parts.0 in
+        let parts = and_parts (is_counted (snaps_of keys_map) parent (key_of e.0)) (covers e.0.0.offset e.0.1 block) at in
+        let counted = and_parts (is_extent e.0.1) (is_ancestor_of (snaps_of keys_map) e.0.0.snapshot parent) parts.0 in
         has-any (is_extent_over file (chain_of (snaps_of keys_map) parent) block) e.0 keys_map.extents e.1.0 (λ i. eq-eqb e.0.0.inode file e.1.1 i && counted.1 i && parts.1 i && counted.0 i)
 
     -- an extent of an ancestor over a block of the stretch is a counted key
     above_over : (block : ℕ) → first ≤ block → block ≤ last → list_any (is_extent_over file (chain_of (snaps_of keys_map) parent) block) keys_map.extents ≡ true → (key : Key) × (Has key keys × (counted_over (snaps_of keys_map) parent block key ≡ true))
     above_over block le up any =
         let e = any-has (is_extent_over file (chain_of (snaps_of keys_map) parent) block) keys_map.extents any in
-        let four = both (e.0.0.inode == file && list_any (nat_eq e.0.0.snapshot) (chain_of (snaps_of keys_map) parent) && covers e.0.0.offset e.0.1 block) (is_extent e.0.1) e.1.1 in
-        let three = both (e.0.0.inode == file && list_any (nat_eq e.0.0.snapshot) (chain_of (snaps_of keys_map) parent)) (covers e.0.0.offset e.0.1 block) four.0 in
-        let two = both (e.0.0.inode == file) (list_any (nat_eq e.0.0.snapshot) (chain_of (snaps_of keys_map) parent)) three.0 in (
+        let four = and_parts (e.0.0.inode == file && list_any (nat_eq e.0.0.snapshot) (chain_of (snaps_of keys_map) parent) && covers e.0.0.offset e.0.1 block) (is_extent e.0.1) e.1.1 in
+        let three = and_parts (e.0.0.inode == file && list_any (nat_eq e.0.0.snapshot) (chain_of (snaps_of keys_map) parent)) (covers e.0.0.offset e.0.1 block) four.0 in
+        let two = and_parts (e.0.0.inode == file) (list_any (nat_eq e.0.0.snapshot) (chain_of (snaps_of keys_map) parent)) three.0 in (
           key_of e.0,
           (
             subst (Has (key_of e.0)) (sym looked.are) (map-has key_of e.0 (filter looked.looked_at keys_map.extents) (has-filter looked.looked_at e.0 keys_map.extents e.1.0 (looked.whole e.0 block (member_at pos_cmp pos_total e.0 keys_map.extents (is.rises Extents) e.1.0) (eqb-true e.0.0.inode file two.0) le up three.1))),

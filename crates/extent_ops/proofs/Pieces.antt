@@ -1,7 +1,7 @@
 -- A part of an extent or a hole covers the blocks of its stretch, and shows of each what the whole shows.
 use Rattle.std.proofs.Common.{◌≡◌, ℕ, ◌+◌, ◌-◌, ◌<◌, ◌≤◌, Bool, true, false, Option, Some, List, [], ◌∷◌, length, take, drop, map, min, refl, sym, ap, ◌∙◌, arith}
 use Rattle.std.specs.Prelude.{◌&&◌, nat_le, nat_lt, All}
-use Rattle.std.proofs.lemmas.Bool.{ltb-true, leb-true, lt-ltb, le-leb, true≢false}
+use Rattle.std.proofs.lemmas.Bool.{and_parts, le-leb, leb-true, lt-ltb, ltb-true, true≢false}
 use Rattle.std.proofs.lemmas.List.{get_or-take, get_or-drop, length-take, length-drop}
 use Rattle.std.proofs.lemmas.List.Elements.{All-head, All-tail}
 use Rattle.vol_types.specs.declared.pointers.Pointer.{Pointer}
@@ -13,13 +13,9 @@ use Rattle.key_meaning.specs.Blocks.{Block, block_of, blocks_of, covers, place_a
 use Rattle.extent_ops.specs.Content.{HavePlaces}
 use Rattle.extent_ops.specs.Cutting.{part_of, pointer_behind}
 
-both : (a b : Bool) → (a && b) ≡ true → (a ≡ true) × (b ≡ true)
-both true b are = (refl, are)
-both false b are = absurd (true≢false (sym are))
-
 -- A value covers the blocks of its range.
 pub covers-range : (end : ℕ) (value : Value) (block : ℕ) → covers end value block ≡ true → (end - blocks_of value ≤ block) × (block < end) × (0 < blocks_of value)
-covers-range end value block is = let parts = both (nat_lt block end) (nat_le end (block + blocks_of value)) is in
+covers-range end value block is = let parts = and_parts (nat_lt block end) (nat_le end (block + blocks_of value)) is in
     let lt = ltb-true block end parts.0 in let le = leb-true end (block + blocks_of value) parts.1 in
     (omega (arith, lt, le), lt, omega (arith, lt, le))
 

@@ -2,7 +2,7 @@
 use Rattle.std.proofs.Common.{◌≡◌, ◌⊎◌, inl, inr, ℕ, ◌+◌, ◌<◌, ◌≤◌, Bool, true, false, Option, Some, None, List, [], ◌∷◌, ◌++◌, slice_get, refl, sym, ap, ◌∙◌, subst, arith}
 use Rattle.std.specs.Prelude.{◌&&◌, ◌||◌, ◌==◌, All, IfOk, Result, nat_le, nat_lt, option_map}
 use Rattle.std.specs.List.{list_any}
-use Rattle.std.proofs.lemmas.Bool.{true≢false}
+use Rattle.std.proofs.lemmas.Bool.{and_parts, true≢false}
 use Rattle.std.proofs.lemmas.Bool.Decides.{nat_tests}
 use Rattle.std.proofs.lemmas.Option.{none-some as none_some, same_Some}
 use Rattle.snap_tree.specs.Snaps.{Snaps, chain_of_maybe, parent_of}
@@ -25,10 +25,6 @@ use Rattle.extent_ops.proofs.Hiding.{hiding, entry_of}
 use Rattle.extent_ops.proofs.Members.{Has, any-has}
 use Rattle.extent_ops.proofs.Taken.{AreGiven, taken}
 
-both : (a b : Bool) → (a && b) ≡ true → (a ≡ true) × (b ≡ true)
-both true b are = (refl, are)
-both false b are = absurd (true≢false (sym are))
-
 -- No id has no extents.
 none_above : (file block : ℕ) (entries : Entries) → list_any (is_extent_over file [] block) entries ≡ false
 none_above file block entries = by (list_any (is_extent_over file [] block) entries) refl
@@ -37,9 +33,9 @@ none_above file block entries = by (list_any (is_extent_over file [] block) entr
     by false is = refl
     by true any =
         let e = any-has (is_extent_over file [] block) entries any in
-        let four = both (e.0.0.inode == file && false && covers e.0.0.offset e.0.1 block) (is_extent e.0.1) e.1.1 in
-        let three = both (e.0.0.inode == file && false) (covers e.0.0.offset e.0.1 block) four.0 in
-        absurd (true≢false (sym (both (e.0.0.inode == file) false three.0).1))
+        let four = and_parts (e.0.0.inode == file && false && covers e.0.0.offset e.0.1 block) (is_extent e.0.1) e.1.1 in
+        let three = and_parts (e.0.0.inode == file && false) (covers e.0.0.offset e.0.1 block) four.0 in
+        absurd (true≢false (sym (and_parts (e.0.0.inode == file) false three.0).1))
 
 -- the stretch from a first to a last block
 abbrev pub stretch_to : ℕ → ℕ → Stretch
@@ -78,7 +74,7 @@ module _ (keys_map : KeyMap) (is : IsKeyMap keys_map) (file id first last : ℕ)
   taken_holes apart = subst (λ (cut : ℕ → Bool). TakesBlocks keys_map (with_updates (updates_of file id (cut_all id (stretch_to first last ∷ []) keys ++ holes_to_hide (snaps_of keys_map) (parent_of (snaps_of keys_map) id) (stretch_to first last) keys)) keys_map) file id cut (λ block. hidden_if (is_covered_above keys_map id file block)))
       (λ i. λ block. cut_between first last block i)
       (taken keys_map is file id first last keys looked apart fit (stretch_to first last ∷ []) (omega arith, omega (arith, forward), tt)
-      (λ block within. let lies = both (nat_le first block) (nat_le block last) (sym (cut_between first last block) ∙ within) in window block lies.0 lies.1)
+      (λ block within. let lies = and_parts (nat_le first block) (nat_le block last) (sym (cut_between first last block) ∙ within) in window block lies.0 lies.1)
       (holes_to_hide (snaps_of keys_map) (parent_of (snaps_of keys_map) id) (stretch_to first last) keys) (λ block. hidden_if (is_covered_above keys_map id file block)) (given_above (parent_of (snaps_of keys_map) id) refl))
     where
       window : (block : ℕ) → nat_le first block ≡ true → nat_le block last ≡ true → (first ≤ block) × (block ≤ last)

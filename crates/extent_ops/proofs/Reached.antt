@@ -5,7 +5,7 @@ use Rattle.std.specs.Cmp.{nat_cmp_is}
 use Rattle.std.specs.Ordering.{is_le, nat_cmp, ordering_then}
 use Rattle.std.specs.declared.cmp.Ordering.{Ordering}
 use Rattle.std.specs.declared.cmp.Ordering.TheVariants.{Less, Equal, Greater}
-use Rattle.std.proofs.lemmas.Bool.{true≢false}
+use Rattle.std.proofs.lemmas.Bool.{and_parts, true≢false}
 use Rattle.std.proofs.lemmas.Cmp.{ranked}
 use Rattle.vol_types.specs.KeyMaps.{KeyMap, answer_of}
 use Rattle.vol_types.specs.Positions.{is_within, pos_cmp}
@@ -18,10 +18,6 @@ use Rattle.extent_ops.specs.Looking.{AreExtentsUpTo, reach}
 use Rattle.extent_ops.proofs.Fresh.{all-member}
 use Rattle.extent_ops.proofs.Keyed.{at_member}
 use Rattle.extent_ops.proofs.Pieces.{covers-range}
-
-both : (a b : Bool) → (a && b) ≡ true → (a ≡ true) × (b ≡ true)
-both true b are = (refl, are)
-both false b are = absurd (true≢false (sym are))
 
 -- A position at most another one is of no greater file.
 inodes_rise : (a b : Pos) → is_le (pos_cmp a b) ≡ true → a.inode ≤ b.inode
@@ -55,7 +51,7 @@ pub looked_at_reach : (map : KeyMap) (file first last longest : ℕ) (keys : Lis
 looked_at_reach keys_map file first last longest keys fit up_to are = record {
   looked_at = λ entry. is_within (low_of file first) (high_of file last longest) entry.0;
   are = are;
-  of_file = λ entry within. let tests = both (is_le (pos_cmp (low_of file first) entry.0)) (is_le (pos_cmp entry.0 (high_of file last longest))) within in
+  of_file = λ entry within. let tests = and_parts (is_le (pos_cmp (low_of file first) entry.0)) (is_le (pos_cmp entry.0 (high_of file last longest))) within in
       let up = inodes_rise (low_of file first) entry.0 tests.0 in let down = inodes_rise entry.0 (high_of file last longest) tests.1 in omega (arith, up, down);
   whole = λ entry block at of_file from to over.
       let range = all-member IsInRange entry keys_map.extents fit (at_member entry.0 entry.1 keys_map.extents at) in

@@ -2,7 +2,7 @@
 use Rattle.std.proofs.Common.{◌≡◌, ℕ, zero, suc, ◌+◌, ◌*◌, ◌-◌, ◌/◌, ◌<◌, ◌≤◌, ◌^◌, Bool, true, false, cond, Option, Some, None, List, [], ◌∷◌, refl, sym, ap, ◌∙◌, subst, arith}
 use Rattle.std.specs.Prelude.{◌≢◌, ◌&&◌, not, All, IfOk, Result, Ok, Err, is_some, length, nat_le, option_map, slice_get, sum_by}
 use Rattle.std.specs.List.{list_all}
-use Rattle.std.proofs.lemmas.Bool.{false≢true, leb-true}
+use Rattle.std.proofs.lemmas.Bool.{and_parts, false≢true, leb-true}
 use Rattle.std.proofs.lemmas.List.Elements.{All-cons, All-head, All-nil, All-tail}
 use Rattle.std.proofs.lemmas.List.Sums.{sum_by-cons}
 use Rattle.std.proofs.lemmas.Option.{same_Some, none-some as none_some}
@@ -51,26 +51,22 @@ use Rattle.vol_types.specs.declared.values.FileKind.TheVariants as kinds
 use Rattle.vol_types.specs.declared.values.Link.{Link}
 use Rattle.vol_types.specs.declared.values.Value.TheVariants as values
 
-both : (a b : Bool) → (a && b) ≡ true → (a ≡ true) × (b ≡ true)
-both true b are = (refl, are)
-both false b are = absurd (false≢true are)
-
 -- what all pass, each passes
 one_passes : {X : Type 0} (test : X → Bool) (xs : List X) (k : ℕ) (x : X) → list_all test xs ≡ true → slice_get xs k ≡ Some x → test x ≡ true
 one_passes test [] k x all at = absurd (none_some x at)
-one_passes test (y ∷ xs) zero x all at = ap test (sym (same_Some y x at)) ∙ (both (test y) (list_all test xs) all).0
-one_passes test (y ∷ xs) (suc k) x all at = one_passes test xs k x (both (test y) (list_all test xs) all).1 at
+one_passes test (y ∷ xs) zero x all at = ap test (sym (same_Some y x at)) ∙ (and_parts (test y) (list_all test xs) all).0
+one_passes test (y ∷ xs) (suc k) x all at = one_passes test xs k x (and_parts (test y) (list_all test xs) all).1 at
 
 -- The last name of a good path is good,
 pub last_is_good : (path : Path) (name : List ℕ) → is_good_path path ≡ true → last_name path ≡ Some name → is_good_name name ≡ true
-last_is_good path name good last = one_passes is_good_name path.names (length path.names - 1) name (both (is_good_subvolume_name path.sub && nat_le (length path.names) 32) (list_all is_good_name path.names) good).1 last
+last_is_good path name good last = one_passes is_good_name path.names (length path.names - 1) name (and_parts (is_good_subvolume_name path.sub && nat_le (length path.names) 32) (list_all is_good_name path.names) good).1 last
 
 -- and a good name has as many bytes as names may have.
 pub good_is_name : (name : List ℕ) → is_good_name name ≡ true → IsName name
 good_is_name name good =
     let bounds = nat_le 1 (length name) && nat_le (length name) 255 in
-    let short = (both bounds (has_good_bytes name) (both (bounds && has_good_bytes name) (not (is_dots name)) good).0).0 in
-    let parts = both (nat_le 1 (length name)) (nat_le (length name) 255) short in
+    let short = (and_parts bounds (has_good_bytes name) (and_parts (bounds && has_good_bytes name) (not (is_dots name)) good).0).0 in
+    let parts = and_parts (nat_le 1 (length name)) (nat_le (length name) 255) short in
     (leb-true 1 (length name) parts.0, leb-true (length name) 255 parts.1)
 
 -- The path of a directory that is found is good.

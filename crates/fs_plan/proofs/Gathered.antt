@@ -10,7 +10,7 @@ use Rattle.std.proofs.lemmas.Bool.{true≢false, eqb-true, eq-eqb, ltb-true, ltb
 use Rattle.std.proofs.lemmas.Bool.Decides.{nat_tests}
 use Rattle.std.proofs.lemmas.Cmp.{nat_list_cmp_total, ranked, eq_by_cmp_equiv}
 use Rattle.std.proofs.lemmas.Map.Lookups.{exact_bytes}
-use Rattle.fs_plan.proofs.Firsts.{IsFirst, first_above, is_first, none_from}
+use Rattle.key_view.specs.FirstLaws.{IsFirst, first_above, is_first, none_from}
 use Rattle.fs_plan.proofs.Looks.{nil_cons, only_last, some_last}
 use Rattle.fs_plan.specs.Listing.{HasNoSlot, slot_of_key, with_links}
 use Rattle.key_meaning.specs.Checks.{AreNamesJoined, IsLiveLeaf, IsNameJoined}

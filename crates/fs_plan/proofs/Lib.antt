@@ -1,5 +1,4 @@
 pub mod Looks
-pub mod Firsts
 pub mod Walked
 pub mod Bounds
 pub mod Gathered

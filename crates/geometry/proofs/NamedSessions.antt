@@ -1,6 +1,6 @@
 -- Which session a block names.
 use Rattle.std.proofs.Common.{◌≡◌, ◌≢◌, ℕ, zero, suc, ◌^◌, ◌<◌, true, false, cond, ◌&&◌, List, [], ◌∷◌, length, get_or, arith, Option, Some, None, refl, ap, ◌∙◌, sym}
-use Rattle.std.proofs.lemmas.Bool.{eq-eqb, false_from_ne_true}
+use Rattle.std.proofs.lemmas.Bool.{and_parts, eq-eqb, false_from_ne_true}
 use Rattle.std.proofs.lemmas.List.Elements.{All-head, All-tail}
 use Rattle.std.proofs.lemmas.Nat.{from_le_bytes-to_le_bytes_8, le_bytes_8}
 use Rattle.std.proofs.lemmas.Slice.Eq.{bytes_eq-Decides}
@@ -12,7 +12,6 @@ use Rattle.sha2.specs.Sha256.{sha256}
 use Rattle.sealed_block.specs.declared.heads.Head.{Head}
 use Rattle.sealed_block.specs.Blocks.{AreBytes}
 use Rattle.sealed_block.specs.Opening.{opened, payload_in}
-use Rattle.geometry.specs.LayoutFacts.{both}
 use Rattle.geometry.specs.Sessions.{is_session_head, session_head, session_named, session_place}
 
 -- the session that a payload encodes, under this head
@@ -33,7 +32,7 @@ pub other_length_names_none : (id : List ℕ) (block : ℕ) (bytes : List ℕ) (
 other_length_names_none id block bytes head opens differs =
     let session : ℕ = from_le_bytes w64 (payload_in bytes) in
     let test : (is_session_head id block session head && bytes_eq (payload_in bytes) (to_le_bytes w64 session)) ≡ false =
-    false_from_ne_true _ (λ is. differs (ap (λ (b : List ℕ). length b) ((bytes_eq-Decides (payload_in bytes) (to_le_bytes w64 session)).0 (both _ _ is).1))) in
+    false_from_ne_true _ (λ is. differs (ap (λ (b : List ℕ). length b) ((bytes_eq-Decides (payload_in bytes) (to_le_bytes w64 session)).0 (and_parts _ _ is).1))) in
     named_by id block bytes head opens ∙ ap (λ b. cond {A = Option ℕ} b (Some session) None) test
 
 -- Nor does a block under another head.

@@ -1,6 +1,6 @@
 -- What follows for a layout and its devices from the tests on them; laws for whoever calls with a layout.
 use Rattle.std.proofs.Common.{◌≡◌, ℕ, zero, suc, ◌+◌, ◌*◌, ◌%◌, ◌<◌, ◌≤◌, Bool, true, false, ◌&&◌, nat_le, List, [], ◌∷◌, length, get_or, refl, ap, arith}
-use Rattle.std.proofs.lemmas.Bool.{leb-true, false≢true}
+use Rattle.std.proofs.lemmas.Bool.{and_parts, false≢true, leb-true}
 use Rattle.std.proofs.lemmas.List.Elements.{All-get_or}
 use Rattle.vol_types.specs.declared.layout.Layout.{Layout}
 use Rattle.vol_types.specs.Layouts.{is_layout, IsDeviceSize}
@@ -28,24 +28,20 @@ pub record HasPlaces (sizes : List ℕ) (layout : Layout) : Type 0 where
   pub whole : (dev : ℕ) → dev < length sizes → get_or layout.blocks dev 0 % 16 ≡ 0
   pub longer : (dev : ℕ) → dev < length sizes → get_or layout.blocks dev 0 ≤ get_or sizes dev 0
 
-pub both : (a b : Bool) → (a && b) ≡ true → (a ≡ true) × (b ≡ true)
-both true b are = (refl, are)
-both false b are = absurd (false≢true are)
-
 -- There are as many numbers of blocks as sizes.
 pub as_many : (blocks sizes : List ℕ) → have_room blocks sizes ≡ true → length blocks ≡ length sizes
 as_many [] [] is = refl
 as_many [] (size ∷ sizes) is = absurd (false≢true is)
 as_many (n ∷ blocks) [] is = absurd (false≢true is)
-as_many (n ∷ blocks) (size ∷ sizes) is = ap suc (as_many blocks sizes (both (nat_le n size) (have_room blocks sizes) is).1)
+as_many (n ∷ blocks) (size ∷ sizes) is = ap suc (as_many blocks sizes (and_parts (nat_le n size) (have_room blocks sizes) is).1)
 
 -- Each device has as many blocks as the layout says.
 pub room_at : (blocks sizes : List ℕ) → have_room blocks sizes ≡ true → (dev : ℕ) → get_or blocks dev 0 ≤ get_or sizes dev 0
 room_at [] [] is dev = omega arith
 room_at [] (size ∷ sizes) is dev = absurd (false≢true is)
 room_at (n ∷ blocks) [] is dev = absurd (false≢true is)
-room_at (n ∷ blocks) (size ∷ sizes) is zero = leb-true n size (both (nat_le n size) (have_room blocks sizes) is).0
-room_at (n ∷ blocks) (size ∷ sizes) is (suc dev) = room_at blocks sizes (both (nat_le n size) (have_room blocks sizes) is).1 dev
+room_at (n ∷ blocks) (size ∷ sizes) is zero = leb-true n size (and_parts (nat_le n size) (have_room blocks sizes) is).0
+room_at (n ∷ blocks) (size ∷ sizes) is (suc dev) = room_at blocks sizes (and_parts (nat_le n size) (have_room blocks sizes) is).1 dev
 
 -- There are one to eight devices.
 pub few_devices : (layout : Layout) → is_layout layout ≡ true → (1 ≤ length layout.blocks) × (length layout.blocks ≤ 8)
@@ -54,7 +50,7 @@ few_devices layout is = (layout_found layout is).devices
 -- A layout that passes the test has its places on the devices.
 pub has_places : (sizes : List ℕ) (layout : Layout) → is_layout_of sizes layout ≡ true → HasPlaces sizes layout
 has_places sizes layout is =
-    let parts = both (is_layout layout) (have_room layout.blocks sizes) is in
+    let parts = and_parts (is_layout layout) (have_room layout.blocks sizes) is in
     let count : length layout.blocks ≡ length sizes = as_many layout.blocks sizes parts.1 in
     let fits = layout_found layout parts.0 in
     let each : (dev : ℕ) → dev < length sizes → IsDeviceSize layout.journal (get_or layout.blocks dev 0) =

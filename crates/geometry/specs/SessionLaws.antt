@@ -1,6 +1,6 @@
 -- What stays of the session that a volume names; laws for whoever changes its devices.
 use Rattle.std.proofs.Common.{◌≡◌, ℕ, zero, suc, ◌%◌, ◌<◌, ◌≤◌, ◌⊎◌, inl, inr, ⊎_elim, Bool, true, false, cond, ◌&&◌, ◌==◌, List, max, Option, Some, None, refl, ap, ◌∙◌, sym, subst, arith}
-use Rattle.std.proofs.lemmas.Bool.{cases_eq, eqb-true, false≢true}
+use Rattle.std.proofs.lemmas.Bool.{and_parts, cases_eq, eqb-true, false≢true}
 use Rattle.std.proofs.lemmas.Option.{same_Some, none-some, option_and_then_some}
 use Rattle.std.specs.Prelude.{option_and_then}
 use Rattle.std.specs.Option.{is_some, IsSome}
@@ -10,7 +10,6 @@ use Rattle.sealed_block.specs.declared.heads.Head.{Head}
 use Rattle.sealed_block.specs.Opening.{opened, payload_in}
 use Rattle.dev_model.specs.Disk.{Image, block_at}
 use Rattle.vol_types.specs.declared.layout.Layout.{Layout}
-use Rattle.geometry.specs.LayoutFacts.{both}
 use Rattle.geometry.specs.Sessions.{greatest_session, greater, is_session_head, session_at, session_in, session_named, session_place}
 
 chosen : (test : Bool) (named session : ℕ) → cond {A = Option ℕ} test (Some named) None ≡ Some session → (test ≡ true) × (named ≡ session)
@@ -24,8 +23,8 @@ named_in_place id block bytes session is =
     let named : ℕ = from_le_bytes w64 (payload_in bytes) in
     option_and_then_some _ (opened bytes) session is (λ (head : Head) at found.
     let parts = chosen (is_session_head id block named head && bytes_eq (payload_in bytes) (to_le_bytes w64 named)) named session found in
-    let here : is_session_head id block named head ≡ true = (both _ _ parts.0).0 in
-    let place : (session_place named == block) ≡ true = (both _ _ (both _ _ (both _ _ here).0).0).1 in
+    let here : is_session_head id block named head ≡ true = (and_parts _ _ parts.0).0 in
+    let place : (session_place named == block) ≡ true = (and_parts _ _ (and_parts _ _ (and_parts _ _ here).0).0).1 in
     ap session_place (sym parts.1) ∙ eqb-true (session_place named) block place)
 
 -- So is one that a block of a device names.

@@ -1,6 +1,6 @@
 -- What an image's superblocks say, when they stay or were written; laws for whoever changes or makes volumes.
 use Rattle.std.proofs.Common.{◌≡◌, ℕ, zero, suc, ◌+◌, ◌*◌, ◌/◌, ◌^◌, ◌<◌, ◌≤◌, Bool, true, false, not, ◌&&◌, ◌||◌, ◌==◌, cond, List, [], ◌∷◌, length, map, drop, get_or, slice_get, Option, Some, None, Result, Ok, Err, refl, ap, ◌∙◌, sym, subst, arith, length-append}
-use Rattle.std.proofs.lemmas.Bool.{eq-eqb, false≢true}
+use Rattle.std.proofs.lemmas.Bool.{and_parts, eq-eqb, false≢true}
 use Rattle.std.proofs.lemmas.Nat.{from_le_bytes-to_le_bytes_4}
 use Rattle.std.proofs.lemmas.Slice.Eq.{bytes_eq-Decides}
 use Rattle.std.proofs.lemmas.List.{length-map}
@@ -18,7 +18,7 @@ use Rattle.geometry.specs.declared.copies.SuperCopy.{SuperCopy}
 use Rattle.geometry.specs.declared.fault.SuperFault.{SuperFault}
 use Rattle.geometry.specs.declared.fault.SuperFault.TheVariants.{NoSuper, Version, Mixed, BadLayout}
 use Rattle.geometry.specs.Layouts.{is_layout_of}
-use Rattle.geometry.specs.LayoutFacts.{has_places, both}
+use Rattle.geometry.specs.LayoutFacts.{has_places}
 use Rattle.geometry.specs.Superblocks.{all_there, belong_from, belongs, copy_at, copy_in, counting, has_form, is_same_layout, judged, judged_if_there, later, layout_in, model_layout, named_layout, numbers_in, super_copy, super_payload}
 
 -- Images of the same sizes whose devices have the same copies have the same copies in order.
@@ -83,7 +83,7 @@ judged_fits sizes (first ∷ copies) layout is =
     let version = unless _ Version layout _ is in
     let mixed = unless _ Mixed layout _ version.1 in
     let last = fits_last _ layout found mixed.1 in
-    subst (λ l. is_layout_of sizes l ≡ true) last.1 (both _ _ last.0).1
+    subst (λ l. is_layout_of sizes l ≡ true) last.1 (and_parts _ _ last.0).1
 
 judged_there_fits : (sizes : List ℕ) (copies : Option (List SuperCopy)) (layout : Layout) → judged_if_there sizes copies ≡ Ok layout → is_layout_of sizes layout ≡ true
 judged_there_fits sizes None layout is = absurd (err-ok NoSuper layout is)

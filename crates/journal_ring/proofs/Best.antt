@@ -1,6 +1,6 @@
 -- The entry that counts by device and place is the one that counts for its sequence.
 use Rattle.std.proofs.Common.{◌≡◌, ℕ, zero, suc, ◌%◌, ◌<◌, ◌≤◌, ◌⊎◌, inl, inr, ⊎_elim, Bool, true, false, cond, ◌&&◌, ◌||◌, Option, Some, None, refl, ap, ◌∙◌, sym, subst, arith}
-use Rattle.std.proofs.lemmas.Bool.{eq-eqb, eqb-true, lt-ltb, ltb-true, cases_lt, false≢true}
+use Rattle.std.proofs.lemmas.Bool.{and_parts, cases_lt, eq-eqb, eqb-true, false≢true, lt-ltb, ltb-true}
 use Rattle.std.proofs.lemmas.Nat.{mod_below}
 use Rattle.std.proofs.lemmas.Option.{none-some, same_Some, option_and_then_some}
 use Rattle.std.specs.Cmp.Derive.{both_true}
@@ -8,7 +8,6 @@ use Rattle.std.specs.Option.{IsSome}
 use Rattle.std.specs.Prelude.{option_and_then, ◌==◌, nat_lt}
 use Rattle.sealed_block.specs.declared.heads.Head.{Head}
 use Rattle.sealed_block.specs.Opening.{opened}
-use Rattle.geometry.specs.LayoutFacts.{both}
 use Rattle.vol_types.specs.declared.layout.Layout.{Layout}
 use Rattle.journal_ring.specs.declared.found.FoundEntry.{FoundEntry}
 use Rattle.journal_ring.specs.Parts.{Area}
@@ -49,7 +48,7 @@ or_cases false b is = inr is
 later_is : (other one : FoundEntry) → is_later other one ≡ true → (one.entry.session < other.entry.session) ⊎ ((one.entry.session ≡ other.entry.session) × (one.number < other.number))
 later_is other one is = ⊎_elim
     (λ session. inl (ltb-true one.entry.session other.entry.session session))
-    (λ number. let parts = both _ _ number in inr (eqb-true one.entry.session other.entry.session parts.0, ltb-true one.number other.number parts.1))
+    (λ number. let parts = and_parts _ _ number in inr (eqb-true one.entry.session other.entry.session parts.0, ltb-true one.number other.number parts.1))
     (or_cases (nat_lt one.entry.session other.entry.session) (one.entry.session == other.entry.session && nat_lt one.number other.number) is)
 
 or_first : (a b : Bool) → a ≡ true → (a || b) ≡ true
@@ -209,7 +208,7 @@ module _ (layout : Layout) (area : Area) (sequence : ℕ) where
 
       next_one : (one : FoundEntry) (test : Bool) → (other.entry.sequence == sequence && is_later other one) ≡ test → IsFirstOf (SeenAt dev place) one → IsBest (SeenAt dev (suc place)) (cond {A = Option FoundEntry} test (Some other) (Some one))
       next_one one true is best =
-          let parts = both _ _ is in
+          let parts = and_parts _ _ is in
           taken (eqb-true other.entry.sequence sequence parts.0) (λ d f whole seen named before. best.first d f whole seen named (before_earlier d f dev other best.dev one parts.1 before))
       next_one one false is best = kept one (λ named later. false≢true (sym is ∙ both_true (eq-eqb other.entry.sequence sequence named) later)) best
 

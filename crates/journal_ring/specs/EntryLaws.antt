@@ -1,12 +1,11 @@
 -- What a whole entry is made of, and that it stays while its places do; laws for whoever looks at images.
 use Rattle.std.proofs.Common.{◌≡◌, ℕ, zero, suc, ◌+◌, ◌^◌, ◌<◌, ◌≤◌, Bool, true, false, cond, List, Option, Some, None, refl, ap, ◌∙◌, sym, subst, arith}
-use Rattle.std.proofs.lemmas.Bool.{eqb-true, ltb-true}
+use Rattle.std.proofs.lemmas.Bool.{and_parts, eqb-true, ltb-true}
 use Rattle.std.proofs.lemmas.Option.{cond_some, none-some, same_Some, option_and_then_some}
 use Rattle.std.proofs.lemmas.Slice.Eq.{bytes_eq-Decides}
 use Rattle.std.specs.Prelude.{option_and_then, option_map}
 use Rattle.sealed_block.specs.declared.heads.Head.{Head}
 use Rattle.sealed_block.specs.Opening.{head_in, opened}
-use Rattle.geometry.specs.LayoutFacts.{both}
 use Rattle.record_codec.specs.declared.entries.EntryRecord.{EntryRecord}
 use Rattle.vol_types.specs.declared.layout.Layout.{Layout}
 use Rattle.journal_ring.specs.declared.found.FoundEntry.{FoundEntry}
@@ -18,8 +17,8 @@ pub opens_some_parts : (block : List ℕ) (head : Head) → opened block ≡ Som
 unfolding opened
 opens_some_parts block head is =
     let found = cond_some _ (head_in block) head is in
-    let ranges = (both _ _ (both _ _ found.0).0).1 in
-    let within : (head_in block).part < (head_in block).parts = ltb-true (head_in block).part (head_in block).parts (both _ _ (both _ _ (both _ _ ranges).0).0).1 in
+    let ranges = (and_parts _ _ (and_parts _ _ found.0).0).1 in
+    let within : (head_in block).part < (head_in block).parts = ltb-true (head_in block).part (head_in block).parts (and_parts _ _ (and_parts _ _ (and_parts _ _ ranges).0).0).1 in
     subst (λ (h : Head). h.part < h.parts) found.1 within
 
 -- What a head of part 0 of an entry says.
@@ -33,11 +32,11 @@ pub record IsEntryHead (id : List ℕ) (number : ℕ) (head : Head) : Type 0 whe
 
 pub entry_head_is : (id : List ℕ) (number : ℕ) (head : Head) → is_entry_head id number head ≡ true → IsEntryHead id number head
 entry_head_is id number head is =
-    let last = both _ _ is in
-    let fifth = both _ _ last.0 in
-    let fourth = both _ _ fifth.0 in
-    let third = both _ _ fourth.0 in
-    let second = both _ _ third.0 in
+    let last = and_parts _ _ is in
+    let fifth = and_parts _ _ last.0 in
+    let fourth = and_parts _ _ fifth.0 in
+    let third = and_parts _ _ fourth.0 in
+    let second = and_parts _ _ third.0 in
     record {
       kind = eqb-true head.kind 2 second.0;
       version = eqb-true head.version 1 second.1;

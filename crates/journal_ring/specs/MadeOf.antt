@@ -1,6 +1,6 @@
 -- A whole entry is made of blocks that stand on the metadata devices.
 use Rattle.std.proofs.Common.{◌≡◌, ℕ, zero, suc, ◌+◌, ◌<◌, ◌≤◌, ⊎_elim, Bool, true, false, cond, List, [], ◌∷◌, ◌++◌, length, get_or, Option, Some, None, Result, Ok, Err, refl, ap, ◌∙◌, sym, subst, arith}
-use Rattle.std.proofs.lemmas.Bool.{cases_lt, eqb-true}
+use Rattle.std.proofs.lemmas.Bool.{and_parts, cases_lt, eqb-true}
 use Rattle.std.proofs.lemmas.List.{append-nil, get_or_append_left, get_or_push, length-append}
 use Rattle.std.proofs.lemmas.List.Concat.{flat_map-append}
 use Rattle.std.proofs.lemmas.Option.{none-some, same_Some}
@@ -11,7 +11,6 @@ use Rattle.std.specs.Str.{bytes_eq}
 use Rattle.sha2.specs.Sha256.{sha256}
 use Rattle.sealed_block.specs.declared.heads.Head.{Head}
 use Rattle.sealed_block.specs.Opening.{opened, payload_in}
-use Rattle.geometry.specs.LayoutFacts.{both}
 use Rattle.record_codec.specs.declared.entries.EntryRecord.{EntryRecord}
 use Rattle.record_codec.specs.declared.fault.RecordFault.{RecordFault}
 use Rattle.record_codec.specs.Entries.{entry_in}
@@ -73,7 +72,7 @@ agreeing_is head (Err fault) entry is = absurd (none-some entry is)
 agreeing_is head (Ok e) entry is =
     let found = cond_found (agrees head e) (Some e) entry is in
     let same : e ≡ entry = same_Some e entry found.1 in
-    let tests = both _ _ found.0 in
+    let tests = and_parts _ _ found.0 in
     (ap Ok same, subst (λ (x : EntryRecord). x.sequence ≡ head.sequence) same (eqb-true e.sequence head.sequence tests.0), subst (λ (x : EntryRecord). x.session ≡ head.owner) same (eqb-true e.session head.owner tests.1))
 
 -- The entry that begins so is made of these blocks, and each part of it is taken from one of them.

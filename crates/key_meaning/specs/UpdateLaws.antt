@@ -3,7 +3,7 @@ use Rattle.std.proofs.Common.{◌≡◌, ℕ, zero, suc, ◌+◌, ◌-◌, ◌<�
 use Rattle.std.specs.Prelude.{◌≢◌, ◌==◌, ◌&&◌, IsSome, option_map, unwrap_or}
 use Rattle.std.specs.List.{range_with_len}
 use Rattle.std.specs.Ordering.{nat_cmp}
-use Rattle.std.proofs.lemmas.Bool.{eq-eqb, eqb-true, ne_eqb, true≢false}
+use Rattle.std.proofs.lemmas.Bool.{and_parts, eq-eqb, eqb-true, ne_eqb, true≢false}
 use Rattle.std.proofs.lemmas.Cmp.{nat_list_cmp_total}
 use Rattle.std.proofs.lemmas.Map.Lookups.{exact_bytes}
 use Rattle.snap_tree.specs.Snaps.{IsSnapTree}
@@ -32,10 +32,6 @@ use Rattle.key_meaning.specs.TreeLaws.{sub_named-same}
 use Rattle.key_meaning.specs.Visible.{own_value, shown, snaps_of, visible_above}
 use Rattle.key_meaning.specs.VisibleLaws.{is_put_at, own_value-with_update, visible-other, visible-put, visible-removed}
 
-both : (a b : Bool) → (a && b) ≡ true → (a ≡ true) × (b ≡ true)
-both true b are = (refl, are)
-both false b are = absurd (true≢false (sym are))
-
 nothing : (b : Bool) → (b && false) ≡ false
 nothing true = refl
 nothing false = refl
@@ -43,7 +39,7 @@ nothing false = refl
 -- An update of one btree is of no other.
 pub of_no_other : (update : Update) (one other : Btree) → is_update_of one update ≡ true → (btree_code one == btree_code other) ≡ false → is_update_of other update ≡ false
 of_no_other update one other is apart =
-    let code : btree_code update.btree ≡ btree_code one = eqb-true (btree_code update.btree) (btree_code one) (both (update.level == 0) (btree_code update.btree == btree_code one) is).1 in
+    let code : btree_code update.btree ≡ btree_code one = eqb-true (btree_code update.btree) (btree_code one) (and_parts (update.level == 0) (btree_code update.btree == btree_code one) is).1 in
     ap (λ c. update.level == 0 && c == btree_code other) code ∙ ap (λ b. update.level == 0 && b) apart ∙ nothing (update.level == 0)
 
 module _ (update : Update) (keys : KeyMap) (is : IsKeyMap keys) where

@@ -1,5 +1,4 @@
 pub mod Ranges
-pub mod Firsts
 pub mod Ancestors
 pub mod Fitting
 pub mod Scanning

@@ -8,14 +8,14 @@ use Rattle.std.specs.Cmp.{nat_cmp_is}
 use Rattle.std.specs.Ordering.{nat_cmp, ordering_then, is_le}
 use Rattle.std.specs.declared.cmp.Ordering.{Ordering}
 use Rattle.std.specs.declared.cmp.Ordering.TheVariants.{Less, Equal, Greater}
-use Rattle.std.proofs.lemmas.Bool.{true≢false, eqb-true, eq-eqb, cases_lt}
+use Rattle.std.proofs.lemmas.Bool.{and_parts, cases_lt, eq-eqb, eqb-true, true≢false}
 use Rattle.std.proofs.lemmas.Bool.Decides.{nat_tests}
 use Rattle.std.proofs.lemmas.Cmp.{ranked}
 use Rattle.std.proofs.lemmas.List.Elements.{All-from_recursion, recursion_from_All}
 use Rattle.std.proofs.lemmas.Map.Keys.{sorted_head, sorted_tail}
 use Rattle.std.proofs.lemmas.Option.{same_Some, none-some as none_some}
 use Rattle.key_meaning.specs.Visible.{first_value, own_value, shown, snaps_of, visible}
-use Rattle.key_view.proofs.Firsts.{IsFirst, first_above, is_first, none_from}
+use Rattle.key_view.specs.FirstLaws.{IsFirst, first_above, is_first, none_from}
 use Rattle.key_view.specs.Own.{HaveNone, IsFirstOwn, IsNextOwn, own_of, stands_above}
 use Rattle.key_view.specs.Seen.{GoesOn, IsSeen}
 use Rattle.snap_tree.specs.ChainLaws.{chain_of-rises}
@@ -72,10 +72,6 @@ module _ (inode offset from id : ℕ) (p : Pos) where
       inodes Equal is = ap (λ o. ordering_then o (later_order id)) is ∙ offsets (ranked inode p.inode Equal (sym is)) (sym (ap (λ o. is_le (ordering_then o (later_order from))) is) ∙ le) (nat_cmp offset p.offset) refl
       inodes Greater is = absurd (true≢false (sym le ∙ ap (λ o. is_le (ordering_then o (later_order from))) is))
 
-pub both : (a b : Bool) → (a && b) ≡ true → (a ≡ true) × (b ≡ true)
-both true b is = (refl, is)
-both false b is = absurd (true≢false (sym is))
-
 nil_cons : {X : Type 0} (x : X) (xs : List X) → [] ≡ x ∷ xs → ⊥
 nil_cons x xs is = none_some x (ap (λ ys. slice_get ys 0) is)
 
@@ -97,7 +93,7 @@ module _ (keys : KeyMap) (btree : Btree) (inode offset from : ℕ) (is : IsKeyMa
 
       here : stands_above start e.0 ≡ true → e.0 ≡ at inode offset e.0.snapshot
       here is_there =
-          let parts = both (e.0.inode == inode) (e.0.offset == offset) (both (e.0.inode == inode && e.0.offset == offset) (not (nat_lt e.0.snapshot from)) is_there).0 in
+          let parts = and_parts (e.0.inode == inode) (e.0.offset == offset) (and_parts (e.0.inode == inode && e.0.offset == offset) (not (nat_lt e.0.snapshot from)) is_there).0 in
           let first_part = eqb-true e.0.inode inode parts.0 in
           let second_part = eqb-true e.0.offset offset parts.1 in
           λ i. record { inode = first_part i; offset = second_part i; snapshot = e.0.snapshot }

@@ -7,13 +7,13 @@ use Rattle.std.specs.List.Sorted.{IsStrictlySortedBy}
 use Rattle.std.specs.Option.{option_or}
 use Rattle.std.specs.Ordering.{nat_cmp}
 use Rattle.std.specs.declared.cmp.Ordering.TheVariants.{Less}
-use Rattle.std.proofs.lemmas.Bool.{true≢false, eqb-true, eq-eqb, ne_eqb}
+use Rattle.std.proofs.lemmas.Bool.{and_parts, eq-eqb, eqb-true, ne_eqb, true≢false}
 use Rattle.std.proofs.lemmas.Cmp.{ranked}
 use Rattle.std.proofs.lemmas.Map.Keys.{sorted_head}
 use Rattle.std.proofs.lemmas.Option.{same_Some, none-some as none_some}
 use Rattle.key_meaning.specs.Visible.{first_value, own_value, shown, snaps_of, visible, visible_above}
-use Rattle.key_view.proofs.Firsts.{same_at, at_itself}
-use Rattle.key_view.proofs.Scanning.{at, both}
+use Rattle.key_view.specs.FirstLaws.{same_at, at_itself}
+use Rattle.key_view.proofs.Scanning.{at}
 use Rattle.key_view.specs.Changes.{SeesThere, needs_whiteout, own_update, removal, updates_to_see}
 use Rattle.snap_tree.specs.ChainLaws.{chain_of-rises, chain_of-step}
 use Rattle.snap_tree.specs.Snaps.{Snaps, IsSnapTree, chain_above, chain_of, chain_of_maybe, is_ancestor_of, named_parent, parent_of, snaps_in}
@@ -111,7 +111,7 @@ module _ (keys : KeyMap) (btree : Btree) (inode offset id : ℕ) (value : Option
       by : (t : Bool) → is_here b i o a ≡ t → t ≡ false
       by false test = refl
       by true test =
-          let parts = both (is_update_of b update) (is_at (pos_cmp update.pos) (at i o a)) test in
+          let parts = and_parts (is_update_of b update) (is_at (pos_cmp update.pos) (at i o a)) test in
           let place = same_at update.pos (at i o a) parts.1 in
           absurd (other (sym (same_btree btree b (eqb-true (btree_code btree) (btree_code b) parts.0)), sym (ap (λ (p : Pos). p.inode) place), sym (ap (λ (p : Pos). p.offset) place), sym (ap (λ (p : Pos). p.snapshot) place)))
 

@@ -1,5 +1,6 @@
-pub mod Seen
 pub mod Changes
-pub mod Own
+pub mod FirstLaws
 pub mod Holds
+pub mod Own
 pub mod Plain
+pub mod Seen

@@ -16,7 +16,6 @@ use Rattle.node_mem.specs.CountLaws.{keys-put_at, values-put_at}
 use Rattle.node_mem.specs.Nodes.{with_keys}
 use Rattle.node_store.specs.Copies.{Reading, block_in, copies_at, copy_at, shown_at, shown_below, shown_in}
 use Rattle.node_store.specs.NodeContents.{NodeContent, content_if, content_in, content_with, entries_after, is_same_pos, is_wanted, keys_if, may_hold}
-use Rattle.geometry.specs.LayoutFacts.{both}
 use Rattle.node_store.specs.NodeContents.{keys_of as keys_read}
 use Rattle.node_store.specs.StoredSets.{Copies, begins, first_of, if_some, part_if, part_in, part_of, parts_from, set_at, set_begun, set_from, set_with, sets_from, sets_in, with_set, without_gap}
 use Rattle.node_store.specs.declared.opening.OpenBlock.{OpenBlock}
@@ -149,7 +148,7 @@ module _ (exact : IsExactBut Short IsSet set_format) where
       by : (b : Bool) → (is_wanted wanted (head_of set) && may_hold n set.keys) ≡ b → cond b (Some set.keys) None ≡ Some keys → AllByRecursion (λ (key : Key). IsKeyOf wanted key.pos key.value) keys
       by false same is = absurd cc
       by true same is =
-          let one = (both (is_wanted wanted (head_of set)) (may_hold n set.keys) same).0 in
+          let one = (and_parts (is_wanted wanted (head_of set)) (may_hold n set.keys) same).0 in
           let all = subst (λ (node : SetHead). AllByRecursion (λ (key : Key). IsKeyOf node key.pos key.value) set.keys) (same_head wanted (head_of set) one) (keys_of_set set (sound set refl)) in
           let keys_are : set.keys ≡ keys = cc in
           subst (λ ks. AllByRecursion (λ (key : Key). IsKeyOf wanted key.pos key.value) ks) keys_are all

@@ -1,6 +1,6 @@
 -- What a word of a kind stands for is one thing.
 use Rattle.std.proofs.Common.{◌≡◌, ℕ, Bool, true, false, not, ◌&&◌, List, [], ◌∷◌, ◌++◌, refl, sym, subst, ap, ◌∙◌, append_assoc}
-use Rattle.std.proofs.lemmas.Bool.{false≢true}
+use Rattle.std.proofs.lemmas.Bool.{and_parts, false≢true}
 use Rattle.std.proofs.lemmas.Fmt.{decimal_injective}
 use Rattle.std.specs.Prelude.{◌==◌, codes}
 use Rattle.std.specs.List.{list_all}
@@ -10,17 +10,12 @@ use Rattle.script_text.specs.Arguments.Kind.{PathWord, NameWord, NumberWord, Len
 use Rattle.script_text.specs.Words.{IsPathCut, SaysName, SaysNames, SaysPath, SaysNumber, SaysBytes}
 use Rattle.script_text.proofs.OneName.{one_name, one_names}
 
--- both halves of an `and` that holds
-pub both : (a b : Bool) → (a && b) ≡ true → (a ≡ true) × (b ≡ true)
-both true b e = (refl, e)
-both false b e = absurd (false≢true e)
-
 -- no colon is among the bytes
 abbrev pub is_colonless : List ℕ → Bool
 is_colonless bytes = list_all (λ byte. not (byte == 58)) bytes
 
 not_colonless : (byte : ℕ) (bytes : List ℕ) → byte ≡ 58 → is_colonless (byte ∷ bytes) ≡ true → ⊥
-not_colonless byte bytes is none = false≢true (subst (λ b. not (b == 58) ≡ true) is (both (not (byte == 58)) (is_colonless bytes) none).0)
+not_colonless byte bytes is none = false≢true (subst (λ b. not (b == 58) ≡ true) is (and_parts (not (byte == 58)) (is_colonless bytes) none).0)
 
 -- what stands before the first colon, and behind it
 pub one_cut : (a b x y : List ℕ) → is_colonless a ≡ true → is_colonless b ≡ true → a ++ 58 ∷ x ≡ b ++ 58 ∷ y → (a ≡ b) × (x ≡ y)
@@ -30,7 +25,7 @@ one_cut (c ∷ a) [] x y fine good same = absurd (not_colonless c a (cc) fine)
 one_cut (c ∷ a) (d ∷ b) x y fine good same =
     let first : c ≡ d = cc in
     let later : a ++ 58 ∷ x ≡ b ++ 58 ∷ y = cc in
-    let rest = one_cut a b x y (both (not (c == 58)) (is_colonless a) fine).1 (both (not (d == 58)) (is_colonless b) good).1 later in
+    let rest = one_cut a b x y (and_parts (not (c == 58)) (is_colonless a) fine).1 (and_parts (not (d == 58)) (is_colonless b) good).1 later in
     (ap (λ byte. byte ∷ a) first ∙ ap (λ bytes. d ∷ bytes) rest.0, rest.1)
 
 pub colon_slash : (sub names : List ℕ) → sub ++ codes ":/" ++ names ≡ sub ++ 58 ∷ 47 ∷ names

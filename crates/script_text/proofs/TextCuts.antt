@@ -4,8 +4,8 @@ use Rattle.std.proofs.lemmas.List.{take_all}
 use Rattle.std.proofs.lemmas.Grind.{common_steps}
 use Rattle.std.specs.Prelude.{◌==◌}
 use Rattle.std.specs.List.{list_all, onto_first, slice_split}
+use Rattle.std.proofs.lemmas.Bool.{and_parts}
 use Rattle.script_text.specs.Lines.{IsCut, lines_of, words_in, words_of}
-use Rattle.script_text.proofs.OneWord.{both}
 
 -- the byte isn't among the bytes
 abbrev pub is_unbroken : ℕ → List ℕ → Bool
@@ -30,7 +30,7 @@ cut_nowhere byte text at past unbroken = record {
 
 -- no first byte of what is unbroken is the byte
 first_differs : (byte b : ℕ) (bytes : List ℕ) → is_unbroken byte (b ∷ bytes) ≡ true → (b == byte) ≡ false
-first_differs byte b bytes unbroken = by (b == byte) (both (not (b == byte)) (is_unbroken byte bytes) unbroken).0
+first_differs byte b bytes unbroken = by (b == byte) (and_parts (not (b == byte)) (is_unbroken byte bytes) unbroken).0
   where
     by : (is : Bool) → not is ≡ true → is ≡ false
     by true e = absurd (cc)
@@ -44,13 +44,13 @@ split_at_cut byte [] rest unbroken =
     ap (λ here. cond here ([] ∷ slice_split (λ b. b == byte) rest) (onto_first byte (slice_split (λ b. b == byte) rest))) is
 split_at_cut byte (b ∷ before) rest unbroken =
     ap (λ here. cond here ([] ∷ slice_split (λ b. b == byte) (before ++ byte ∷ rest)) (onto_first b (slice_split (λ b. b == byte) (before ++ byte ∷ rest)))) (first_differs byte b before unbroken)
-    ∙ ap (onto_first b) (split_at_cut byte before rest (both (not (b == byte)) (is_unbroken byte before) unbroken).1)
+    ∙ ap (onto_first b) (split_at_cut byte before rest (and_parts (not (b == byte)) (is_unbroken byte before) unbroken).1)
 
 pub split_uncut : (byte : ℕ) (text : List ℕ) → is_unbroken byte text ≡ true → slice_split (λ b. b == byte) text ≡ text ∷ []
 split_uncut byte [] unbroken = refl
 split_uncut byte (b ∷ text) unbroken =
     ap (λ here. cond here ([] ∷ slice_split (λ b. b == byte) text) (onto_first b (slice_split (λ b. b == byte) text))) (first_differs byte b text unbroken)
-    ∙ ap (onto_first b) (split_uncut byte text (both (not (b == byte)) (is_unbroken byte text) unbroken).1)
+    ∙ ap (onto_first b) (split_uncut byte text (and_parts (not (b == byte)) (is_unbroken byte text) unbroken).1)
 
 -- the parts of what stands behind the byte, if it is there
 abbrev pub parts_behind : ℕ → Option (List ℕ) → List (List ℕ)
@@ -75,14 +75,14 @@ lines_of-append : (line rest : List ℕ) → is_unbroken 10 line ≡ true → li
 lines_of-append [] rest unbroken = refl
 lines_of-append (byte ∷ line) rest unbroken =
     ap (λ here. cond here ([] ∷ lines_of (line ++ 10 ∷ rest)) (onto_first byte (lines_of (line ++ 10 ∷ rest)))) (first_differs 10 byte line unbroken)
-    ∙ ap (onto_first byte) (lines_of-append line rest (both (not (byte == 10)) (is_unbroken 10 line) unbroken).1)
+    ∙ ap (onto_first byte) (lines_of-append line rest (and_parts (not (byte == 10)) (is_unbroken 10 line) unbroken).1)
 
 -- a text without LF is one line, if it isn't empty
 lines_of-unbroken : (byte : ℕ) (line : List ℕ) → is_unbroken 10 (byte ∷ line) ≡ true → lines_of (byte ∷ line) ≡ (byte ∷ line) ∷ []
 lines_of-unbroken byte [] unbroken = ap (λ here. cond here ([] ∷ []) (onto_first byte [])) (first_differs 10 byte [] unbroken)
 lines_of-unbroken byte (next ∷ line) unbroken =
     ap (λ here. cond here ([] ∷ lines_of (next ∷ line)) (onto_first byte (lines_of (next ∷ line)))) (first_differs 10 byte (next ∷ line) unbroken)
-    ∙ ap (onto_first byte) (lines_of-unbroken next line (both (not (byte == 10)) (is_unbroken 10 (next ∷ line)) unbroken).1)
+    ∙ ap (onto_first byte) (lines_of-unbroken next line (and_parts (not (byte == 10)) (is_unbroken 10 (next ∷ line)) unbroken).1)
 
 lines_of-last : (text : List ℕ) → 0 < length text → is_unbroken 10 text ≡ true → lines_of text ≡ text ∷ []
 lines_of-last [] some unbroken = absurd (omega arith)

@@ -2,7 +2,7 @@
 use Rattle.std.proofs.Common.{◌≡◌, ℕ, zero, suc, ◌<◌, ◌≤◌, Bool, true, false, cond, ◌&&◌, List, [], ◌∷◌, length, replicate, get_or, Some, None, refl, ap, sym, subst, arith}
 use Rattle.std.specs.Prelude.{nat_le}
 use Rattle.std.proofs.lemmas.Bool.Decides.{nat_tests}
-use Rattle.std.proofs.lemmas.Bool.{false≢true}
+use Rattle.std.proofs.lemmas.Bool.{and_from, false≢true}
 use Rattle.std.proofs.lemmas.Option.{same_Some, none-some, option_and_then_some}
 use Rattle.vol_types.specs.declared.layout.Layout.{Layout}
 use Rattle.vol_types.specs.Layouts.{is_layout}
@@ -16,19 +16,15 @@ use Rattle.shell.specs.Tasks.{layout_asked, task_for, task_of}
 use Rattle.shell.specs.declared.task.Task.{Task}
 use Rattle.shell.specs.declared.task.Task.TheVariants.{Run, Format, Info}
 
-both : (a b : Bool) → a ≡ true → b ≡ true → (a && b) ≡ true
-both true b is also = also
-both false b is also = is
-
 here_fits : (n : ℕ) → nat_le n n ≡ true
 here_fits n = grind (arith, nat_tests)
 
 have_room_here : (blocks : List ℕ) → have_room blocks blocks ≡ true
 have_room_here [] = refl
-have_room_here (n ∷ blocks) = both (nat_le n n) (have_room blocks blocks) (here_fits n) (have_room_here blocks)
+have_room_here (n ∷ blocks) = and_from (nat_le n n) (have_room blocks blocks) (here_fits n) (have_room_here blocks)
 
 places : (layout : Layout) → is_layout layout ≡ true → HasPlaces layout.blocks layout
-places layout is = has_places layout.blocks layout (both (is_layout layout) (have_room layout.blocks layout.blocks) is (have_room_here layout.blocks))
+places layout is = has_places layout.blocks layout (and_from (is_layout layout) (have_room layout.blocks layout.blocks) is (have_room_here layout.blocks))
 
 unfit : (layout : Layout) → (HasPlaces layout.blocks layout → ⊥) → is_layout layout ≡ false
 unfit layout none = by (is_layout layout) refl

@@ -22,7 +22,7 @@ use Rattle.forest_ops.specs.declared.operation.Entry.{Entry}
 use Rattle.text_io.specs.Streams.{GainsBy, GainsTextBy, GivesPrefix}
 use Rattle.text_io.specs.StreamLaws.{gains_nothing, gains_text, gains_text_still, gains_then}
 use Rattle.script_text.specs.declared.reading.Line.{Line}
-use Rattle.core_state.specs.Volumes.{Volume}
+use Rattle.core_volume.specs.Volumes.{Volume}
 use Rattle.forest_ops.specs.Acknowledged.{synced_count}
 use Rattle.vol_session.specs.Sessions.{SessionState}
 use Rattle.volume.specs.Answers.{HasCause, IsAnswered, acks_after}

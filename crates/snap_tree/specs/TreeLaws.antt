@@ -3,17 +3,13 @@ use Rattle.std.proofs.Common.{◌≡◌, ℕ, ◌+◌, ◌-◌, ◌^◌, ◌<◌
 use Rattle.std.specs.Prelude.{◌⊎◌, ◌==◌, ◌&&◌, ◌||◌, nat_lt, is_some, IsSome}
 use Rattle.std.specs.List.{list_all}
 use Rattle.std.specs.Ordering.{nat_cmp}
-use Rattle.std.proofs.lemmas.Bool.{eqb-true, eq-eqb, ne_eqb, ltb-true}
+use Rattle.std.proofs.lemmas.Bool.{and_parts, eq-eqb, eqb-true, ltb-true, ne_eqb}
 use Rattle.std.proofs.lemmas.Option.{same_Some, none-some as none_some}
 use Rattle.vol_types.specs.Maps.{IsMap, value_at}
 use Rattle.vol_types.specs.declared.values.Snap.{Snap}
 use Rattle.snap_tree.specs.Snaps.{Snaps, is_there, is_joined, are_trees}
 use Rattle.snap_tree.specs.ChainLaws.{same_test}
 use Rattle.snap_tree.specs.MapLaws.{trees_from_found}
-
-pub both : (a b : Bool) → (a && b) ≡ true → (a ≡ true) × (b ≡ true)
-both true b is = (refl, is)
-both false b is = absurd (cc)
 
 either : (a b : Bool) → (a || b) ≡ true → (a ≡ true) ⊎ (b ≡ true)
 either true b is = inl refl
@@ -27,7 +23,7 @@ module _ (all : Snaps) where
       here (e.0 == id) refl (subst (λ b. cond b (Some e.1) (value_at nat_cmp id snaps) ≡ Some snap) (same_test id e.0) is) (found_joined snaps id snap)
     where
       parts : (is_joined all e.0 e.1 ≡ true) × (list_all (λ entry. is_joined all entry.0 entry.1) snaps ≡ true)
-      parts = both (is_joined all e.0 e.1) (list_all (λ entry. is_joined all entry.0 entry.1) snaps) test
+      parts = and_parts (is_joined all e.0 e.1) (list_all (λ entry. is_joined all entry.0 entry.1) snaps) test
 
       here : (b : Bool) → (e.0 == id) ≡ b → cond b (Some e.1) (value_at nat_cmp id snaps) ≡ Some snap → (list_all (λ entry. is_joined all entry.0 entry.1) snaps ≡ true → value_at nat_cmp id snaps ≡ Some snap → is_joined all id snap ≡ true) → is_joined all id snap ≡ true
       here true same found later = subst (λ n. is_joined all n snap ≡ true) (eqb-true e.0 id same) (subst (λ s. is_joined all e.0 s ≡ true) (same_Some e.1 snap found) parts.0)
@@ -41,9 +37,9 @@ pub parent_joined : (snaps : Snaps) (id : ℕ) (snap : Snap) → are_trees snaps
 parent_joined snaps id snap trees is =
     let parent = snap.parent in
     let all = found_joined snaps snaps id snap trees is in
-    let first = both (is_there snaps parent && (parent == 0 || nat_lt id parent) && is_there snaps snap.first_child) (is_there snaps snap.second_child) all in
-    let second = both (is_there snaps parent && (parent == 0 || nat_lt id parent)) (is_there snaps snap.first_child) first.0 in
-    let third = both (is_there snaps parent) (parent == 0 || nat_lt id parent) second.0 in
+    let first = and_parts (is_there snaps parent && (parent == 0 || nat_lt id parent) && is_there snaps snap.first_child) (is_there snaps snap.second_child) all in
+    let second = and_parts (is_there snaps parent && (parent == 0 || nat_lt id parent)) (is_there snaps snap.first_child) first.0 in
+    let third = and_parts (is_there snaps parent) (parent == 0 || nat_lt id parent) second.0 in
     ⊎_elim (λ (none : (parent == 0) ≡ true). inl (eqb-true parent 0 none))
     (λ (up : nat_lt id parent ≡ true). ⊎_elim (λ (none : (parent == 0) ≡ true). inl (eqb-true parent 0 none)) (λ (there : is_some (value_at nat_cmp parent snaps) ≡ true). inr (ltb-true id parent up, there))
     (either (parent == 0) (is_some (value_at nat_cmp parent snaps)) third.0)) (either (parent == 0) (nat_lt id parent) third.1)
@@ -76,9 +72,9 @@ pub record Joins (snaps : Snaps) (id : ℕ) (snap : Snap) : Type 0 where
 pub joins : (snaps : Snaps) (id : ℕ) (snap : Snap) → is_joined snaps id snap ≡ true → Joins snaps id snap
 joins snaps id snap joined =
     let above = snap.parent == 0 || nat_lt id snap.parent in
-    let last = both (is_there snaps snap.parent && above && is_there snaps snap.first_child) (is_there snaps snap.second_child) joined in
-    let third = both (is_there snaps snap.parent && above) (is_there snaps snap.first_child) last.0 in
-    let two = both (is_there snaps snap.parent) above third.0 in
+    let last = and_parts (is_there snaps snap.parent && above && is_there snaps snap.first_child) (is_there snaps snap.second_child) joined in
+    let third = and_parts (is_there snaps snap.parent && above) (is_there snaps snap.first_child) last.0 in
+    let two = and_parts (is_there snaps snap.parent) above third.0 in
     record { parent = two.0; above = two.1; first = third.1; second = last.1 }
 
 -- an id that is there is so as a number that is named

@@ -6,7 +6,7 @@ use Rattle.std.specs.Prelude.{◌==◌, All, IfSome}
 use Rattle.crash_safety.specs.KeptLeaves.{KeepsLeaves}
 use Rattle.crash_safety.specs.CheckpointLeaves.{FreshLeaf}
 use Rattle.crash_safety.specs.LeafSteps.{AreSameLeaves, with_last}
-use Rattle.core_state.specs.Volumes.{IsVolume, Volume}
+use Rattle.core_volume.specs.Volumes.{IsVolume, Volume}
 use Rattle.dev_model.specs.Devices.{DevicesState, now}
 use Rattle.dev_model.specs.Disk.{IsDisk}
 use Rattle.journal_writer.specs.Writers.{unsettled_by, with_flags}
@@ -23,7 +23,7 @@ use Rattle.vol_core.specs.Safety.{IsCoreSafe}
 use Rattle.vol_core.specs.VolumeLeaves.{fresh_leaf, fresh_leaves, leaves_in, leaves_left}
 use Rattle.vol_core.specs.CoreLaws.{CoreLaws}
 use Rattle.vol_core.proofs.KnownParts.{flies_also, known_also}
-use Rattle.core_state.specs.Volumes.{KeepParts}
+use Rattle.core_volume.specs.Volumes.{KeepParts}
 use Rattle.vol_core.proofs.Written.{flags_stay, past_later}
 
 -- the work on nodes after a block was written, or a device failed

@@ -9,11 +9,11 @@ use Rattle.bucket_pool.specs.NodeBuckets.{HoldsNode, bucket_state}
 use Rattle.bucket_pool.specs.Space.{Space, emptied_all, settled_space}
 use Rattle.crash_safety.specs.KeptLeaves.{HoldsOwn}
 use Rattle.crash_safety.specs.CheckpointLeaves.{FreshLeaf, replaced_places}
-use Rattle.core_state.specs.Checkpoints.{AreInPlace, IsLeafFrozen, after_refused, given_up}
-use Rattle.core_state.specs.Sealing.{settled_volume}
-use Rattle.core_state.specs.Volumes.{IsVolume, KeepParts, Volume}
-use Rattle.core_state.specs.declared.answer.Refusal.{Refusal}
-use Rattle.core_state.specs.declared.answer.Refusal.TheVariants as refusals
+use Rattle.core_volume.specs.Checkpoints.{AreInPlace, IsLeafFrozen, after_refused, given_up}
+use Rattle.core_volume.specs.Sealing.{settled_volume}
+use Rattle.core_volume.specs.Volumes.{IsVolume, KeepParts, Volume}
+use Rattle.core_actors.specs.declared.answer.Refusal.{Refusal}
+use Rattle.core_actors.specs.declared.answer.Refusal.TheVariants as refusals
 use Rattle.dev_model.specs.Devices.{DevicesState, now}
 use Rattle.dev_model.specs.Disk.{Image, IsCrashImage}
 use Rattle.journal_writer.specs.Writers.{settled}

@@ -1,18 +1,18 @@
 -- What is kept of the blocks of files holds where a volume was opened: each bucket that has some is in use by files, as its key says, and the devices are quiet.
 use Rattle.std.proofs.Common.{◌≡◌, ◌≢◌, ◌≤◌, ◌<◌, ⊎_elim, ◌+◌, ◌*◌, ◌/◌, ◌%◌, ◌-◌, ℕ, Bool, true, cond, nat_lt, length, slice_index, Option, Some, None, option_map, refl, sym, ap, subst, arith}
-use Rattle.std.proofs.lemmas.Bool.{cases_lt, lt-ltb}
+use Rattle.std.proofs.lemmas.Bool.{and_parts, cases_lt, lt-ltb}
 use Rattle.std.proofs.lemmas.List.{get_or_past}
 use Rattle.std.proofs.lemmas.List.Elements.{All-get_or}
 use Rattle.std.proofs.lemmas.Option.{slice_get_within}
 use Rattle.std.specs.Prelude.{All, slice_index_or, unwrap_or}
 use Rattle.bucket_pool.specs.NodeBuckets.{MayHoldNode}
 use Rattle.bucket_pool.specs.Opening.{space_of}
-use Rattle.core_state.specs.Opening.{IsOpened, keys_of_buckets, opened_by}
+use Rattle.core_state.specs.Opening.{IsOpened}
+use Rattle.core_volume.specs.Opening.{keys_of_buckets, opened_by}
 use Rattle.core_state.specs.States.{State}
-use Rattle.core_state.specs.Volumes.{Volume}
+use Rattle.core_volume.specs.Volumes.{Volume}
 use Rattle.dev_model.specs.Devices.{DevicesState, now}
 use Rattle.dev_model.specs.Disk.{Image, IsDisk, block_at}
-use Rattle.geometry.specs.LayoutFacts.{both}
 use Rattle.geometry.specs.Layouts.{have_room, is_layout_of}
 use Rattle.image_view.specs.Found.{Found, node_places, updates_of}
 use Rattle.key_meaning.specs.Checks.{kept_buckets, live_of}
@@ -93,7 +93,7 @@ opened_files laws of_found loaded memory begun start state opens starts layout i
     let may : MayBegin f (now state) = subst (λ (g : Found). MayBegin g (now state)) (sym opens) (subst (λ (s : DevicesState). MayBegin begun (now s)) (sym starts) begins) in
     let within = slice_get_within loaded.needed (length loaded.needed - 1) is.volume.newest is.volume.last in
     let some : 0 < length loaded.needed = omega (arith, within) in
-    let layout_is : is_layout loaded.layout ≡ true = (both (is_layout loaded.layout) (have_room loaded.layout.blocks state.sizes) layout).0 in
+    let layout_is : is_layout loaded.layout ≡ true = (and_parts (is_layout loaded.layout) (have_room loaded.layout.blocks state.sizes) layout).0 in
     let leaves = leaves_kept laws of_found loaded is.volume.newest state layout_is (last_found loaded.needed is.volume.newest some is.volume.last) some may disks in
     let maps : IsKeyMap f.trees.keys = subst IsKeyMap (sym leaves.keys) (IsKeyMap-with_updates (updates_of f.needed) leaves.before leaves.are_keys) in
     let volume : Volume = opened_by loaded.layout loaded.session loaded.map loaded.needed (node_places f) is.volume.newest in

@@ -2,11 +2,11 @@
 use Rattle.std.proofs.Common.{◌≡◌, ◌≤◌, ℕ, Bool, Option, Some, None, sym, ap, subst, arith, ⊎_elim}
 use Rattle.core_state.specs.Events.{CommitGives, CommitNodesGives, FlushGives, FreezeGives, SealGives, SettleGives, Waits, WriteGives, WriteSetGives}
 use Rattle.core_state.specs.States.{IsState, State, other_holder}
-use Rattle.core_state.specs.Volumes.{KeepParts, Volume}
-use Rattle.core_state.specs.declared.answer.Answer.{Answer}
-use Rattle.core_state.specs.declared.answer.Answer.TheVariants as answers
-use Rattle.core_state.specs.declared.event.Event.{Event}
-use Rattle.core_state.specs.declared.event.Event.TheVariants as events
+use Rattle.core_volume.specs.Volumes.{KeepParts, Volume}
+use Rattle.core_actors.specs.declared.answer.Answer.{Answer}
+use Rattle.core_actors.specs.declared.answer.Answer.TheVariants as answers
+use Rattle.core_actors.specs.declared.event.Event.{Event}
+use Rattle.core_actors.specs.declared.event.Event.TheVariants as events
 use Rattle.dev_model.specs.Devices.{DevicesState, now}
 use Rattle.dev_model.specs.Disk.{Image, IsCrashImage}
 use Rattle.image_view.specs.Found.{Found}

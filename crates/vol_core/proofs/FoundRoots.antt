@@ -17,7 +17,7 @@ use Rattle.btree_map.specs.Sizes.{all_btrees}
 use Rattle.btree_map.specs.StandLaws.{same_btree}
 use Rattle.bucket_pool.specs.NodeBuckets.{MayHoldNode}
 use Rattle.dirty_nodes.specs.Dirty.{birth_at, birth_in, changed_node, changed_nodes, with_pins}
-use Rattle.core_state.specs.Opening.{updates_in}
+use Rattle.core_volume.specs.Opening.{updates_in}
 use Rattle.dev_model.specs.Disk.{Image}
 use Rattle.image_view.specs.BaseLaws.{found-trees}
 use Rattle.image_view.specs.Found.{Found, found, node_places, sets_in, updates_of}

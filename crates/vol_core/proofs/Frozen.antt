@@ -13,8 +13,8 @@ use Rattle.bucket_pool.specs.Space.{have_free, node_places, noded}
 use Rattle.crash_safety.specs.KeptLeaves.{IsLeafPlanned, KeepsLeaves, leaf_set}
 use Rattle.crash_safety.specs.CheckpointLeaves.{FreshLeaf}
 use Rattle.crash_safety.specs.LeafSteps.{AreSameLeaves, with_fresh}
-use Rattle.core_state.specs.Checkpoints.{IsLeafFrozen, durable_in}
-use Rattle.core_state.specs.Volumes.{IsVolume, Volume, birth_due, changes_in, in_flight, undurable_in}
+use Rattle.core_volume.specs.Checkpoints.{IsLeafFrozen, durable_in}
+use Rattle.core_volume.specs.Volumes.{IsVolume, Volume, birth_due, changes_in, in_flight, undurable_in}
 use Rattle.dev_model.specs.Devices.{DevicesState}
 use Rattle.journal_writer.specs.Queues.{durable_keys, first_with}
 use Rattle.journal_writer.specs.declared.changes.KeyChanges.{KeyChanges}
@@ -41,7 +41,7 @@ use Rattle.vol_core.specs.VolumeLeaves.{fresh_leaf, fresh_leaves, leaves_in, lea
 use Rattle.vol_core.specs.CoreLaws.{CoreLaws}
 use Rattle.vol_core.proofs.NodeStages.{first_passes, freezing_is, none_left}
 use Rattle.vol_core.proofs.OtherLeaves.{NodesKnown, other_leaves_on, with_known}
-use Rattle.core_state.specs.Volumes.{KeepParts}
+use Rattle.core_volume.specs.Volumes.{KeepParts}
 
 -- What an entry in flight changes is the same for nodes as for the volume.
 flight_changes : (flight : Option Flight) → changes_in_flight (in_flight flight) ≡ changes_in flight

@@ -6,10 +6,10 @@ use Rattle.bucket_pool.specs.Space.{emptied_all, settled_space}
 use Rattle.crash_safety.specs.KeptLeaves.{KeepsLeaves}
 use Rattle.crash_safety.specs.CheckpointLeaves.{places_of_fresh}
 use Rattle.crash_safety.specs.LeafSteps.{AreSameLeaves, given_up as given_up_leaves}
-use Rattle.core_state.specs.Checkpoints.{IsFreezeRefused, after_refused, given_up}
-use Rattle.core_state.specs.Volumes.{IsVolume, Volume, node_stage_of}
-use Rattle.core_state.specs.declared.answer.Refusal.{Refusal}
-use Rattle.core_state.specs.declared.answer.Refusal.TheVariants as refusals
+use Rattle.core_volume.specs.Checkpoints.{IsFreezeRefused, after_refused, given_up}
+use Rattle.core_volume.specs.Volumes.{IsVolume, Volume, node_stage_of}
+use Rattle.core_actors.specs.declared.answer.Refusal.{Refusal}
+use Rattle.core_actors.specs.declared.answer.Refusal.TheVariants as refusals
 use Rattle.dev_model.specs.Devices.{DevicesState}
 use Rattle.journal_writer.specs.declared.stage.Stage.TheVariants.{Freeze}
 use Rattle.image_view.specs.Found.{Found}

@@ -10,11 +10,11 @@ use Rattle.dirty_nodes.specs.Ids.{id_trees}
 use Rattle.core_state.specs.Devices.{FlushesDevice, WritesEntry, WritesNode}
 use Rattle.core_state.specs.Events.{CommitGives, CommitNodesGives, EventGives, Fits, FlushGives, FreezeGives, HasIds, IsOfMemory, SealGives, SettleGives, Waits, WriteSetGives}
 use Rattle.core_state.specs.States.{IsState, State, other_holder}
-use Rattle.core_state.specs.Volumes.{IsFrozenKept, IsVolume, KeepParts, Volume}
-use Rattle.core_state.specs.declared.answer.Answer.{Answer}
-use Rattle.core_state.specs.declared.answer.Answer.TheVariants as answers
-use Rattle.core_state.specs.declared.event.Event.{Event}
-use Rattle.core_state.specs.declared.event.Event.TheVariants as events
+use Rattle.core_volume.specs.Volumes.{IsFrozenKept, IsVolume, KeepParts, Volume}
+use Rattle.core_actors.specs.declared.answer.Answer.{Answer}
+use Rattle.core_actors.specs.declared.answer.Answer.TheVariants as answers
+use Rattle.core_actors.specs.declared.event.Event.{Event}
+use Rattle.core_actors.specs.declared.event.Event.TheVariants as events
 use Rattle.dev_model.specs.Devices.{DevicesState, with_write_fault}
 use Rattle.dev_model.specs.FrameLaws.{go_on_by_write, go_on_here}
 use Rattle.dev_model.specs.Frames.{GoOn, after_writes}

@@ -10,8 +10,8 @@ use Rattle.birth_index.specs.Births.{levels_of}
 use Rattle.birth_index.specs.Exchanges.{HaveOneNode, one_node}
 use Rattle.crash_safety.specs.CheckpointLeaves.{FreshLeaf}
 use Rattle.crash_safety.specs.LeafSteps.{HoldBack}
-use Rattle.core_state.specs.HoldLaws.{pinned-each}
-use Rattle.core_state.specs.Volumes.{IsFlightHeld, IsFrozenKept, IsVolume, Volume, in_flight, undurable_in}
+use Rattle.core_volume.specs.HoldLaws.{pinned-each}
+use Rattle.core_volume.specs.Volumes.{IsFlightHeld, IsFrozenKept, IsVolume, Volume, in_flight, undurable_in}
 use Rattle.journal_writer.specs.Changes.{changes_btree}
 use Rattle.journal_writer.specs.Queues.{first_with, waiting_entries}
 use Rattle.journal_writer.specs.declared.changes.Pending.{Pending}

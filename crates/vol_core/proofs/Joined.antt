@@ -7,9 +7,9 @@ use Rattle.birth_index.specs.Exchanges.{HaveOneNode}
 use Rattle.btree_map.specs.Trees.{Trees, keys_in}
 use Rattle.crash_safety.specs.LeafSteps.{ArePinnedMore, PinsAsMuch}
 use Rattle.dirty_nodes.specs.Dirty.{changed_nodes, paths_of, with_pins}
-use Rattle.core_state.specs.Commits.{IsCommitted}
-use Rattle.core_state.specs.Rulings.{entry_of}
-use Rattle.core_state.specs.Volumes.{IsVolume, Volume, changes_in}
+use Rattle.core_volume.specs.Commits.{IsCommitted}
+use Rattle.core_volume.specs.Rulings.{entry_of}
+use Rattle.core_volume.specs.Volumes.{IsVolume, Volume, changes_in}
 use Rattle.dev_model.specs.Devices.{DevicesState}
 use Rattle.journal_writer.specs.Changes.{LeadTo, changes_of, changes_then, no_changes}
 use Rattle.journal_writer.specs.Queues.{Queue, closed_changes, closes, follower_of, joined, waiting}

@@ -4,11 +4,11 @@ use Rattle.std.proofs.Common.{◌≡◌, ◌≤◌, ℕ, length, true, false, Op
 use Rattle.core_state.specs.Devices.{FlushesDevice, WritesEntry, WritesNode}
 use Rattle.core_state.specs.Events.{FlushGives, WriteGives, WriteSetGives}
 use Rattle.core_state.specs.States.{IsState, State}
-use Rattle.core_state.specs.Volumes.{KeepParts, Volume, node_stage_of}
-use Rattle.core_state.specs.declared.answer.Answer.{Answer}
-use Rattle.core_state.specs.declared.answer.Answer.TheVariants as answers
-use Rattle.core_state.specs.declared.event.Event.{Event}
-use Rattle.core_state.specs.declared.event.Event.TheVariants as events
+use Rattle.core_volume.specs.Volumes.{KeepParts, Volume, node_stage_of}
+use Rattle.core_actors.specs.declared.answer.Answer.{Answer}
+use Rattle.core_actors.specs.declared.answer.Answer.TheVariants as answers
+use Rattle.core_actors.specs.declared.event.Event.{Event}
+use Rattle.core_actors.specs.declared.event.Event.TheVariants as events
 use Rattle.dev_model.specs.Devices.{DevicesState, now}
 use Rattle.dev_model.specs.Disk.{IsDisk}
 use Rattle.journal_writer.specs.declared.stage.Stage.TheVariants.{WriteSet}

@@ -25,7 +25,7 @@ use Rattle.bucket_pool.specs.Space.{Space}
 use Rattle.bucket_pool.specs.declared.bucket.Bucket.{Bucket}
 use Rattle.bucket_pool.specs.declared.bucket.State.{State}
 use Rattle.bucket_pool.specs.declared.bucket.State.TheVariants.{Free, Journal, Node, Opened, Retired, Super, User, Waiting}
-use Rattle.core_state.specs.Opening.{keys_of_buckets}
+use Rattle.core_volume.specs.Opening.{keys_of_buckets}
 use Rattle.key_meaning.specs.Checks.{count_in_bucket, is_in_bucket, live_of}
 use Rattle.key_meaning.specs.TableLaws.{same_key}
 use Rattle.vol_types.specs.KeyMaps.{Entries, IsKeyMap, KeyMap, entries_of, entries_within, key_of, keys_in, value_in}

@@ -1,6 +1,6 @@
 -- What is known of the last durable entry, and of the one in flight, hangs on some parts of a volume alone.
 use Rattle.std.proofs.Common.{◌≡◌, ℕ, Option, Some, None, sym, ap, ◌∙◌}
-use Rattle.core_state.specs.Volumes.{Volume}
+use Rattle.core_volume.specs.Volumes.{Volume}
 use Rattle.journal_writer.specs.Queues.{record_of}
 use Rattle.journal_writer.specs.declared.durable.Durable.{Durable}
 use Rattle.journal_writer.specs.declared.writer.Flight.{Flight}

@@ -9,7 +9,7 @@ use Rattle.btree_map.specs.Trees.{keys_in}
 use Rattle.bucket_pool.specs.NodeBuckets.{IsHeldPast, bucket_state}
 use Rattle.bucket_pool.specs.Space.{Space}
 use Rattle.bucket_pool.specs.declared.bucket.State.TheVariants.{User}
-use Rattle.core_state.specs.Volumes.{Volume, changes_in}
+use Rattle.core_volume.specs.Volumes.{Volume, changes_in}
 use Rattle.dev_model.specs.Devices.{DevicesState, now}
 use Rattle.dev_model.specs.Disk.{Image, IsCrashImage}
 use Rattle.journal_writer.specs.Changes.{LeadTo}

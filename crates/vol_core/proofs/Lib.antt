@@ -26,7 +26,7 @@ pub mod Surviving
 pub mod OtherBlock
 pub mod Spared
 pub mod WholeKept
-pub mod Sent
+pub mod Sendable
 pub mod Rested
 pub mod RingKept
 pub mod RingOpened

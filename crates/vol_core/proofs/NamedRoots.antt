@@ -3,7 +3,7 @@ use Rattle.std.proofs.Common.{◌≡◌, ◌≤◌, ℕ, List, [], ◌∷◌, le
 use Rattle.std.proofs.lemmas.Option.{none-some, same_Some}
 use Rattle.std.specs.Ordering.{nat_cmp}
 use Rattle.btree_map.specs.Sizes.{all_btrees}
-use Rattle.core_state.specs.HoldLaws.{least-found}
+use Rattle.core_volume.specs.HoldLaws.{least-found}
 use Rattle.node_writeback.specs.Due.{root_in, root_of}
 use Rattle.pin_list.specs.Pins.{least_pin, smaller}
 use Rattle.tree_nodes.specs.Levels.{Levels}

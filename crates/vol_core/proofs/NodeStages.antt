@@ -3,7 +3,7 @@ use Rattle.std.proofs.Common.{◌≡◌, ℕ, Bool, true, false, cond, Option, S
 use Rattle.std.proofs.lemmas.Option.{same_Some}
 use Rattle.std.specs.List.{filter}
 use Rattle.std.specs.Prelude.{◌==◌, slice_get}
-use Rattle.core_state.specs.Volumes.{Volume, birth_due, node_stage_by, node_stage_of}
+use Rattle.core_volume.specs.Volumes.{Volume, birth_due, node_stage_by, node_stage_of}
 use Rattle.journal_writer.specs.Writers.{first_flag, flush_before}
 use Rattle.journal_writer.specs.declared.stage.Stage.{Stage}
 use Rattle.journal_writer.specs.declared.stage.Stage.TheVariants.{CommitNodes, Freeze, Rest, WriteSet}

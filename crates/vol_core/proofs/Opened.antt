@@ -5,18 +5,19 @@ use Rattle.std.proofs.lemmas.List.Elements.{All-cons, All-nil}
 use Rattle.std.proofs.lemmas.Option.{same_Some, slice_get-get_or, slice_get_within}
 use Rattle.std.specs.Ordering.{nat_cmp}
 use Rattle.std.specs.Prelude.{All, slice_get}
+use Rattle.std.proofs.lemmas.Bool.{and_parts}
 use Rattle.btree_map.specs.Trees.{keys_in}
 use Rattle.bucket_pool.specs.NodeBuckets.{HoldsNode, MayHoldNode}
 use Rattle.crash_safety.specs.KeptLeaves.{HoldsOwn, KeepsLeaves}
-use Rattle.core_state.specs.Opening.{IsOpened, keys_of_buckets, opened_by}
+use Rattle.core_state.specs.Opening.{IsOpened}
+use Rattle.core_volume.specs.Opening.{keys_of_buckets, opened_by}
 use Rattle.core_state.specs.States.{State}
-use Rattle.core_state.specs.Volumes.{Volume}
+use Rattle.core_volume.specs.Volumes.{Volume}
 use Rattle.dev_model.specs.Devices.{DevicesState, now}
 use Rattle.dev_model.specs.Disk.{Image, IsDisk, as_read}
 use Rattle.journal_writer.specs.Changes.{no_changes}
 use Rattle.journal_writer.specs.declared.changes.KeyChanges.{KeyChanges}
 use Rattle.journal_writer.specs.Writers.{most_devices, starts_of, with_flags}
-use Rattle.geometry.specs.LayoutFacts.{both}
 use Rattle.geometry.specs.Layouts.{have_room, is_layout_of}
 use Rattle.image_view.specs.Found.{Found, found, node_places}
 use Rattle.journal_ring.specs.declared.found.FoundEntry.{FoundEntry}
@@ -124,5 +125,5 @@ opened_core laws of_found loaded memory begun start state opens starts layout is
     let some : 0 < length loaded.needed = omega (arith, within) in
     let volume : Volume = opened_by loaded.layout loaded.session loaded.map loaded.needed (node_places (found_in loaded)) is.volume.newest in
     let safe : IsCoreSafe (found_in loaded) state state volume =
-    opened_on laws of_found loaded is.volume.newest state (both (is_layout loaded.layout) (have_room loaded.layout.blocks state.sizes) layout).0 (last_found loaded.needed is.volume.newest some is.volume.last) some may disks in
+    opened_on laws of_found loaded is.volume.newest state (and_parts (is_layout loaded.layout) (have_room loaded.layout.blocks state.sizes) layout).0 (last_found loaded.needed is.volume.newest some is.volume.last) some may disks in
     subst (IsCoreSafe begun start state) (sym is.volume.is) (subst (λ (s : DevicesState). IsCoreSafe begun s state volume) starts (subst (λ (f : Found). IsCoreSafe f state state volume) opens safe))

@@ -3,7 +3,7 @@ use Rattle.std.proofs.Common.{ℕ, List, refl}
 use Rattle.birth_index.specs.Exchanges.{HaveOneNode}
 use Rattle.bucket_pool.specs.Space.{Space}
 use Rattle.crash_safety.specs.KeptLeaves.{KeepsLeaves}
-use Rattle.core_state.specs.Volumes.{Volume}
+use Rattle.core_volume.specs.Volumes.{Volume}
 use Rattle.dev_model.specs.Devices.{DevicesState}
 use Rattle.image_view.specs.Found.{Found}
 use Rattle.node_writeback.specs.NodeWork.{NodeWork}

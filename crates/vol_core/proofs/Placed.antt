@@ -11,8 +11,8 @@ use Rattle.bucket_pool.specs.Space.{emptied_all}
 use Rattle.crash_safety.specs.KeptLeaves.{KeepsLeaves}
 use Rattle.crash_safety.specs.CheckpointLeaves.{FreshLeaf, placed_pins, placed_roots, replaced_places}
 use Rattle.crash_safety.specs.LeafSteps.{AreSameLeaves, MayBePlaced, placed}
-use Rattle.core_state.specs.Checkpoints.{AreInPlace}
-use Rattle.core_state.specs.Volumes.{IsVolume, Volume, last_sealed}
+use Rattle.core_volume.specs.Checkpoints.{AreInPlace}
+use Rattle.core_volume.specs.Volumes.{IsVolume, Volume, last_sealed}
 use Rattle.dev_model.specs.Devices.{DevicesState, now}
 use Rattle.journal_writer.specs.Queues.{AreFollowed, first_of}
 use Rattle.journal_writer.specs.declared.changes.Pending.{Pending}
@@ -41,7 +41,7 @@ use Rattle.vol_core.specs.CoreLaws.{CoreLaws}
 use Rattle.vol_core.proofs.NodeStages.{none_left, placing_is}
 use Rattle.vol_core.proofs.OneNodes.{births_differ, root_born, root_named}
 use Rattle.vol_core.proofs.OtherLeaves.{NodesKnown, other_leaves_on, with_known}
-use Rattle.core_state.specs.Volumes.{KeepParts}
+use Rattle.core_volume.specs.Volumes.{KeepParts}
 use Rattle.vol_core.proofs.PlacedRoots.{IsLeftRoot, IsPlacedRoot, pairs_map, placed_or_left, replaced_are}
 use Rattle.vol_core.proofs.Stages.{clear_is_unset, flags_clear}
 

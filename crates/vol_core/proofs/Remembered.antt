@@ -2,18 +2,18 @@
 use Rattle.std.proofs.Common.{◌≡◌, ⊎_elim, ℕ, Option, Some, None, refl, sym, ap, subst}
 use Rattle.std.specs.Prelude.{◌≢◌}
 use Rattle.std.proofs.lemmas.List.{get_or-set_other}
-use Rattle.core_state.specs.Actors.{idle_actor}
-use Rattle.core_state.specs.Checkpoints.{after_refused}
+use Rattle.core_actors.specs.Actors.{idle_actor}
+use Rattle.core_volume.specs.Checkpoints.{after_refused}
 use Rattle.core_state.specs.Events.{EventGives, Waits}
 use Rattle.core_state.specs.States.{State, mine, other_holder, with_mine}
-use Rattle.core_state.specs.Volumes.{Volume}
-use Rattle.core_state.specs.declared.actor.Actor.{Actor}
-use Rattle.core_state.specs.declared.answer.Answer.{Answer}
-use Rattle.core_state.specs.declared.answer.Answer.TheVariants as answers
-use Rattle.core_state.specs.declared.answer.Refusal.{Refusal}
-use Rattle.core_state.specs.declared.answer.Refusal.TheVariants as refusals
-use Rattle.core_state.specs.declared.event.Event.{Event}
-use Rattle.core_state.specs.declared.event.Event.TheVariants as events
+use Rattle.core_volume.specs.Volumes.{Volume}
+use Rattle.core_actors.specs.declared.actor.Actor.{Actor}
+use Rattle.core_actors.specs.declared.answer.Answer.{Answer}
+use Rattle.core_actors.specs.declared.answer.Answer.TheVariants as answers
+use Rattle.core_actors.specs.declared.answer.Refusal.{Refusal}
+use Rattle.core_actors.specs.declared.answer.Refusal.TheVariants as refusals
+use Rattle.core_actors.specs.declared.event.Event.{Event}
+use Rattle.core_actors.specs.declared.event.Event.TheVariants as events
 use Rattle.dev_model.specs.Devices.{DevicesState}
 use Rattle.vol_types.specs.declared.layout.Layout.{Layout}
 use Rattle.vol_core.specs.Cores.{CoreState, StepGives}

@@ -1,7 +1,7 @@
 -- At rest after a checkpoint no node is dirty and the ring is free: what is kept of the ring says that whatever is pinned is the root of a btree and would
 -- be due, and that the one entry that is needed takes at most 64 blocks.
 use Rattle.std.proofs.Common.{◌≡◌, ◌≤◌, ◌<◌, ◌+◌, ◌-◌, ⊎_elim, ℕ, Bool, true, false, cond, not, List, [], ◌∷◌, ◌++◌, length, Option, Some, None, refl, sym, ap, subst, take, ◌∙◌, arith}
-use Rattle.std.proofs.lemmas.Bool.{cases_lt, eq-eqb, eqb-true, le-leb, lt-ltb, true≢false}
+use Rattle.std.proofs.lemmas.Bool.{and_from, cases_lt, eq-eqb, eqb-true, le-leb, lt-ltb, true≢false}
 use Rattle.std.proofs.lemmas.List.Elements.{All-cons, All-contains, All-nil}
 use Rattle.std.specs.List.{filter}
 use Rattle.std.specs.Ordering.{nat_cmp}
@@ -9,10 +9,10 @@ use Rattle.std.specs.Prelude.{◌&&◌, ◌||◌, ◌==◌, nat_lt, All, Contain
 use Rattle.birth_index.specs.Births.{levels_of}
 use Rattle.birth_index.specs.NameLaws.{birth_itself}
 use Rattle.btree_map.specs.Sizes.{all_btrees}
-use Rattle.core_state.specs.Commits.{AreIntended}
-use Rattle.core_state.specs.Rulings.{IsFull}
-use Rattle.core_state.specs.Sealing.{oldest_needed}
-use Rattle.core_state.specs.Volumes.{IsVolume, Volume, birth_due, can_let_go, last_sealed, needs_entry, node_stage_by}
+use Rattle.core_volume.specs.Commits.{AreIntended}
+use Rattle.core_volume.specs.Rulings.{IsFull}
+use Rattle.core_volume.specs.Sealing.{oldest_needed}
+use Rattle.core_volume.specs.Volumes.{IsVolume, Volume, birth_due, can_let_go, last_sealed, needs_entry, node_stage_by}
 use Rattle.dev_model.specs.Devices.{DevicesState}
 use Rattle.journal_writer.specs.Queues.{blocks_with, first_of, growth, last_block, oldest}
 use Rattle.journal_writer.specs.declared.changes.Pending.{Pending}
@@ -53,10 +53,6 @@ is_so false is = absurd (true≢false is)
 alone_false : (test : Bool) → (test && true) ≡ false → test ≡ false
 alone_false true is = absurd (true≢false is)
 alone_false false is = refl
-
-pub both_true : (one other : Bool) → one ≡ true → other ≡ true → (one && other) ≡ true
-both_true true other first second = second
-both_true false other first second = absurd (true≢false (sym first))
 
 -- A number that isn't below another one is at least that.
 at_least : (one other : ℕ) → nat_lt one other ≡ false → other ≤ one
@@ -199,7 +195,7 @@ module _ (begun : Found) (start state : DevicesState) (volume : Volume) (is : Is
       let alone : (length (levels_of volume.trees.nodes root.0) == 1) ≡ true = eq-eqb (length (levels_of volume.trees.nodes root.0)) 1 (ap (λ (levels : Levels). length levels) (root_alone_in volume.trees.nodes safe.one root.0)) in
       let up_to : is_pinned_up_to volume.writer.durable.sequence (value_at nat_cmp (root_in volume.trees.nodes root.0).birth volume.pins) ≡ true =
       ap (is_pinned_up_to volume.writer.durable.sequence) (ap (λ (b : ℕ). value_at nat_cmp b volume.pins) root.1 ∙ pinned) ∙ le-leb number volume.writer.durable.sequence most in
-      let due : is_due volume.writer.durable.sequence volume.trees.nodes volume.pins [] root.0 ≡ true = both_true _ _ alone up_to in
+      let due : is_due volume.writer.durable.sequence volume.trees.nodes volume.pins [] root.0 ≡ true = and_from _ _ alone up_to in
       let none : is_due volume.writer.durable.sequence volume.trees.nodes volume.pins [] root.0 ≡ false =
       ap (λ (finished : List FrozenNode). is_due volume.writer.durable.sequence volume.trees.nodes volume.pins finished root.0) (sym nodes_rest.1) ∙ none_due root.0 in
       true≢false (sym due ∙ none)

@@ -19,14 +19,14 @@ use Rattle.btree_map.specs.Sizes.{all_btrees}
 use Rattle.btree_map.specs.Trees.{Trees, keys_in}
 use Rattle.dirty_nodes.specs.Dirty.{birth_at, birth_in, changed_node, changed_nodes, moved_pin, paths_of, with_pins}
 use Rattle.dirty_nodes.specs.PinLaws.{rises-moved}
-use Rattle.core_state.specs.Checkpoints.{AreInPlace, IsLeafFrozen, after_refused, given_up, with_block}
-use Rattle.core_state.specs.Commits.{IsCommitted}
-use Rattle.core_state.specs.Rulings.{entry_of}
-use Rattle.core_state.specs.Sealing.{IsFlown, next_record, oldest_needed, roots_in, settled_volume, with_writer}
-use Rattle.core_state.specs.Volumes.{IsVolume, Volume, birth_due, halted_at, in_flight, last_sealed, needs_entry, node_stage_by, undurable_in}
-use Rattle.core_state.specs.declared.answer.Halt.{Halt}
-use Rattle.core_state.specs.declared.answer.Refusal.{Refusal}
-use Rattle.core_state.specs.declared.answer.Refusal.TheVariants as refusals
+use Rattle.core_volume.specs.Checkpoints.{AreInPlace, IsLeafFrozen, after_refused, given_up, with_block}
+use Rattle.core_volume.specs.Commits.{IsCommitted}
+use Rattle.core_volume.specs.Rulings.{entry_of}
+use Rattle.core_volume.specs.Sealing.{IsFlown, next_record, oldest_needed, roots_in, settled_volume, with_writer}
+use Rattle.core_volume.specs.Volumes.{IsVolume, Volume, birth_due, halted_at, in_flight, last_sealed, needs_entry, node_stage_by, undurable_in}
+use Rattle.core_actors.specs.declared.answer.Halt.{Halt}
+use Rattle.core_actors.specs.declared.answer.Refusal.{Refusal}
+use Rattle.core_actors.specs.declared.answer.Refusal.TheVariants as refusals
 use Rattle.dev_model.specs.Devices.{DevicesState}
 use Rattle.journal_writer.specs.Changes.{changes_btree, changes_of}
 use Rattle.journal_writer.specs.Queues.{Queue, blocks_with, closes, first_of, first_with, follower_of, head_length, joined, last_of, left_by, oldest, record_of, waiting_entries, with_commit, without_oldest}

@@ -1,6 +1,6 @@
 -- What is kept of the ring holds where a volume was opened: its pins are those of the needed entries, and the newest of these takes at most 64 blocks.
 use Rattle.std.proofs.Common.{◌≡◌, ◌≤◌, ◌<◌, ◌+◌, ◌-◌, ⊎_elim, ℕ, true, List, [], length, min, Some, Ok, refl, sym, ap, subst, ◌∙◌, arith}
-use Rattle.std.proofs.lemmas.Bool.{leb-true}
+use Rattle.std.proofs.lemmas.Bool.{and_parts, leb-true}
 use Rattle.std.proofs.lemmas.List.{get_or-map, length-map}
 use Rattle.std.proofs.lemmas.List.Elements.{All-contains}
 use Rattle.std.proofs.lemmas.Option.{cond_some, get_or_from_slice_get, none-some, slice_get_within}
@@ -9,13 +9,13 @@ use Rattle.std.specs.Prelude.{◌==◌, slice_get, slice_index_or}
 use Rattle.birth_index.specs.Exchanges.{HaveOneNode}
 use Rattle.btree_map.specs.Trees.{Trees}
 use Rattle.dirty_nodes.specs.Dirty.{changed_nodes, with_pins}
-use Rattle.core_state.specs.Opening.{IsOpened, opened_by, updates_in}
+use Rattle.core_state.specs.Opening.{IsOpened}
+use Rattle.core_volume.specs.Opening.{opened_by, updates_in}
 use Rattle.core_state.specs.States.{State}
-use Rattle.core_state.specs.Volumes.{Volume}
+use Rattle.core_volume.specs.Volumes.{Volume}
 use Rattle.dev_model.specs.Devices.{DevicesState, now}
 use Rattle.dev_model.specs.Disk.{Image, as_read}
 use Rattle.journal_writer.specs.Writers.{starts_of}
-use Rattle.geometry.specs.LayoutFacts.{both}
 use Rattle.geometry.specs.Layouts.{have_room, is_layout_of}
 use Rattle.image_view.specs.BaseLaws.{found-newest}
 use Rattle.image_view.specs.Found.{Found, found, node_places}
@@ -43,8 +43,8 @@ few_parts : (block : List ℕ) (head : Head) → opened block ≡ Some head → 
 unfolding opened
 few_parts block head is =
     let found = cond_some _ (head_in block) head is in
-    let ranges = (both _ _ (both _ _ found.0).0).1 in
-    let most : (head_in block).parts ≤ 64 = leb-true (head_in block).parts 64 (both _ _ (both _ _ ranges).0).1 in
+    let ranges = (and_parts _ _ (and_parts _ _ found.0).0).1 in
+    let most : (head_in block).parts ≤ 64 = leb-true (head_in block).parts 64 (and_parts _ _ (and_parts _ _ ranges).0).1 in
     subst (λ (h : Head). h.parts ≤ 64) found.1 most
 
 -- A whole entry takes at most 64 blocks.
@@ -108,6 +108,6 @@ opened_ring of_found loaded memory begun start state opens layout is begins safe
     let finds : found (as_read (now start)) ≡ Ok f = begins.ready.mended.found_on.on.finds ∙ ap (λ (g : Found). Ok g) (sym opens) in
     let same : last_of loaded.needed ≡ entry = get_or_from_slice_get loaded.needed (length loaded.needed - 1) entry no_entry is.volume.last in
     let order : entry.entry.oldest ≤ entry.entry.sequence = subst (λ (e : FoundEntry). e.entry.oldest ≤ e.entry.sequence) same (of_found.oldest (as_read (now start)) f finds) in
-    let few : entry.end ≤ entry.number + 64 = newest_is_few of_found (as_read (now start)) f entry finds (both (is_layout loaded.layout) (have_room loaded.layout.blocks state.sizes) layout).0 is.volume.last in
+    let few : entry.end ≤ entry.number + 64 = newest_is_few of_found (as_read (now start)) f entry finds (and_parts (is_layout loaded.layout) (have_room loaded.layout.blocks state.sizes) layout).0 is.volume.last in
     let one : HaveOneNode loaded.map.nodes = subst (λ (volume : Volume). HaveOneNode volume.trees.nodes) is.volume.is safe.one in
     subst KeepsRing (sym is.volume.is) (opened_ring_of loaded.layout loaded.session loaded.map loaded.needed (node_places f) entry one order few is.volume.last)

@@ -1,16 +1,16 @@
 -- What is kept of the ring, and of the room in it, stays so whatever event an actor makes.
 use Rattle.std.proofs.Common.{◌≡◌, ℕ, Bool, Option, Some, None, sym, ap, subst, ⊎_elim}
-use Rattle.core_state.specs.Checkpoints.{AreInPlace, IsLeafFrozen, after_refused, with_block}
+use Rattle.core_volume.specs.Checkpoints.{AreInPlace, IsLeafFrozen, after_refused, with_block}
 use Rattle.core_state.specs.Events.{CommitGives, CommitNodesGives, EventGives, FlushGives, FreezeGives, IsMade, SealGives, SettleGives, Waits, WriteGives, WriteSetGives, intended_by}
 use Rattle.core_state.specs.States.{IsState, State, other_holder}
-use Rattle.core_state.specs.Sealing.{IsFlown, settled_volume, with_writer}
-use Rattle.core_state.specs.Volumes.{KeepParts, Volume, halted_at, needs_entry}
-use Rattle.core_state.specs.declared.answer.Answer.{Answer}
-use Rattle.core_state.specs.declared.answer.Answer.TheVariants as answers
-use Rattle.core_state.specs.declared.answer.Halt.{Halt}
-use Rattle.core_state.specs.declared.answer.Refusal.{Refusal}
-use Rattle.core_state.specs.declared.event.Event.{Event}
-use Rattle.core_state.specs.declared.event.Event.TheVariants as events
+use Rattle.core_volume.specs.Sealing.{IsFlown, settled_volume, with_writer}
+use Rattle.core_volume.specs.Volumes.{KeepParts, Volume, halted_at, needs_entry}
+use Rattle.core_actors.specs.declared.answer.Answer.{Answer}
+use Rattle.core_actors.specs.declared.answer.Answer.TheVariants as answers
+use Rattle.core_actors.specs.declared.answer.Halt.{Halt}
+use Rattle.core_actors.specs.declared.answer.Refusal.{Refusal}
+use Rattle.core_actors.specs.declared.event.Event.{Event}
+use Rattle.core_actors.specs.declared.event.Event.TheVariants as events
 use Rattle.dev_model.specs.Devices.{DevicesState}
 use Rattle.journal_writer.specs.Writers.{unsettled_by, with_flushed, with_next_part}
 use Rattle.image_view.specs.Found.{Found}

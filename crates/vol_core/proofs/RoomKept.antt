@@ -1,6 +1,6 @@
 -- What is kept of the room in the ring stays so where each event happens: commits leave blocks free, and an entry without updates or commits of its own lets an older one go.
 use Rattle.std.proofs.Common.{◌≡◌, ◌≢◌, ◌≤◌, ◌<◌, ◌+◌, ◌-◌, ◌⊎◌, ⊎_elim, inl, inr, ℕ, zero, suc, Bool, true, false, cond, not, List, [], ◌∷◌, ◌++◌, drop, get_or, length, min, Option, Some, None, refl, sym, ap, subst, ◌∙◌, arith}
-use Rattle.std.proofs.lemmas.Bool.{cases_lt, eq-eqb, eqb-true, le-leb, leb-true, ltb-true, true≢false}
+use Rattle.std.proofs.lemmas.Bool.{and_from, and_parts, cases_lt, eq-eqb, eqb-true, le-leb, leb-true, ltb-true, true≢false}
 use Rattle.std.proofs.lemmas.Cmp.{nat_cmp_total}
 use Rattle.std.proofs.lemmas.List.{append-nil, length-append, length-map}
 use Rattle.std.proofs.lemmas.List.Elements.{All-append, All-cons, All-contains, All-head, All-nil, All-tail, All-weaker}
@@ -13,15 +13,15 @@ use Rattle.birth_index.specs.NameLaws.{birth_itself, one_birth}
 use Rattle.btree_map.specs.Sizes.{all_btrees}
 use Rattle.btree_map.specs.Trees.{IsTrees, Trees, keys_in}
 use Rattle.dirty_nodes.specs.Dirty.{changed_nodes, paths_of, with_pins}
-use Rattle.core_state.specs.Checkpoints.{AreInPlace, IsLeafFrozen, after_refused, given_up, with_block}
-use Rattle.core_state.specs.Commits.{IsCommitted}
-use Rattle.core_state.specs.HoldLaws.{pinned-each}
-use Rattle.core_state.specs.Rulings.{IsFull, entry_of, kept_blocks}
-use Rattle.core_state.specs.Sealing.{IsFlown, next_record, oldest_needed, settled_volume, with_writer}
-use Rattle.core_state.specs.Volumes.{IsFlightHeld, IsVolume, KeepParts, Volume, birth_due, can_let_go, commits_of, halted_at, in_flight, is_below, last_sealed, needed_by, needs_entry, node_stage_by, undurable_in}
-use Rattle.core_state.specs.declared.answer.Halt.{Halt}
-use Rattle.core_state.specs.declared.answer.Refusal.{Refusal}
-use Rattle.core_state.specs.declared.answer.Refusal.TheVariants as refusals
+use Rattle.core_volume.specs.Checkpoints.{AreInPlace, IsLeafFrozen, after_refused, given_up, with_block}
+use Rattle.core_volume.specs.Commits.{IsCommitted}
+use Rattle.core_volume.specs.HoldLaws.{pinned-each}
+use Rattle.core_volume.specs.Rulings.{IsFull, entry_of, kept_blocks}
+use Rattle.core_volume.specs.Sealing.{IsFlown, next_record, oldest_needed, settled_volume, with_writer}
+use Rattle.core_volume.specs.Volumes.{IsFlightHeld, IsVolume, KeepParts, Volume, birth_due, can_let_go, commits_of, halted_at, in_flight, is_below, last_sealed, needed_by, needs_entry, node_stage_by, undurable_in}
+use Rattle.core_actors.specs.declared.answer.Halt.{Halt}
+use Rattle.core_actors.specs.declared.answer.Refusal.{Refusal}
+use Rattle.core_actors.specs.declared.answer.Refusal.TheVariants as refusals
 use Rattle.dev_model.specs.Devices.{DevicesState}
 use Rattle.journal_writer.specs.Changes.{changes_of}
 use Rattle.journal_writer.specs.FirstLaws.{first-behind, waiting-behind}
@@ -60,7 +60,7 @@ use Rattle.vol_core.specs.Safety.{IsCoreSafe}
 use Rattle.vol_core.proofs.HeldLeaves.{root_alone_in}
 use Rattle.vol_core.proofs.NeededEntries.{starts_count}
 use Rattle.vol_core.proofs.NodeStages.{first_passes, freezing_is}
-use Rattle.vol_core.proofs.Rested.{both_true, each_is_one, map_none, none_passes, nothing_written}
+use Rattle.vol_core.proofs.Rested.{each_is_one, map_none, none_passes, nothing_written}
 use Rattle.vol_core.proofs.RingKept.{IsPlaced, IsUnmoved, all_finished, first_stays, frozen_leaves, none_left, oldest_joined, oldest_left, oldest_to, parts_are, placed_pinned, some_start}
 
 -- ---- starts that rise
@@ -333,11 +333,6 @@ least_above low pins rises each further above = by (least_pin pins) (some_oldest
 below : (low further : ℕ) (least : Option ℕ) → low < further → is_below low least ≡ true → low < smaller further least
 below low further None above is = above
 below low further (Some pin) above is = let less = ltb-true low pin is in omega (arith, above, less)
-
-and_parts : (one other : Bool) → (one && other) ≡ true → (one ≡ true) × (other ≡ true)
-and_parts true true is = (refl, refl)
-and_parts true false is = absurd (true≢false (sym is))
-and_parts false other is = absurd (true≢false (sym is))
 
 rest_seals_nothing : Rest ≡ Seal → ⊥
 rest_seals_nothing is = cc
@@ -817,7 +812,7 @@ module _ (places : PlaceLaws) (begun : Found) (start state : DevicesState) (volu
       let up_to : is_pinned_up_to volume.writer.durable.sequence (value_at nat_cmp (root_in volume.trees.nodes root.0).birth volume.pins) ≡ true =
       ap (is_pinned_up_to volume.writer.durable.sequence) (ap (λ (b : ℕ). value_at nat_cmp b volume.pins) root.1 ∙ unmoved.pinned) ∙ le-leb number volume.writer.durable.sequence most in
       let unfrozen : not (is_frozen volume.work.finished (root_in volume.trees.nodes root.0).birth) ≡ true = ap not (ap (is_frozen volume.work.finished) root.1 ∙ none_frozen volume.work.finished birth unmoved.apart) in
-      absurd (true≢false (sym (both_true _ _ one (both_true _ _ unfrozen up_to)) ∙ none_due root.0)))
+      absurd (true≢false (sym (and_from _ _ one (and_from _ _ unfrozen up_to)) ∙ none_due root.0)))
       (cases_lt volume.writer.durable.sequence number)
 
   -- What a leaf that is put in place pins then is newer than what the one before it pinned.

@@ -2,8 +2,8 @@
 use Rattle.std.proofs.Common.{◌≡◌, ◌≤◌, ◌+◌, [], ◌∷◌, ◌++◌, drop, Option, Some, None, ap, subst, arith}
 use Rattle.std.proofs.lemmas.Option.{none-some, same_Some}
 use Rattle.std.specs.Prelude.{IfSome, slice_index_or}
-use Rattle.core_state.specs.Rulings.{kept_blocks}
-use Rattle.core_state.specs.Volumes.{Volume}
+use Rattle.core_volume.specs.Rulings.{kept_blocks}
+use Rattle.core_volume.specs.Volumes.{Volume}
 use Rattle.dev_model.specs.Devices.{DevicesState}
 use Rattle.journal_writer.specs.Writers.{passed, settled_by}
 use Rattle.journal_writer.specs.declared.writer.Flight.{Flight}

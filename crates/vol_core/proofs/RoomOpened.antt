@@ -6,8 +6,9 @@ use Rattle.std.proofs.lemmas.List.Elements.{All-head, All-nil, All-tail}
 use Rattle.std.proofs.lemmas.Option.{get_or_from_slice_get, none-some, same_Some, slice_get_within}
 use Rattle.std.specs.Prelude.{All, slice_get, slice_index_or}
 use Rattle.btree_map.specs.Trees.{Trees}
-use Rattle.core_state.specs.Opening.{IsOpened, opened_by}
-use Rattle.core_state.specs.Rulings.{kept_blocks}
+use Rattle.core_state.specs.Opening.{IsOpened}
+use Rattle.core_volume.specs.Opening.{opened_by}
+use Rattle.core_volume.specs.Rulings.{kept_blocks}
 use Rattle.core_state.specs.States.{State}
 use Rattle.dev_model.specs.Devices.{DevicesState, now}
 use Rattle.dev_model.specs.Disk.{as_read}

@@ -7,8 +7,8 @@ use Rattle.btree_map.specs.Sizes.{all_btrees}
 use Rattle.btree_map.specs.Trees.{keys_in}
 use Rattle.crash_safety.specs.KeptLeaves.{KeepsLeaves}
 use Rattle.crash_safety.specs.LeafSteps.{IsNamed}
-use Rattle.core_state.specs.Sealing.{IsFlown, next_record, oldest_needed, roots_in}
-use Rattle.core_state.specs.Volumes.{IsVolume, Volume, changes_in, last_sealed, needs_entry}
+use Rattle.core_volume.specs.Sealing.{IsFlown, next_record, oldest_needed, roots_in}
+use Rattle.core_volume.specs.Volumes.{IsVolume, Volume, changes_in, last_sealed, needs_entry}
 use Rattle.dev_model.specs.Devices.{DevicesState, now}
 use Rattle.dev_model.specs.Disk.{as_read}
 use Rattle.journal_writer.specs.Changes.{LeadTo, no_changes}

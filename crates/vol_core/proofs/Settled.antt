@@ -6,8 +6,8 @@ use Rattle.btree_map.specs.Trees.{keys_in}
 use Rattle.bucket_pool.specs.Space.{settled_space}
 use Rattle.crash_safety.specs.KeptLeaves.{KeepsLeaves}
 use Rattle.crash_safety.specs.LeafSteps.{settled_leaves}
-use Rattle.core_state.specs.Sealing.{settled_volume, with_writer}
-use Rattle.core_state.specs.Volumes.{IsVolume, Volume, changes_in, needs_entry, stage_of}
+use Rattle.core_volume.specs.Sealing.{settled_volume, with_writer}
+use Rattle.core_volume.specs.Volumes.{IsVolume, Volume, changes_in, needs_entry, stage_of}
 use Rattle.dev_model.specs.Devices.{DevicesState, now}
 use Rattle.dev_model.specs.Disk.{as_read}
 use Rattle.journal_writer.specs.Changes.{LeadTo}

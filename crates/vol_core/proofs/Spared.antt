@@ -10,11 +10,11 @@ use Rattle.crash_safety.specs.CheckpointLeaves.{FreshLeaf}
 use Rattle.core_state.specs.Devices.{FlushesDevice, WritesEntry, WritesNode}
 use Rattle.core_state.specs.Events.{WriteGives}
 use Rattle.core_state.specs.States.{State}
-use Rattle.core_state.specs.Volumes.{KeepParts, Volume, stage_of}
-use Rattle.core_state.specs.declared.answer.Answer.{Answer}
-use Rattle.core_state.specs.declared.answer.Answer.TheVariants as answers
-use Rattle.core_state.specs.declared.event.Event.{Event}
-use Rattle.core_state.specs.declared.event.Event.TheVariants as events
+use Rattle.core_volume.specs.Volumes.{KeepParts, Volume, stage_of}
+use Rattle.core_actors.specs.declared.answer.Answer.{Answer}
+use Rattle.core_actors.specs.declared.answer.Answer.TheVariants as answers
+use Rattle.core_actors.specs.declared.event.Event.{Event}
+use Rattle.core_actors.specs.declared.event.Event.TheVariants as events
 use Rattle.dev_model.specs.CrashLaws.{goes_on_flush, left_itself, same_but_more, started}
 use Rattle.dev_model.specs.Crashes.{EachCrash, IsCrashImageBut}
 use Rattle.dev_model.specs.Devices.{DevicesState, IsFlush, now}

@@ -2,17 +2,17 @@
 use Rattle.std.proofs.Common.{◌≡◌, ℕ, List, [], Bool, true, false, Option, Some, None, Result, Ok, Err, refl, sym, ap, subst, ◌∙◌, ⊎_elim}
 use Rattle.std.proofs.lemmas.List.Elements.{All-nil}
 use Rattle.std.specs.Prelude.{All, IfSome, unwrap_or}
-use Rattle.core_state.specs.Commits.{AreIntended}
+use Rattle.core_volume.specs.Commits.{AreIntended}
 use Rattle.core_state.specs.Events.{EventGives, FlushGives, IsOfMemory, Waits, WriteGives, WriteSetGives}
 use Rattle.core_state.specs.Devices.{FlushesDevice, WritesEntry, WritesNode}
-use Rattle.core_state.specs.HoldLaws.{needed-between}
+use Rattle.core_volume.specs.HoldLaws.{needed-between}
 use Rattle.core_state.specs.States.{IsState, State, mine, other_holder}
-use Rattle.core_state.specs.Volumes.{node_stage_of}
-use Rattle.core_state.specs.declared.answer.Answer.{Answer}
-use Rattle.core_state.specs.declared.answer.Answer.TheVariants as answers
-use Rattle.core_state.specs.declared.answer.Refusal.{Refusal}
-use Rattle.core_state.specs.declared.event.Event.{Event}
-use Rattle.core_state.specs.declared.event.Event.TheVariants as events
+use Rattle.core_volume.specs.Volumes.{node_stage_of}
+use Rattle.core_actors.specs.declared.answer.Answer.{Answer}
+use Rattle.core_actors.specs.declared.answer.Answer.TheVariants as answers
+use Rattle.core_actors.specs.declared.answer.Refusal.{Refusal}
+use Rattle.core_actors.specs.declared.event.Event.{Event}
+use Rattle.core_actors.specs.declared.event.Event.TheVariants as events
 use Rattle.dev_model.specs.Devices.{DevicesState, now}
 use Rattle.dev_model.specs.Disk.{IsDisk}
 use Rattle.journal_writer.specs.Writes.{WritesPart}
@@ -39,7 +39,7 @@ use Rattle.vol_core.proofs.Frozen.{frozen_on}
 use Rattle.vol_core.proofs.GivenUp.{unfrozen_on}
 use Rattle.vol_core.proofs.Joined.{committed_on}
 use Rattle.vol_core.proofs.NodeStages.{writing_is}
-use Rattle.core_state.specs.Volumes.{KeepParts}
+use Rattle.core_volume.specs.Volumes.{KeepParts}
 use Rattle.vol_core.proofs.Placed.{placed_on}
 use Rattle.vol_core.proofs.Sealed.{flown_on}
 use Rattle.vol_core.proofs.Settled.{settled_on}

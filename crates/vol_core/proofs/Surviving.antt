@@ -1,6 +1,6 @@
 -- What a crash leaves of a safe core.
 use Rattle.std.proofs.Common.{◌<◌, ℕ, List, Option, length, slice_index_or, sym, subst}
-use Rattle.core_state.specs.Volumes.{Volume}
+use Rattle.core_volume.specs.Volumes.{Volume}
 use Rattle.dev_model.specs.Devices.{DevicesState, now}
 use Rattle.dev_model.specs.Disk.{Image, IsCrashImage}
 use Rattle.image_view.specs.Found.{Found}

@@ -5,9 +5,9 @@ use Rattle.std.proofs.Math.Nat.{mod-lt}
 use Rattle.std.proofs.lemmas.Option.{same_Some}
 use Rattle.std.specs.Prelude.{IfSome, slice_index_or}
 use Rattle.core_state.specs.States.{IsState}
-use Rattle.core_state.specs.Volumes.{IsVolume, KeepParts, Volume, needs_entry}
-use Rattle.core_state.specs.declared.answer.Answer.{Answer}
-use Rattle.core_state.specs.declared.event.Event.{Event}
+use Rattle.core_volume.specs.Volumes.{IsVolume, KeepParts, Volume, needs_entry}
+use Rattle.core_actors.specs.declared.answer.Answer.{Answer}
+use Rattle.core_actors.specs.declared.event.Event.{Event}
 use Rattle.dev_model.specs.Crashes.{SameBut}
 use Rattle.dev_model.specs.Devices.{DevicesState, now}
 use Rattle.dev_model.specs.Disk.{Image, IsCrashImage, block_at}

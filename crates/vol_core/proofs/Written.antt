@@ -4,9 +4,9 @@ use Rattle.std.proofs.Common.{◌≡◌, ◌≤◌, ◌<◌, ◌+◌, ℕ, Bool,
 use Rattle.std.proofs.lemmas.List.{length-append, length-drop, length-replicate, length-set}
 use Rattle.std.specs.Prelude.{All}
 use Rattle.crash_safety.specs.KeptLeaves.{KeepsLeaves}
-use Rattle.core_state.specs.Sealing.{with_writer}
-use Rattle.core_state.specs.Volumes.{IsVolume, Volume, halted_at, needs_entry, stage_of}
-use Rattle.core_state.specs.declared.answer.Halt.{Halt}
+use Rattle.core_volume.specs.Sealing.{with_writer}
+use Rattle.core_volume.specs.Volumes.{IsVolume, Volume, halted_at, needs_entry, stage_of}
+use Rattle.core_actors.specs.declared.answer.Halt.{Halt}
 use Rattle.dev_model.specs.Devices.{DevicesState, now}
 use Rattle.dev_model.specs.Disk.{IsDisk}
 use Rattle.journal_writer.specs.Writers.{Writer, stage_by, unsettled_by, with_flags}

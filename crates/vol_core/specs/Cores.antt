@@ -4,9 +4,9 @@ use Rattle.dev_model.specs.Devices.{DevicesState}
 use Rattle.core_state.specs.Devices.{FlushesDevice, WritesEntry, WritesNode}
 use Rattle.core_state.specs.Events.{EventGives, FlushGives, WriteGives, WriteSetGives}
 use Rattle.core_state.specs.States.{State}
-use Rattle.core_state.specs.declared.answer.Answer.{Answer}
-use Rattle.core_state.specs.declared.event.Event.{Event}
-use Rattle.core_state.specs.declared.event.Event.TheVariants as events
+use Rattle.core_actors.specs.declared.answer.Answer.{Answer}
+use Rattle.core_actors.specs.declared.event.Event.{Event}
+use Rattle.core_actors.specs.declared.event.Event.TheVariants as events
 use Rattle.geometry.specs.Layouts.{is_layout_of}
 use Rattle.image_view.specs.Found.{Found}
 use Rattle.vol_core.specs.KeptFiles.{KeepsFilesIf}

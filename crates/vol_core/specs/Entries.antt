@@ -1,7 +1,7 @@
 -- The entries of the journal as they are known in memory: those that the last durable one needs, the one that is written, and those that
 -- wait.
 use Rattle.std.specs.Prelude.{◌≡◌, ◌≤◌, ◌<◌, ◌+◌, ℕ, Option, Some, None, List, [], ◌∷◌, ◌++◌, All, length, ⊤}
-use Rattle.core_state.specs.Volumes.{Volume}
+use Rattle.core_volume.specs.Volumes.{Volume}
 use Rattle.journal_writer.specs.Queues.{record_of}
 use Rattle.journal_writer.specs.declared.changes.KeyChanges.{KeyChanges}
 use Rattle.journal_writer.specs.declared.writer.Flight.{Flight}

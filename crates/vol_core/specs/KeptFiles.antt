@@ -3,7 +3,7 @@ use Rattle.std.specs.Prelude.{◌≡◌, ℕ, Some}
 use Rattle.bucket_pool.specs.NodeBuckets.{bucket_state}
 use Rattle.bucket_pool.specs.Space.{Space}
 use Rattle.bucket_pool.specs.declared.bucket.State.TheVariants.{User}
-use Rattle.core_state.specs.Volumes.{Volume}
+use Rattle.core_volume.specs.Volumes.{Volume}
 use Rattle.dev_model.specs.Devices.{DevicesState, now}
 use Rattle.dev_model.specs.Disk.{Image, IsCrashImage}
 use Rattle.image_view.specs.Found.{Found}

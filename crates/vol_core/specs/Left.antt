@@ -2,9 +2,9 @@
 -- with the blocks of files as they were when the session began.
 use Rattle.std.specs.Prelude.{◌≡◌, ◌≢◌, ◌⊎◌, ◌/◌, ◌<◌, ◌≤◌, ℕ, Option, Some, None, Ok, ◌++◌, All, length, slice_index_or}
 use Rattle.btree_map.specs.Trees.{keys_in}
-use Rattle.core_state.specs.Volumes.{Volume, changes_in}
-use Rattle.core_state.specs.declared.answer.Answer.{Answer}
-use Rattle.core_state.specs.declared.answer.Answer.TheVariants.{DeviceFault}
+use Rattle.core_volume.specs.Volumes.{Volume, changes_in}
+use Rattle.core_actors.specs.declared.answer.Answer.{Answer}
+use Rattle.core_actors.specs.declared.answer.Answer.TheVariants.{DeviceFault}
 use Rattle.dev_model.specs.Devices.{DevicesState, now}
 use Rattle.dev_model.specs.Disk.{Image, IsCrashImage, as_read, block_at}
 use Rattle.journal_writer.specs.Changes.{LeadTo}

@@ -2,10 +2,10 @@
 -- every event keeps of the ring, from which that follows.
 use Rattle.std.specs.Prelude.{◌≡◌, ℕ, ◌+◌, ◌-◌, ◌≤◌, ◌==◌, if◌then◌else◌, ⊤, Option, Some, None, List, [], ◌∷◌, length, slice_index_or}
 use Rattle.std.specs.Ordering.{nat_cmp}
-use Rattle.core_state.specs.Commits.{AreIntended}
-use Rattle.core_state.specs.Rulings.{IsFull}
-use Rattle.core_state.specs.Sealing.{oldest_needed}
-use Rattle.core_state.specs.Volumes.{Volume, node_stage_of, stage_of}
+use Rattle.core_volume.specs.Commits.{AreIntended}
+use Rattle.core_volume.specs.Rulings.{IsFull}
+use Rattle.core_volume.specs.Sealing.{oldest_needed}
+use Rattle.core_volume.specs.Volumes.{Volume, node_stage_of, stage_of}
 use Rattle.dev_model.specs.Devices.{DevicesState, now}
 use Rattle.journal_writer.specs.Queues.{Queue, first_of, last_of, oldest}
 use Rattle.journal_writer.specs.declared.changes.Pending.{Pending}

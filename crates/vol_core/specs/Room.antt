@@ -1,9 +1,9 @@
 -- Room in the ring of the journal: how much of it what was found leaves free, and what every event keeps of that, so that the next entry finds room.
 use Rattle.std.specs.Prelude.{◌≡◌, ◌⊎◌, ℕ, ◌+◌, ◌<◌, ◌≤◌, ◌==◌, ◌||◌, not, ⊤, Bool, true, Some, None, List, [], ◌∷◌, All, length, slice_index_or}
 use Rattle.std.specs.Ordering.{nat_cmp}
-use Rattle.core_state.specs.Rulings.{kept_blocks}
-use Rattle.core_state.specs.Sealing.{next_record}
-use Rattle.core_state.specs.Volumes.{Volume, commits_of}
+use Rattle.core_volume.specs.Rulings.{kept_blocks}
+use Rattle.core_volume.specs.Sealing.{next_record}
+use Rattle.core_volume.specs.Volumes.{Volume, commits_of}
 use Rattle.dev_model.specs.Devices.{DevicesState, now}
 use Rattle.journal_writer.specs.Queues.{last_block, oldest}
 use Rattle.journal_writer.specs.Writers.{HasRoom, settled}

@@ -4,7 +4,7 @@ use Rattle.std.specs.Prelude.{◌≡◌, ◌<◌, ◌≤◌, ◌+◌, ℕ, Optio
 use Rattle.birth_index.specs.Exchanges.{HaveOneNode}
 use Rattle.btree_map.specs.Trees.{keys_in}
 use Rattle.crash_safety.specs.KeptLeaves.{KeepsLeaves}
-use Rattle.core_state.specs.Volumes.{Volume, changes_in}
+use Rattle.core_volume.specs.Volumes.{Volume, changes_in}
 use Rattle.dev_model.specs.Devices.{DevicesState, now}
 use Rattle.dev_model.specs.Disk.{Disk, Image, IsCrashImage}
 use Rattle.journal_writer.specs.Changes.{LeadTo}

@@ -2,7 +2,7 @@
 use Rattle.std.specs.Prelude.{ℕ, Option, Some, None, List, [], ◌∷◌, ◌++◌, map}
 use Rattle.std.specs.Ordering.{nat_cmp}
 use Rattle.crash_safety.specs.CheckpointLeaves.{FreshLeaf, Leaves}
-use Rattle.core_state.specs.Volumes.{Volume}
+use Rattle.core_volume.specs.Volumes.{Volume}
 use Rattle.node_writeback.specs.Due.{root_in}
 use Rattle.node_writeback.specs.NodeWork.{NodeWork}
 use Rattle.node_writeback.specs.declared.node.FrozenNode.{FrozenNode}

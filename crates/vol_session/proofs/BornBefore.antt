@@ -10,7 +10,7 @@ use Rattle.birth_index.specs.Exchanges.{AreApart, AreExchanges, IsExchange, exch
 use Rattle.birth_index.specs.NameLaws.{names_apart, one_name, same_name}
 use Rattle.birth_index.specs.declared.name.Exchange.{Exchange}
 use Rattle.birth_index.specs.declared.name.NodeName.{NodeName}
-use Rattle.core_state.specs.Volumes.{IsFrozenKept, IsWorkKept, Volume}
+use Rattle.core_volume.specs.Volumes.{IsFrozenKept, IsWorkKept, Volume}
 use Rattle.node_writeback.specs.Freezing.{next_birth}
 use Rattle.node_writeback.specs.Placing.{AreFrozenLeaves, exchange_of, exchanges_of}
 use Rattle.node_writeback.specs.NodeWork.{frozen_nodes, left_nodes}

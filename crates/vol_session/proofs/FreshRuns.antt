@@ -3,7 +3,7 @@ use Rattle.std.proofs.Common.{◌≡◌, ℕ, List, [], refl, arith}
 use Rattle.std.specs.Prelude.{All, Contains}
 use Rattle.std.specs.List.{range_with_len}
 use Rattle.std.proofs.lemmas.List.Elements.{All-cons, All-contains_itself, All-map, All-nil, All-weaker}
-use Rattle.core_state.specs.Rulings.{kept_blocks}
+use Rattle.core_volume.specs.Rulings.{kept_blocks}
 use Rattle.image_view.specs.Found.{node_places}
 use Rattle.image_view.specs.UpdatedTrees.{IsOfLeaf}
 use Rattle.journal_ring.specs.declared.found.FoundEntry.{FoundEntry}

@@ -2,7 +2,7 @@
 use Rattle.std.proofs.Common.{◌≡◌, ◌<◌, ◌≤◌, ℕ, List, Result, Ok, Err, length, refl, sym, ap, ◌∙◌, subst, arith}
 use Rattle.std.specs.Prelude.{IfSome}
 use Rattle.core_state.specs.States.{State}
-use Rattle.core_state.specs.Volumes.{Volume}
+use Rattle.core_volume.specs.Volumes.{Volume}
 use Rattle.dev_model.specs.Devices.{DevicesState, FaultCounts}
 use Rattle.dev_model.specs.FrameLaws.{go_on_here, go_on_then}
 use Rattle.dev_model.specs.Frames.{after_writes}

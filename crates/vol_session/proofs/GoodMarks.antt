@@ -6,7 +6,7 @@ use Rattle.std.proofs.lemmas.List.{length-append}
 use Rattle.std.proofs.lemmas.Option.{same_Some, slice_get-get_or, slice_get_within}
 use Rattle.std.specs.Prelude.{◌&&◌, ◌==◌, ◌≢◌, All, slice_get}
 use Rattle.btree_map.specs.Trees.{keys_in}
-use Rattle.core_state.specs.Volumes.{Volume, commits_of as commits_since}
+use Rattle.core_volume.specs.Volumes.{Volume, commits_of as commits_since}
 use Rattle.dev_model.specs.Devices.{DevicesState, now}
 use Rattle.dev_model.specs.Disk.{as_read}
 use Rattle.forest_ops.specs.History.{History, after_all, after_commits, commit_count, is_commit}

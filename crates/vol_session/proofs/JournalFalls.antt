@@ -9,8 +9,8 @@ use Rattle.journal_writer.specs.Writers.{Writer, settled_by, with_entry, with_fl
 use Rattle.journal_writer.specs.declared.durable.Durable.{Durable}
 use Rattle.journal_writer.specs.declared.writer.Flight.{Flight}
 use Rattle.pin_list.specs.Pins.{least_pin, smaller}
-use Rattle.core_state.specs.Sealing.{IsFlown, oldest_needed, settled_volume, with_writer}
-use Rattle.core_state.specs.Volumes.{Volume, can_let_go, commits_of, is_below, needs_entry}
+use Rattle.core_volume.specs.Sealing.{IsFlown, oldest_needed, settled_volume, with_writer}
+use Rattle.core_volume.specs.Volumes.{Volume, can_let_go, commits_of, is_below, needs_entry}
 use Rattle.vol_session.specs.Left.{entries_left, flags_left, newest, nodes_left, owes_entry, parts_left, weighed, works_left}
 use Rattle.vol_session.proofs.Flags.{few_flags, one_flag_less}
 

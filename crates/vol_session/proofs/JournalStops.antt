@@ -4,13 +4,13 @@ use Rattle.std.proofs.lemmas.Option.{same_Some, none-some as none_some}
 use Rattle.std.specs.Prelude.{IfErr, ⊤, ◌==◌, length, take}
 use Rattle.core_state.specs.Events.{FlushGives, IsHalted, SealGives, SettleGives, WriteGives}
 use Rattle.core_state.specs.States.{State}
-use Rattle.core_state.specs.Volumes.{Volume, needs_entry, stage_of}
-use Rattle.core_state.specs.declared.answer.Answer.{Answer}
-use Rattle.core_state.specs.declared.answer.Answer.TheVariants as answers
-use Rattle.core_state.specs.declared.answer.Refusal.{Refusal}
-use Rattle.core_state.specs.declared.answer.Refusal.TheVariants as refusals
-use Rattle.core_state.specs.declared.event.Event.{Event}
-use Rattle.core_state.specs.declared.event.Event.TheVariants as events
+use Rattle.core_volume.specs.Volumes.{Volume, needs_entry, stage_of}
+use Rattle.core_actors.specs.declared.answer.Answer.{Answer}
+use Rattle.core_actors.specs.declared.answer.Answer.TheVariants as answers
+use Rattle.core_actors.specs.declared.answer.Refusal.{Refusal}
+use Rattle.core_actors.specs.declared.answer.Refusal.TheVariants as refusals
+use Rattle.core_actors.specs.declared.event.Event.{Event}
+use Rattle.core_actors.specs.declared.event.Event.TheVariants as events
 use Rattle.dev_model.specs.Devices.{DevicesState}
 use Rattle.journal_writer.specs.Writers.{Writer, first_flag, flush_before, stage_by}
 use Rattle.journal_writer.specs.declared.stage.Stage.{Stage}

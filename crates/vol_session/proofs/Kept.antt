@@ -6,13 +6,14 @@ use Rattle.std.proofs.lemmas.Option.{same_Some, slice_get-get_or, slice_get_with
 use Rattle.std.specs.Prelude.{All, slice_get}
 use Rattle.btree_map.specs.KeyLaws.{key_map-trees}
 use Rattle.btree_map.specs.Trees.{keys_in}
-use Rattle.core_state.specs.Commits.{IsCommitted}
+use Rattle.core_volume.specs.Commits.{IsCommitted}
 use Rattle.core_state.specs.Events.{CommitGives, IsMade, intended_by}
-use Rattle.core_state.specs.Opening.{IsOpened, opened_by}
+use Rattle.core_state.specs.Opening.{IsOpened}
+use Rattle.core_volume.specs.Opening.{opened_by}
 use Rattle.core_state.specs.States.{State}
-use Rattle.core_state.specs.declared.answer.Answer.{Answer}
-use Rattle.core_state.specs.declared.answer.Answer.TheVariants as answers
-use Rattle.core_state.specs.Volumes.{IsVolume, KeepParts, Volume, are_durable, changes_in}
+use Rattle.core_actors.specs.declared.answer.Answer.{Answer}
+use Rattle.core_actors.specs.declared.answer.Answer.TheVariants as answers
+use Rattle.core_volume.specs.Volumes.{IsVolume, KeepParts, Volume, are_durable, changes_in}
 use Rattle.dev_model.specs.Devices.{DevicesState, now}
 use Rattle.dev_model.specs.Disk.{as_read}
 use Rattle.dev_model.specs.FrameLaws.{go_on_here, go_on_then}

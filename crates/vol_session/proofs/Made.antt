@@ -12,19 +12,19 @@ use Rattle.journal_writer.specs.declared.stage.Stage.TheVariants as stages
 use Rattle.journal_writer.specs.declared.writer.Flight.{Flight}
 use Rattle.node_writeback.specs.Durable.{undurable}
 use Rattle.vol_types.specs.declared.keys.Update.{Update}
-use Rattle.core_state.specs.Actors.{idle_actor, noted, told_of, with_fault}
-use Rattle.core_state.specs.Checkpoints.{IsFreezeRefused, IsPlacingRefused, after_refused, given_up}
+use Rattle.core_actors.specs.Actors.{idle_actor, noted, told_of, with_fault}
+use Rattle.core_volume.specs.Checkpoints.{IsFreezeRefused, IsPlacingRefused, after_refused, given_up}
 use Rattle.core_state.specs.Events.{CommitNodesGives, FlushGives, FreezeGives, IsHalted, IsToldOf, SealGives, SettleGives, WriteGives, WriteSetGives}
-use Rattle.core_state.specs.Sealing.{IsSealRefused, settled_volume}
+use Rattle.core_volume.specs.Sealing.{IsSealRefused, settled_volume}
 use Rattle.core_state.specs.States.{IsState, State, mine, with_mine}
-use Rattle.core_state.specs.Volumes.{Volume, are_durable, commits_of, first_halt, has_no_updates, in_flight, is_exhausted, last_sealed, none_waits, node_stage_of, stage_of, undurable_in}
-use Rattle.core_state.specs.declared.actor.Actor.{Actor}
-use Rattle.core_state.specs.declared.answer.Answer.{Answer}
-use Rattle.core_state.specs.declared.answer.Answer.TheVariants as answers
-use Rattle.core_state.specs.declared.answer.Halt.{Halt}
-use Rattle.core_state.specs.declared.answer.NoSpace.{NoSpace}
-use Rattle.core_state.specs.declared.answer.Refusal.{Refusal}
-use Rattle.core_state.specs.declared.answer.Refusal.TheVariants as refusals
+use Rattle.core_volume.specs.Volumes.{Volume, are_durable, commits_of, first_halt, has_no_updates, in_flight, is_exhausted, last_sealed, none_waits, node_stage_of, stage_of, undurable_in}
+use Rattle.core_actors.specs.declared.actor.Actor.{Actor}
+use Rattle.core_actors.specs.declared.answer.Answer.{Answer}
+use Rattle.core_actors.specs.declared.answer.Answer.TheVariants as answers
+use Rattle.core_actors.specs.declared.answer.Halt.{Halt}
+use Rattle.core_actors.specs.declared.answer.NoSpace.{NoSpace}
+use Rattle.core_actors.specs.declared.answer.Refusal.{Refusal}
+use Rattle.core_actors.specs.declared.answer.Refusal.TheVariants as refusals
 use Rattle.vol_session.specs.Rounds.{IsOfDue, outcome_of, stop_of}
 use Rattle.vol_session.specs.Writeback.{KeepsKeys, KeepsTransaction, StopsWith}
 use Rattle.vol_session.proofs.Resting.{IsQuiet}

@@ -2,7 +2,7 @@
 use Rattle.std.proofs.Common.{◌≡◌, ◌≤◌, ◌+◌, ℕ, Bool, true, false, cond, Option, Some, None, List, [], ◌∷◌, ◌++◌, length, refl, sym, ap, subst, ◌∙◌, arith}
 use Rattle.std.proofs.lemmas.List.{length-append, map-append}
 use Rattle.std.specs.Prelude.{⊤, slice_get}
-use Rattle.core_state.specs.Volumes.{changes_in, in_flight}
+use Rattle.core_volume.specs.Volumes.{changes_in, in_flight}
 use Rattle.journal_writer.specs.ChangeLaws.{all_made-append}
 use Rattle.journal_writer.specs.Changes.{LeadTo, all_made, changes_of}
 use Rattle.journal_writer.specs.Queues.{Queue, closed_changes, closes, first_of, follower_of, joined, left_by, oldest, waiting, waiting_entries, with_commit, without_oldest}

@@ -1,8 +1,8 @@
 -- The marks stand as they did, and commits don't fall, whatever an event does that commits nothing.
 use Rattle.std.proofs.Common.{◌≡◌, ◌≤◌, ℕ, Option, Some, None, List, [], ◌∷◌, refl, sym, ap, subst, ◌∙◌, ⊎_elim, arith}
 use Rattle.btree_map.specs.Trees.{keys_in}
-use Rattle.core_state.specs.Sealing.{IsFlown, oldest_needed, settled_volume}
-use Rattle.core_state.specs.Volumes.{Volume, commits_of}
+use Rattle.core_volume.specs.Sealing.{IsFlown, oldest_needed, settled_volume}
+use Rattle.core_volume.specs.Volumes.{Volume, commits_of}
 use Rattle.journal_writer.specs.Queues.{AreFollowed, Queue, first_of, left_by, oldest, without_oldest}
 use Rattle.journal_writer.specs.declared.changes.Pending.{Pending}
 use Rattle.journal_writer.specs.Writers.{Writer, settled_by}

@@ -2,18 +2,18 @@
 use Rattle.std.proofs.Common.{◌≡◌, ◌⊎◌, inl, inr, ℕ, Bool, true, false, cond, Option, Some, None, refl, sym, ap, subst, ⊎_elim}
 use Rattle.std.specs.Prelude.{◌==◌, length, take}
 use Rattle.btree_map.specs.Trees.{keys_in}
-use Rattle.core_state.specs.Checkpoints.{after_refused}
+use Rattle.core_volume.specs.Checkpoints.{after_refused}
 use Rattle.core_state.specs.Events.{CommitNodesGives, EventGives, FlushGives, FreezeGives, SealGives, SettleGives, Waits, WriteGives, WriteSetGives}
-use Rattle.core_state.specs.Sealing.{IsFlown, settled_volume, with_writer}
+use Rattle.core_volume.specs.Sealing.{IsFlown, settled_volume, with_writer}
 use Rattle.core_state.specs.States.{State, other_holder}
-use Rattle.core_state.specs.Volumes.{Volume, halted_at, needs_entry}
-use Rattle.core_state.specs.declared.answer.Answer.{Answer}
-use Rattle.core_state.specs.declared.answer.Answer.TheVariants as answers
-use Rattle.core_state.specs.declared.answer.Halt.{Halt}
-use Rattle.core_state.specs.declared.answer.Refusal.{Refusal}
-use Rattle.core_state.specs.declared.answer.Refusal.TheVariants as refusals
-use Rattle.core_state.specs.declared.event.Event.{Event}
-use Rattle.core_state.specs.declared.event.Event.TheVariants as events
+use Rattle.core_volume.specs.Volumes.{Volume, halted_at, needs_entry}
+use Rattle.core_actors.specs.declared.answer.Answer.{Answer}
+use Rattle.core_actors.specs.declared.answer.Answer.TheVariants as answers
+use Rattle.core_actors.specs.declared.answer.Halt.{Halt}
+use Rattle.core_actors.specs.declared.answer.Refusal.{Refusal}
+use Rattle.core_actors.specs.declared.answer.Refusal.TheVariants as refusals
+use Rattle.core_actors.specs.declared.event.Event.{Event}
+use Rattle.core_actors.specs.declared.event.Event.TheVariants as events
 use Rattle.dev_model.specs.Devices.{DevicesState}
 use Rattle.journal_writer.specs.Writers.{Writer, first_flag, flush_before, stage_by, unsettled_by}
 use Rattle.journal_writer.specs.declared.stage.Stage.{Stage}

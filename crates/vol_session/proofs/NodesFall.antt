@@ -18,8 +18,8 @@ use Rattle.journal_writer.specs.Queues.{count_of, first_with}
 use Rattle.journal_writer.specs.Changes.{changes_btree}
 use Rattle.journal_writer.specs.declared.changes.Pending.{Pending}
 use Rattle.bucket_pool.specs.Space.{Space, noded}
-use Rattle.core_state.specs.Checkpoints.{AreInPlace, IsLeafFrozen, with_block}
-use Rattle.core_state.specs.Volumes.{Volume, birth_due, in_flight, undurable_in}
+use Rattle.core_volume.specs.Checkpoints.{AreInPlace, IsLeafFrozen, with_block}
+use Rattle.core_volume.specs.Volumes.{Volume, birth_due, in_flight, undurable_in}
 use Rattle.journal_writer.specs.declared.writer.Flight.{Flight}
 use Rattle.node_writeback.specs.Durable.{undurable}
 use Rattle.node_writeback.specs.Freezing.{fresh_leaf}

@@ -3,13 +3,13 @@ use Rattle.std.proofs.Common.{◌≡◌, ◌+◌, ◌*◌, ◌≤◌, ℕ, zero,
 use Rattle.std.specs.Prelude.{◌≢◌, ◌==◌, ◌||◌, IfSome, slice_index_or}
 use Rattle.std.proofs.lemmas.Bool.Decides.{eqb_tells}
 use Rattle.std.proofs.lemmas.List.{length-append}
-use Rattle.core_state.specs.Checkpoints.{AreInPlace, IsFreezeRefused, IsLeafFrozen, after_refused, given_up}
-use Rattle.core_state.specs.Commits.{IsCommitted}
-use Rattle.core_state.specs.Sealing.{IsFlown, next_record, settled_volume, with_writer}
-use Rattle.core_state.specs.Volumes.{IsVolume, KeepParts, Volume, needs_entry, node_stage_by, stage_of, undurable_in}
-use Rattle.core_state.specs.declared.answer.Halt.{Halt}
-use Rattle.core_state.specs.declared.answer.Refusal.{Refusal}
-use Rattle.core_state.specs.declared.answer.Refusal.TheVariants as refusals
+use Rattle.core_volume.specs.Checkpoints.{AreInPlace, IsFreezeRefused, IsLeafFrozen, after_refused, given_up}
+use Rattle.core_volume.specs.Commits.{IsCommitted}
+use Rattle.core_volume.specs.Sealing.{IsFlown, next_record, settled_volume, with_writer}
+use Rattle.core_volume.specs.Volumes.{IsVolume, KeepParts, Volume, needs_entry, node_stage_by, stage_of, undurable_in}
+use Rattle.core_actors.specs.declared.answer.Halt.{Halt}
+use Rattle.core_actors.specs.declared.answer.Refusal.{Refusal}
+use Rattle.core_actors.specs.declared.answer.Refusal.TheVariants as refusals
 use Rattle.btree_map.specs.Trees.{keys_in}
 use Rattle.journal_writer.specs.Changes.{changes_of}
 use Rattle.journal_writer.specs.Queues.{AreFollowed, Queue, blocks_with, closes, first_of, first_with, follower_of, left_by, oldest, with_commit, without_oldest}

@@ -6,11 +6,11 @@ use Rattle.std.proofs.lemmas.Bool.{ltb-false}
 use Rattle.std.proofs.lemmas.List.Elements.{All-head}
 use Rattle.std.proofs.lemmas.List.Sums.{sum_by-cons}
 use Rattle.btree_map.specs.Trees.{IsTrees, Trees}
-use Rattle.core_state.specs.Checkpoints.{HasPlacingNumbers}
-use Rattle.core_state.specs.Commits.{AreIntended}
-use Rattle.core_state.specs.Rulings.{HasCommitNumbers}
-use Rattle.core_state.specs.Sealing.{HasEntryNumbers, next_record, roots_in}
-use Rattle.core_state.specs.Volumes.{IsVolume, KeepParts, Volume, commits_of}
+use Rattle.core_volume.specs.Checkpoints.{HasPlacingNumbers}
+use Rattle.core_volume.specs.Commits.{AreIntended}
+use Rattle.core_volume.specs.Rulings.{HasCommitNumbers}
+use Rattle.core_volume.specs.Sealing.{HasEntryNumbers, next_record, roots_in}
+use Rattle.core_volume.specs.Volumes.{IsVolume, KeepParts, Volume, commits_of}
 use Rattle.dev_model.specs.Devices.{DevicesState}
 use Rattle.journal_writer.specs.Queues.{AreChanges, AreFollowed, HasNumbers, IsQueue, Queue, blocks_with, closes, first_of, follower_of, growth, last_block, oldest}
 use Rattle.journal_writer.specs.declared.changes.Pending.{Pending}

@@ -3,14 +3,14 @@ use Rattle.std.proofs.Common.{◌≡◌, ◌+◌, ◌-◌, ◌^◌, ◌<◌, ◌
 use Rattle.std.specs.Prelude.{All, IfSome, slice_index_or}
 use Rattle.core_state.specs.Devices.{FlushesDevice, WritesNode}
 use Rattle.core_state.specs.Events.{CommitNodesGives, FlushGives, FreezeGives, SealGives, SettleGives, WriteGives, WriteSetGives}
-use Rattle.core_state.specs.Opening.{opened_by}
+use Rattle.core_volume.specs.Opening.{opened_by}
 use Rattle.core_state.specs.States.{State, other_holder}
-use Rattle.core_state.specs.Volumes.{IsVolume, KeepParts, Volume}
-use Rattle.core_state.specs.declared.answer.Answer.{Answer}
-use Rattle.core_state.specs.declared.answer.Answer.TheVariants as answers
-use Rattle.core_state.specs.declared.answer.Halt.{Halt}
-use Rattle.core_state.specs.declared.event.Event.{Event}
-use Rattle.core_state.specs.declared.event.Event.TheVariants as events
+use Rattle.core_volume.specs.Volumes.{IsVolume, KeepParts, Volume}
+use Rattle.core_actors.specs.declared.answer.Answer.{Answer}
+use Rattle.core_actors.specs.declared.answer.Answer.TheVariants as answers
+use Rattle.core_actors.specs.declared.answer.Halt.{Halt}
+use Rattle.core_actors.specs.declared.event.Event.{Event}
+use Rattle.core_actors.specs.declared.event.Event.TheVariants as events
 use Rattle.btree_map.specs.Trees.{Trees}
 use Rattle.dev_model.specs.Devices.{DevicesState}
 use Rattle.dev_model.specs.Frames.{GoOn}

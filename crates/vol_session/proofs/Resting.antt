@@ -10,7 +10,7 @@ use Rattle.journal_writer.specs.declared.stage.Stage.TheVariants.{CommitNodes, F
 use Rattle.journal_writer.specs.declared.writer.Flight.{Flight}
 use Rattle.node_writeback.specs.NodeWork.{birth_left, first_left}
 use Rattle.node_writeback.specs.declared.node.UnfinishedNode.{UnfinishedNode}
-use Rattle.core_state.specs.Volumes.{Volume, birth_due, can_let_go, commits_of, needs_entry, node_stage_by, node_stage_of, stage_of}
+use Rattle.core_volume.specs.Volumes.{Volume, birth_due, can_let_go, commits_of, needs_entry, node_stage_by, node_stage_of, stage_of}
 use Rattle.vol_session.proofs.Flags.{flag_is_set, flag_is_set_of}
 
 -- The stage is one of the journal, or of an entry in flight.

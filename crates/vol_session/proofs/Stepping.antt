@@ -8,17 +8,17 @@ use Rattle.journal_writer.specs.declared.stage.Stage.{Stage}
 use Rattle.journal_writer.specs.declared.stage.Stage.TheVariants as stages
 use Rattle.journal_writer.specs.declared.writer.Flight.{Flight}
 use Rattle.vol_types.specs.LayoutLaws.{layout_found}
-use Rattle.core_state.specs.Checkpoints.{with_block}
+use Rattle.core_volume.specs.Checkpoints.{with_block}
 use Rattle.core_state.specs.Events.{CommitNodesGives, Fits, FlushGives, FreezeGives, IsToldOf, SealGives, SettleGives, WriteGives, WriteSetGives}
-use Rattle.core_state.specs.Sealing.{settled_volume, with_writer}
+use Rattle.core_volume.specs.Sealing.{settled_volume, with_writer}
 use Rattle.core_state.specs.States.{IsState, State}
-use Rattle.core_state.specs.Volumes.{Volume, are_durable, commits_of, node_stage_of, stage_of}
-use Rattle.core_state.specs.declared.answer.Answer.{Answer}
-use Rattle.core_state.specs.declared.answer.Answer.TheVariants as answers
-use Rattle.core_state.specs.declared.answer.Refusal.{Refusal}
-use Rattle.core_state.specs.declared.answer.Refusal.TheVariants as refusals
-use Rattle.core_state.specs.declared.event.Event.{Event}
-use Rattle.core_state.specs.declared.event.Event.TheVariants as events
+use Rattle.core_volume.specs.Volumes.{Volume, are_durable, commits_of, node_stage_of, stage_of}
+use Rattle.core_actors.specs.declared.answer.Answer.{Answer}
+use Rattle.core_actors.specs.declared.answer.Answer.TheVariants as answers
+use Rattle.core_actors.specs.declared.answer.Refusal.{Refusal}
+use Rattle.core_actors.specs.declared.answer.Refusal.TheVariants as refusals
+use Rattle.core_actors.specs.declared.event.Event.{Event}
+use Rattle.core_actors.specs.declared.event.Event.TheVariants as events
 use Rattle.dev_model.specs.Devices.{DevicesState}
 use Rattle.dev_model.specs.FrameLaws.{go_on_here}
 use Rattle.dev_model.specs.Frames.{GoOn, after_writes}

@@ -7,7 +7,7 @@ use Rattle.std.proofs.lemmas.Option.{slice_get_within}
 use Rattle.std.specs.Prelude.{All, Ok, slice_index_or}
 use Rattle.btree_map.specs.KeyLaws.{key_map-trees}
 use Rattle.btree_map.specs.Trees.{IsTrees, keys_in}
-use Rattle.core_state.specs.Volumes.{Volume}
+use Rattle.core_volume.specs.Volumes.{Volume}
 use Rattle.dev_model.specs.Devices.{DevicesState}
 use Rattle.dev_model.specs.Disk.{Disk, Image, IsCrashImage}
 use Rattle.forest_ops.specs.History.{History, after_all, commit_count, commits_of, is_commit}

@@ -1,7 +1,7 @@
 -- What a crash may leave by what was in memory has the keys after some commit, and no fewer commits than were durable.
 use Rattle.std.proofs.Common.{◌≡◌, ◌≤◌, ◌⊎◌, ⊎_elim, ◌∷◌, ◌++◌, ℕ, List, Option, Some, sym, subst, ◌∙◌, arith}
 use Rattle.btree_map.specs.Trees.{keys_in}
-use Rattle.core_state.specs.Volumes.{Volume, changes_in, in_flight}
+use Rattle.core_volume.specs.Volumes.{Volume, changes_in, in_flight}
 use Rattle.journal_writer.specs.ChangeLaws.{undone-leads}
 use Rattle.journal_writer.specs.Changes.{LeadTo}
 use Rattle.journal_writer.specs.Queues.{waiting}

@@ -5,17 +5,17 @@ use Rattle.std.proofs.lemmas.Bool.{cases_eq, cases_lt, false≢true}
 use Rattle.std.proofs.lemmas.Bool.Decides.{eqb_tells}
 use Rattle.std.proofs.lemmas.List.{get_or-append_right, get_or-drop, get_or-replicate, get_or-set_other, get_or-set_same, get_or_past, length-append, length-drop, length-replicate, length-set}
 use Rattle.core_state.specs.Events.{CommitGives, CommitNodesGives, FlushGives, FreezeGives, IsMade, SealGives, SettleGives, Waits, WriteGives, WriteSetGives}
-use Rattle.core_state.specs.Checkpoints.{after_refused}
-use Rattle.core_state.specs.Sealing.{IsFlown, next_record, settled_volume, with_writer}
+use Rattle.core_volume.specs.Checkpoints.{after_refused}
+use Rattle.core_volume.specs.Sealing.{IsFlown, next_record, settled_volume, with_writer}
 use Rattle.core_state.specs.States.{State, other_holder}
-use Rattle.core_state.specs.Volumes.{IsVolume, Volume, needs_entry, stage_of}
-use Rattle.core_state.specs.Opening.{IsVolumeOpened}
-use Rattle.core_state.specs.declared.answer.Answer.{Answer}
-use Rattle.core_state.specs.declared.answer.Answer.TheVariants as answers
-use Rattle.core_state.specs.declared.answer.Refusal.{Refusal}
-use Rattle.core_state.specs.declared.answer.Refusal.TheVariants as refusals
-use Rattle.core_state.specs.declared.event.Event.{Event}
-use Rattle.core_state.specs.declared.event.Event.TheVariants as events
+use Rattle.core_volume.specs.Volumes.{IsVolume, Volume, needs_entry, stage_of}
+use Rattle.core_volume.specs.Opening.{IsVolumeOpened}
+use Rattle.core_actors.specs.declared.answer.Answer.{Answer}
+use Rattle.core_actors.specs.declared.answer.Answer.TheVariants as answers
+use Rattle.core_actors.specs.declared.answer.Refusal.{Refusal}
+use Rattle.core_actors.specs.declared.answer.Refusal.TheVariants as refusals
+use Rattle.core_actors.specs.declared.event.Event.{Event}
+use Rattle.core_actors.specs.declared.event.Event.TheVariants as events
 use Rattle.dev_model.specs.Devices.{DevicesState}
 use Rattle.journal_writer.specs.Queues.{without_oldest}
 use Rattle.journal_writer.specs.Writers.{Writer, first_flag, flush_before, most_devices, settled_by, stage_by, step_of, unsettled_by, with_flags, with_flushed, with_next_part}

@@ -1,7 +1,7 @@
 -- How much is left to be done until the journal and the nodes rest: a number that each event of a work brings down.
 use Rattle.std.specs.Prelude.{ℕ, ◌+◌, ◌-◌, ◌*◌, ◌||◌, ◌==◌, Bool, not, Option, Some, None, List, length}
 use Rattle.std.specs.List.{count_by}
-use Rattle.core_state.specs.Volumes.{Volume, can_let_go, commits_of}
+use Rattle.core_volume.specs.Volumes.{Volume, can_let_go, commits_of}
 use Rattle.journal_writer.specs.Queues.{count_of}
 use Rattle.journal_writer.specs.declared.durable.Durable.{Durable}
 use Rattle.journal_writer.specs.declared.writer.Flight.{Flight}

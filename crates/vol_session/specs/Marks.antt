@@ -1,7 +1,7 @@
 -- The key map after each commit of a session, and where the entries that aren't durable stand among them.
 use Rattle.std.specs.Prelude.{◌≡◌, ℕ, ◌+◌, ◌-◌, ◌≤◌, ⊤, Some, List, [], ◌∷◌, ◌++◌, length, slice_get}
 use Rattle.btree_map.specs.Trees.{keys_in}
-use Rattle.core_state.specs.Volumes.{Volume, changes_in, commits_of, undurable_in}
+use Rattle.core_volume.specs.Volumes.{Volume, changes_in, commits_of, undurable_in}
 use Rattle.dev_model.specs.Devices.{DevicesState, now}
 use Rattle.dev_model.specs.Disk.{as_read}
 use Rattle.journal_writer.specs.Changes.{LeadTo}

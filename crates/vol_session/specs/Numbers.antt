@@ -3,11 +3,11 @@
 use Rattle.std.specs.Prelude.{◌≡◌, ℕ, ◌+◌, ◌-◌, ◌*◌, ◌^◌, ◌<◌, ◌≤◌, ◌||◌, ◌==◌, false, true, if◌then◌else◌, Option, Some, None, List, length, slice_index_or}
 use Rattle.birth_index.specs.Births.{birth_of}
 use Rattle.birth_index.specs.declared.name.NodeName.{NodeName}
-use Rattle.core_state.specs.Checkpoints.{HasPlacingNumbers}
-use Rattle.core_state.specs.Commits.{AreIntended}
-use Rattle.core_state.specs.Rulings.{HasCommitNumbers}
-use Rattle.core_state.specs.Sealing.{HasEntryNumbers, next_record}
-use Rattle.core_state.specs.Volumes.{Volume}
+use Rattle.core_volume.specs.Checkpoints.{HasPlacingNumbers}
+use Rattle.core_volume.specs.Commits.{AreIntended}
+use Rattle.core_volume.specs.Rulings.{HasCommitNumbers}
+use Rattle.core_volume.specs.Sealing.{HasEntryNumbers, next_record}
+use Rattle.core_volume.specs.Volumes.{Volume}
 use Rattle.dev_model.specs.Devices.{DevicesState}
 use Rattle.journal_writer.specs.Queues.{oldest}
 use Rattle.journal_writer.specs.Writers.{HasBlockNumbers, Writer}

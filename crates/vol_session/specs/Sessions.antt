@@ -1,15 +1,15 @@
 -- A session over an open volume: its history and its acknowledgements beside the core, and what its type keeps of them.
 use Rattle.std.specs.Prelude.{◌≡◌, ◌⊎◌, ℕ, ◌+◌, ◌≤◌, true, List, All, ⊤}
 use Rattle.btree_map.specs.Trees.{keys_in}
-use Rattle.core_state.specs.Actors.{noted}
+use Rattle.core_actors.specs.Actors.{noted}
 use Rattle.core_state.specs.Events.{intended_by}
-use Rattle.core_state.specs.Rulings.{IsRefused}
+use Rattle.core_volume.specs.Rulings.{IsRefused}
 use Rattle.core_state.specs.States.{State, mine, with_mine}
-use Rattle.core_state.specs.declared.answer.Answer.{Answer}
-use Rattle.core_state.specs.declared.answer.Answer.TheVariants.{NoMemory, Refused}
-use Rattle.core_state.specs.Volumes.{Volume, commits_of}
-use Rattle.core_state.specs.declared.event.Event.{Event}
-use Rattle.core_state.specs.declared.event.Event.TheVariants as events
+use Rattle.core_actors.specs.declared.answer.Answer.{Answer}
+use Rattle.core_actors.specs.declared.answer.Answer.TheVariants.{NoMemory, Refused}
+use Rattle.core_volume.specs.Volumes.{Volume, commits_of}
+use Rattle.core_actors.specs.declared.event.Event.{Event}
+use Rattle.core_actors.specs.declared.event.Event.TheVariants as events
 use Rattle.dev_model.specs.Devices.{DevicesState}
 use Rattle.dev_model.specs.Frames.{GoOn}
 use Rattle.journal_writer.specs.Queues.{oldest}

@@ -1,14 +1,14 @@
 -- What the works on what is durable leave of a session, and why they end early.
 use Rattle.std.specs.Prelude.{◌≡◌, ◌⊎◌, ℕ, ◌≤◌, true, ⊤, Option, Some, None, Result, Ok, Err}
 use Rattle.btree_map.specs.Trees.{keys_in}
-use Rattle.core_state.specs.Checkpoints.{IsFreezeRefused, IsPlacingRefused, after_refused}
-use Rattle.core_state.specs.Sealing.{IsSealRefused}
+use Rattle.core_volume.specs.Checkpoints.{IsFreezeRefused, IsPlacingRefused, after_refused}
+use Rattle.core_volume.specs.Sealing.{IsSealRefused}
 use Rattle.core_state.specs.States.{State, mine}
-use Rattle.core_state.specs.Volumes.{IsVolume, Volume, commits_of}
-use Rattle.core_state.specs.declared.actor.Actor.{Actor}
-use Rattle.core_state.specs.declared.answer.NoSpace.{NoSpace}
-use Rattle.core_state.specs.declared.answer.Refusal.{Refusal}
-use Rattle.core_state.specs.declared.answer.Refusal.TheVariants as refusals
+use Rattle.core_volume.specs.Volumes.{IsVolume, Volume, commits_of}
+use Rattle.core_actors.specs.declared.actor.Actor.{Actor}
+use Rattle.core_actors.specs.declared.answer.NoSpace.{NoSpace}
+use Rattle.core_actors.specs.declared.answer.Refusal.{Refusal}
+use Rattle.core_actors.specs.declared.answer.Refusal.TheVariants as refusals
 use Rattle.vol_session.specs.Sessions.{SessionState}
 use Rattle.vol_session.specs.declared.stop.Stop.{Stop}
 use Rattle.vol_session.specs.declared.stop.Stop.TheVariants as stops

@@ -1,6 +1,6 @@
 -- What a session keeps of the entry in flight, and of the devices that are to be flushed: what the journal needs next can be done.
 use Rattle.std.specs.Prelude.{◌≡◌, ℕ, ◌<◌, ◌≤◌, Bool, true, false, IfSome, List, length, slice_index_or}
-use Rattle.core_state.specs.Volumes.{Volume}
+use Rattle.core_volume.specs.Volumes.{Volume}
 use Rattle.journal_writer.specs.Writers.{most_devices}
 use Rattle.journal_ring.specs.Rings.{RingState}
 

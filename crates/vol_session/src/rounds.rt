@@ -1,7 +1,7 @@
 ghost use Rattle.std.specs.Prelude.{◌≡◌, ◌≢◌, ◌<◌, IfErr, None, OnOk, false, true};
 ghost use Rattle.core_state.specs.Events.{Fits, stage_for};
 ghost use Rattle.core_state.specs.States.{mine};
-ghost use Rattle.core_state.specs.Volumes.{are_durable, stage_of};
+ghost use Rattle.core_volume.specs.Volumes.{are_durable, stage_of};
 ghost use Rattle.journal_writer.specs.declared.stage.Stage.TheVariants.{Rest};
 ghost use Rattle.vol_session.specs.Left.{works_left};
 ghost use Rattle.vol_session.specs.Writeback.{MayStopSync};

@@ -1,8 +1,8 @@
 ghost use Rattle.std.specs.Prelude.{◌≡◌, ◌≢◌, ◌++◌, ◌∷◌, ◌+◌, ◌<◌, ◌^◌, [], ℕ, All, IfErr, IfOk, IfSome, None, OnOk, length, true, false};
 ghost use Rattle.core_state.specs.Events.{Fits, IsMade, intended_by};
 ghost use Rattle.core_state.specs.Opening.{IsOpened};
-ghost use Rattle.core_state.specs.Volumes.{are_durable};
-ghost use Rattle.core_state.specs.declared.event.Event.TheVariants.{Commit};
+ghost use Rattle.core_volume.specs.Volumes.{are_durable};
+ghost use Rattle.core_actors.specs.declared.event.Event.TheVariants.{Commit};
 ghost use Rattle.dev_model.specs.Frames.{GoOn, after_writes};
 ghost use Rattle.forest_ops.specs.Classes.{may_fail};
 ghost use Rattle.forest_ops.specs.History.{EachEntry, IsLegal, commit_count, commits};

@@ -1,5 +1,5 @@
 ghost use Rattle.std.specs.Prelude.{◌≡◌, ◌<◌, IfErr, IfSome, None, OnOk, length, true};
-ghost use Rattle.core_state.specs.Volumes.{are_durable};
+ghost use Rattle.core_volume.specs.Volumes.{are_durable};
 ghost use Rattle.dev_model.specs.Frames.{GoOn, after_writes};
 ghost use Rattle.vol_core.specs.Rested.{IsRested};
 ghost use Rattle.vol_session.specs.Writeback.{IsWorked, MayStopSync, StopsWith, stopped_by};

@@ -5,7 +5,7 @@ use Rattle.std.specs.Cmp.{IsTotalOrder, nat_cmp_is}
 use Rattle.std.specs.Ordering.{nat_cmp, ordering_then, is_le, is_lt, is_eq}
 use Rattle.std.specs.declared.cmp.Ordering.{Ordering}
 use Rattle.std.specs.declared.cmp.Ordering.TheVariants.{Less, Equal, Greater}
-use Rattle.std.proofs.lemmas.Bool.{ltb-true, ltb-false, true≢false}
+use Rattle.std.proofs.lemmas.Bool.{and_parts, ltb-false, ltb-true, true≢false}
 use Rattle.std.proofs.lemmas.Cmp.{on_total, then_total, nat_cmp_total, ranked}
 use Rattle.std.proofs.lemmas.Nat.{row_fits}
 use Rattle.std.proofs.lemmas.Map.Lookups.{CmpEqualImpliesEq, exact_pairs, exact_unsigned}
@@ -95,13 +95,9 @@ at_most Less isnt = refl
 at_most Equal isnt = refl
 at_most Greater isnt = absurd (isnt refl)
 
-both : (a b : Bool) → (a && b) ≡ true → (a ≡ true) × (b ≡ true)
-both true b are = (refl, are)
-both false b are = absurd (true≢false (sym are))
-
 -- The test of a range passes exactly the positions in it.
 pub is_within-iff : (first last p : Pos) → (is_within first last p ≡ true) ↔ IsWithin first last p
 is_within-iff first last p = (
-  λ is. let parts = both (is_le (pos_cmp first p)) (is_le (pos_cmp p last)) is in (not_greater (pos_cmp first p) parts.0, not_greater (pos_cmp p last) parts.1),
+  λ is. let parts = and_parts (is_le (pos_cmp first p)) (is_le (pos_cmp p last)) is in (not_greater (pos_cmp first p) parts.0, not_greater (pos_cmp p last) parts.1),
   λ within. rw (at_most (pos_cmp first p) within.0) (at_most (pos_cmp p last) within.1),
 )

@@ -59,17 +59,6 @@ fn is_in_range(value: Option<&Value>) -> bool
     }
 }
 
-impl Duplicate for Update {
-    fn copy(&self, alloc: Global) -> Result<Self, AllocError> {
-        Ok(Update {
-            btree: self.btree,
-            level: self.level,
-            pos: self.pos,
-            value: self.value.copy(alloc)?,
-        })
-    }
-}
-
 /// How many bytes a key with this value takes on disk, or one that is removed. It goes over the names of the value.
 pub fn key_length(value: Option<&Value>) -> u32
     requires { IsKeyValue (option_copied value) }

@@ -66,18 +66,6 @@ fn are_replicas(devices: usize, replicas: u8) -> bool
     1 <= replicas && replicas <= 3 && replicas as usize <= devices
 }
 
-impl Duplicate for Layout {
-    fn copy(&self, alloc: Global) -> Result<Self, AllocError> {
-        Ok(Layout {
-            id: self.id,
-            blocks: self.blocks.copy(alloc)?,
-            journal: self.journal,
-            metadata_replicas: self.metadata_replicas,
-            data_replicas: self.data_replicas,
-        })
-    }
-}
-
 /// A block of a file of which no copy has the right digest: its number in the file, the digest that is right, and for
 /// each place what was read there: the digest of what it gave, or none where reading failed.
 #[derive(Debug, PartialEq, Eq, Drop)]
@@ -90,11 +78,18 @@ pub struct Lost {
 
 impl Duplicate for Lost {
     fn copy(&self, alloc: Global) -> Result<Self, AllocError> {
-        Ok(Lost {
-            block: self.block,
-            want: self.want,
-            places: self.places.copy(alloc)?,
-            got: self.got.copy(alloc)?,
-        })
+        let places = self.places.copy(alloc)?;
+        match self.got.copy(alloc) {
+            Ok(got) => Ok(Lost {
+                block: self.block,
+                want: self.want,
+                places,
+                got,
+            }),
+            Err(failed) => {
+                drop(places);
+                Err(failed)
+            }
+        }
     }
 }

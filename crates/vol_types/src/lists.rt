@@ -256,16 +256,6 @@ impl Duplicate for u64 {
     }
 }
 
-impl Duplicate for u128 {
-    fn copy(&self, _alloc: Global) -> Result<Self, AllocError> {
-        Ok(*self)
-    }
-
-    fn copy_all(alloc: Global, members: &[Self]) -> Result<Listing<Self>, AllocError> {
-        Listing::from_slice(alloc, members)
-    }
-}
-
 impl<T: Duplicate> Duplicate for Option<T> {
     fn copy(&self, alloc: Global) -> Result<Self, AllocError> {
         match self {

@@ -2,7 +2,7 @@ use crate::{Duplicate, Places};
 use std::alloc::{AllocError, Global};
 
 /// A block of a device.
-#[derive(Clone, Copy, Debug, PartialEq, Eq, PartialOrd, Ord)]
+#[derive(Clone, Copy, Debug, PartialEq, Eq)]
 pub struct Place {
     pub dev: u8,
     pub block: u32,
@@ -16,7 +16,7 @@ impl Duplicate for Place {
 
 /// Where a copy of an extent lies: its first block, with the generation of that block's bucket. A bucket that was
 /// given to others since has a greater generation.
-#[derive(Clone, Copy, PartialEq, Eq, PartialOrd, Ord)]
+#[derive(Clone, Copy, PartialEq, Eq)]
 pub struct Pointer {
     pub place: Place,
     pub generation: u32,
@@ -51,10 +51,4 @@ impl Duplicate for NodePtr {
 pub struct NodeEnd {
     pub birth: u64,
     pub block: u8,
-}
-
-impl Duplicate for NodeEnd {
-    fn copy(&self, _alloc: Global) -> Result<Self, AllocError> {
-        Ok(*self)
-    }
 }

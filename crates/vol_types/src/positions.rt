@@ -65,7 +65,7 @@ impl Duplicate for Pos {
 }
 
 /// The btrees of a volume.
-#[derive(Clone, Copy, PartialEq, Eq, PartialOrd, Ord)]
+#[derive(Clone, Copy, PartialEq, Eq)]
 pub enum Btree {
     /// What the blocks of files hold, under the file's number and the end of the extent.
     Extents,
@@ -114,11 +114,5 @@ impl Btree {
             8 => Some(Btree::Counters),
             _ => None,
         }
-    }
-}
-
-impl Duplicate for Btree {
-    fn copy(&self, _alloc: Global) -> Result<Self, AllocError> {
-        Ok(*self)
     }
 }

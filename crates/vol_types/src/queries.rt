@@ -1,5 +1,4 @@
-use crate::{Btree, Duplicate, Keys, Pos};
-use std::alloc::{AllocError, Global};
+use crate::{Btree, Keys, Pos};
 
 /// What a transaction asks a btree for.
 #[derive(Clone, Copy, PartialEq, Eq)]
@@ -12,24 +11,9 @@ pub enum Query {
     Span { btree: Btree, first: Pos, last: Pos },
 }
 
-impl Duplicate for Query {
-    fn copy(&self, _alloc: Global) -> Result<Self, AllocError> {
-        Ok(*self)
-    }
-}
-
 /// A query with its answer, which is empty where there is no such key.
-#[derive(PartialEq, Eq, Drop)]
+#[derive(Drop)]
 pub struct Look {
     pub query: Query,
     pub answer: Keys,
-}
-
-impl Duplicate for Look {
-    fn copy(&self, alloc: Global) -> Result<Self, AllocError> {
-        Ok(Look {
-            query: self.query,
-            answer: self.answer.copy(alloc)?,
-        })
-    }
 }

@@ -12,10 +12,17 @@ pub struct Short {
 
 impl Duplicate for Short {
     fn copy(&self, alloc: Global) -> Result<Self, AllocError> {
-        Ok(Short {
-            need: self.need,
-            free: self.free.copy(alloc)?,
-            held: self.held.copy(alloc)?,
-        })
+        let free = self.free.copy(alloc)?;
+        match self.held.copy(alloc) {
+            Ok(held) => Ok(Short {
+                need: self.need,
+                free,
+                held,
+            }),
+            Err(failed) => {
+                drop(free);
+                Err(failed)
+            }
+        }
     }
 }

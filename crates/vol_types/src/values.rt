@@ -37,12 +37,6 @@ impl FileKind {
     }
 }
 
-impl Duplicate for FileKind {
-    fn copy(&self, _alloc: Global) -> Result<Self, AllocError> {
-        Ok(*self)
-    }
-}
-
 /// What a snapshot id is in its tree.
 #[derive(Clone, Copy, PartialEq, Eq)]
 pub enum SnapState {
@@ -80,12 +74,6 @@ impl SnapState {
     }
 }
 
-impl Duplicate for SnapState {
-    fn copy(&self, _alloc: Global) -> Result<Self, AllocError> {
-        Ok(*self)
-    }
-}
-
 /// A file or a directory. A directory has one link and the size 0.
 #[derive(Clone, Copy, PartialEq, Eq)]
 pub struct Inode {
@@ -93,12 +81,6 @@ pub struct Inode {
     pub links: u32,
     /// In bytes.
     pub size: u64,
-}
-
-impl Duplicate for Inode {
-    fn copy(&self, _alloc: Global) -> Result<Self, AllocError> {
-        Ok(*self)
-    }
 }
 
 /// A name of a directory, and the inode that it leads to.
@@ -128,10 +110,14 @@ pub struct Extent {
 
 impl Duplicate for Extent {
     fn copy(&self, alloc: Global) -> Result<Self, AllocError> {
-        Ok(Extent {
-            pointers: self.pointers.copy(alloc)?,
-            digests: self.digests.copy(alloc)?,
-        })
+        let pointers = self.pointers.copy(alloc)?;
+        match self.digests.copy(alloc) {
+            Ok(digests) => Ok(Extent { pointers, digests }),
+            Err(failed) => {
+                drop(pointers);
+                Err(failed)
+            }
+        }
     }
 }
 
@@ -164,23 +150,11 @@ pub struct Snap {
     pub state: SnapState,
 }
 
-impl Duplicate for Snap {
-    fn copy(&self, _alloc: Global) -> Result<Self, AllocError> {
-        Ok(*self)
-    }
-}
-
 /// A bucket that was used: its generation, and how many of its blocks are.
 #[derive(Clone, Copy, PartialEq, Eq)]
 pub struct Live {
     pub generation: u32,
     pub blocks: u8,
-}
-
-impl Duplicate for Live {
-    fn copy(&self, _alloc: Global) -> Result<Self, AllocError> {
-        Ok(*self)
-    }
 }
 
 /// What stands at a position.

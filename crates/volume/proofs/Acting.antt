@@ -5,17 +5,17 @@ use Rattle.std.proofs.lemmas.Bool.{true≢false}
 use Rattle.std.proofs.lemmas.List.{get_or-set_same}
 use Rattle.btree_map.specs.Trees.{keys_in}
 use Rattle.dirty_nodes.specs.Ids.{id_trees}
-use Rattle.core_state.specs.Actors.{begun, committed, ended, holds, idle_actor, noted, with_ids, with_intent, with_look}
-use Rattle.core_state.specs.Commits.{AreIntended}
+use Rattle.core_actors.specs.Actors.{begun, committed, ended, holds, idle_actor, noted, with_ids, with_intent, with_look}
+use Rattle.core_volume.specs.Commits.{AreIntended}
 use Rattle.core_state.specs.Events.{EventGives, Fits, HasIds, IsMade, Waits, intended_by}
-use Rattle.core_state.specs.Rulings.{IsRefused}
+use Rattle.core_volume.specs.Rulings.{IsRefused}
 use Rattle.core_state.specs.States.{IsState, State, actor_count, mine, other_holder, with_mine}
-use Rattle.core_state.specs.Volumes.{Volume, commits_of}
-use Rattle.core_state.specs.declared.actor.Actor.{Actor}
-use Rattle.core_state.specs.declared.answer.Answer.{Answer}
-use Rattle.core_state.specs.declared.answer.Answer.TheVariants as answers
-use Rattle.core_state.specs.declared.answer.Refusal.{Refusal}
-use Rattle.core_state.specs.declared.event.Event.TheVariants as events
+use Rattle.core_volume.specs.Volumes.{Volume, commits_of}
+use Rattle.core_actors.specs.declared.actor.Actor.{Actor}
+use Rattle.core_actors.specs.declared.answer.Answer.{Answer}
+use Rattle.core_actors.specs.declared.answer.Answer.TheVariants as answers
+use Rattle.core_actors.specs.declared.answer.Refusal.{Refusal}
+use Rattle.core_actors.specs.declared.event.Event.TheVariants as events
 use Rattle.forest_ops.specs.declared.operation.Op.{Op}
 use Rattle.forest_ops.specs.Steps.{answer_of as reply_of}
 use Rattle.forest_ops.specs.declared.operation.Reply.{Reply}

@@ -6,7 +6,7 @@ use Rattle.std.proofs.lemmas.Bool.Decides.{nat_tests}
 use Rattle.std.proofs.lemmas.List.Elements.{All-nil, All-cons, All-push}
 use Rattle.std.proofs.lemmas.List.Folds.{list_any-append}
 use Rattle.std.proofs.lemmas.List.Sums.{sum_by-append}
-use Rattle.core_state.specs.declared.answer.Halt.{Halt as MemoryHalt}
+use Rattle.core_actors.specs.declared.answer.Halt.{Halt as MemoryHalt}
 use Rattle.dev_model.specs.Devices.{AreFaultCounts, DevicesState, FaultCounts, risen, with_write_fault}
 use Rattle.dev_model.specs.Disk.{changed}
 use Rattle.dev_model.specs.Frames.{GoOn}

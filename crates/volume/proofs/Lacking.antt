@@ -1,12 +1,12 @@
 -- Why a change lacks space or a number, said of the updates that client 0 intends for it, or that its plan has.
 use Rattle.std.proofs.Common.{◌≡◌, true, inl, inr, refl, subst, sym}
-use Rattle.core_state.specs.Commits.{AreIntended}
+use Rattle.core_volume.specs.Commits.{AreIntended}
 use Rattle.core_state.specs.Events.{intended_by}
-use Rattle.core_state.specs.Rulings.{IsRefused}
+use Rattle.core_volume.specs.Rulings.{IsRefused}
 use Rattle.core_state.specs.States.{State}
-use Rattle.core_state.specs.Volumes.{Volume}
-use Rattle.core_state.specs.declared.answer.NoSpace.{NoSpace}
-use Rattle.core_state.specs.declared.answer.Refusal.TheVariants as refusals
+use Rattle.core_volume.specs.Volumes.{Volume}
+use Rattle.core_actors.specs.declared.answer.NoSpace.{NoSpace}
+use Rattle.core_actors.specs.declared.answer.Refusal.TheVariants as refusals
 use Rattle.dirty_nodes.specs.declared.splits.NeedSplit.{NeedSplit}
 use Rattle.forest_ops.specs.declared.operation.Op.{Op}
 use Rattle.forest_ops.specs.declared.operation.Reply.{Reply}

@@ -2,10 +2,10 @@
 use Rattle.std.proofs.Common.{◌≡◌, true, false, List, [], Option, None, refl, sym, ap, subst, arith}
 use Rattle.std.specs.Prelude.{replicate, slice_index_or}
 use Rattle.std.proofs.lemmas.List.Elements.{All-nil}
-use Rattle.core_state.specs.Actors.{holds, idle_actor}
+use Rattle.core_actors.specs.Actors.{holds, idle_actor}
 use Rattle.core_state.specs.States.{State, actor_count}
-use Rattle.core_state.specs.declared.actor.Actor.{Actor}
-use Rattle.core_state.specs.declared.answer.Halt.{Halt}
+use Rattle.core_actors.specs.declared.actor.Actor.{Actor}
+use Rattle.core_actors.specs.declared.answer.Halt.{Halt}
 use Rattle.dev_model.specs.Devices.{DevicesState}
 use Rattle.forest_ops.specs.History.{History, after_all, is_commit}
 use Rattle.forest_ops.specs.HistoryLaws.{EachEntry-none}

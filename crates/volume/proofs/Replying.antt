@@ -3,8 +3,8 @@ use Rattle.std.proofs.Common.{◌≡◌, ℕ, Bool, true, false, List, Option, N
 use Rattle.std.specs.Prelude.{◌≢◌, ◌&&◌, ◌||◌}
 use Rattle.std.proofs.lemmas.Bool.{false≢true, true≢false}
 use Rattle.core_state.specs.States.{State}
-use Rattle.core_state.specs.Volumes.{Volume}
-use Rattle.core_state.specs.declared.answer.Halt.{Halt as MemoryHalt}
+use Rattle.core_volume.specs.Volumes.{Volume}
+use Rattle.core_actors.specs.declared.answer.Halt.{Halt as MemoryHalt}
 use Rattle.dev_model.specs.Devices.{FaultCounts}
 use Rattle.forest_ops.specs.Classes.{class_of, is_lost, looks, may_fail, may_have}
 use Rattle.forest_ops.specs.History.{commits, is_done}

@@ -6,7 +6,7 @@ use Rattle.std.proofs.lemmas.List.Elements.{All-head, All-tail}
 use Rattle.btree_map.specs.Trees.{keys_in}
 use Rattle.dirty_nodes.specs.Ids.{are_id_places, id_trees, is_id_place}
 use Rattle.core_state.specs.States.{IsState, State, mine}
-use Rattle.core_state.specs.Volumes.{changes_in}
+use Rattle.core_volume.specs.Volumes.{changes_in}
 use Rattle.journal_writer.specs.Changes.{all_made}
 use Rattle.journal_writer.specs.Queues.{waiting}
 use Rattle.journal_writer.specs.declared.changes.KeyChanges.{KeyChanges}

@@ -6,11 +6,11 @@ use Rattle.std.proofs.lemmas.Option.{none-some as none_some}
 use Rattle.btree_map.specs.Trees.{keys_in}
 use Rattle.core_state.specs.Events.{IsMade}
 use Rattle.core_state.specs.States.{IsState, State}
-use Rattle.core_state.specs.Volumes.{Volume}
-use Rattle.core_state.specs.declared.answer.Answer.{Answer}
-use Rattle.core_state.specs.declared.answer.Halt.{Halt as MemoryHalt}
-use Rattle.core_state.specs.declared.answer.Refusal.{Refusal}
-use Rattle.core_state.specs.declared.answer.Refusal.TheVariants as refusals
+use Rattle.core_volume.specs.Volumes.{Volume}
+use Rattle.core_actors.specs.declared.answer.Answer.{Answer}
+use Rattle.core_actors.specs.declared.answer.Halt.{Halt as MemoryHalt}
+use Rattle.core_actors.specs.declared.answer.Refusal.{Refusal}
+use Rattle.core_actors.specs.declared.answer.Refusal.TheVariants as refusals
 use Rattle.dev_model.specs.Devices.{DevicesState, FaultCounts}
 use Rattle.dev_model.specs.FrameLaws.{go_on_here, go_on_then}
 use Rattle.dev_model.specs.Frames.{GoOn, after_writes}

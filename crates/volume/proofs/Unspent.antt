@@ -2,11 +2,11 @@
 use Rattle.std.proofs.Common.{◌≡◌, ◌<◌, ◌^◌, [], ◌∷◌, ◌++◌, length, subst, ⊎_elim, arith}
 use Rattle.std.proofs.lemmas.List.{length-append}
 use Rattle.std.proofs.lemmas.List.Elements.{All-push}
-use Rattle.core_state.specs.Checkpoints.{IsFreezeRefused, IsPlacingRefused}
-use Rattle.core_state.specs.Sealing.{IsSealRefused}
-use Rattle.core_state.specs.Volumes.{Volume, needs_entry}
-use Rattle.core_state.specs.declared.answer.Refusal.{Refusal}
-use Rattle.core_state.specs.declared.answer.Refusal.TheVariants as refusals
+use Rattle.core_volume.specs.Checkpoints.{IsFreezeRefused, IsPlacingRefused}
+use Rattle.core_volume.specs.Sealing.{IsSealRefused}
+use Rattle.core_volume.specs.Volumes.{Volume, needs_entry}
+use Rattle.core_actors.specs.declared.answer.Refusal.{Refusal}
+use Rattle.core_actors.specs.declared.answer.Refusal.TheVariants as refusals
 use Rattle.dev_model.specs.Devices.{DevicesState, FaultCounts}
 use Rattle.dev_model.specs.Frames.{GoOn}
 use Rattle.forest_ops.specs.History.{History}

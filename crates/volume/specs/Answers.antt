@@ -3,12 +3,12 @@ use Rattle.std.specs.Prelude.{◌≡◌, ◌⊎◌, ℕ, true, ⊤, Some, List, 
 use Rattle.btree_map.specs.Trees.{keys_in}
 use Rattle.dirty_nodes.specs.Splits.{IsSplitNeed}
 use Rattle.dirty_nodes.specs.declared.splits.NeedSplit.{NeedSplit}
-use Rattle.core_state.specs.Commits.{AreIntended}
-use Rattle.core_state.specs.Rulings.{HasCommitNumbers, IsRefused}
-use Rattle.core_state.specs.Volumes.{Volume}
-use Rattle.core_state.specs.declared.answer.NoSpace.{NoSpace as NoSpaceHere}
-use Rattle.core_state.specs.declared.answer.Refusal.TheVariants as refusals
-use Rattle.core_state.specs.declared.answer.Refusal.{Refusal}
+use Rattle.core_volume.specs.Commits.{AreIntended}
+use Rattle.core_volume.specs.Rulings.{HasCommitNumbers, IsRefused}
+use Rattle.core_volume.specs.Volumes.{Volume}
+use Rattle.core_actors.specs.declared.answer.NoSpace.{NoSpace as NoSpaceHere}
+use Rattle.core_actors.specs.declared.answer.Refusal.TheVariants as refusals
+use Rattle.core_actors.specs.declared.answer.Refusal.{Refusal}
 use Rattle.dev_model.specs.Devices.{DevicesState, FaultCounts, with_write_fault}
 use Rattle.forest_ops.specs.declared.operation.Op.{Op}
 use Rattle.forest_ops.specs.declared.operation.Op.TheVariants.{Sync}

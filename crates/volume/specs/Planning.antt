@@ -3,7 +3,7 @@ use Rattle.std.specs.Prelude.{◌≡◌, ℕ, if◌then◌else◌, Option, Some,
 use Rattle.btree_map.specs.Trees.{keys_in}
 use Rattle.dirty_nodes.specs.Ids.{id_trees}
 use Rattle.core_state.specs.States.{State, mine}
-use Rattle.core_state.specs.declared.answer.Halt.{Halt}
+use Rattle.core_actors.specs.declared.answer.Halt.{Halt}
 use Rattle.dev_model.specs.Devices.{DevicesState, no_fault_counts}
 use Rattle.forest_ops.specs.History.{History}
 use Rattle.forest_ops.specs.declared.acks.Ack.{Ack}

@@ -1,15 +1,15 @@
 -- How the parts of a call move a session, and what an operation leaves of it.
 use Rattle.std.specs.Prelude.{◌≡◌, ℕ, ◌<◌, ◌≤◌, ⊤, true, Option, Some, None, IsSome, List, [], ◌∷◌, ◌++◌, length}
 use Rattle.btree_map.specs.Trees.{keys_in}
-use Rattle.core_state.specs.Commits.{AreIntended}
+use Rattle.core_volume.specs.Commits.{AreIntended}
 use Rattle.core_state.specs.Events.{intended_by}
-use Rattle.core_state.specs.Rulings.{IsRefused}
+use Rattle.core_volume.specs.Rulings.{IsRefused}
 use Rattle.core_state.specs.States.{State, mine, other_holder}
-use Rattle.core_state.specs.declared.answer.Answer.{Answer}
-use Rattle.core_state.specs.declared.answer.Answer.TheVariants as answers
-use Rattle.core_state.specs.declared.answer.Halt.{Halt as MemoryHalt}
-use Rattle.core_state.specs.declared.answer.Refusal.{Refusal}
-use Rattle.core_state.specs.declared.answer.Refusal.TheVariants as refusals
+use Rattle.core_actors.specs.declared.answer.Answer.{Answer}
+use Rattle.core_actors.specs.declared.answer.Answer.TheVariants as answers
+use Rattle.core_actors.specs.declared.answer.Halt.{Halt as MemoryHalt}
+use Rattle.core_actors.specs.declared.answer.Refusal.{Refusal}
+use Rattle.core_actors.specs.declared.answer.Refusal.TheVariants as refusals
 use Rattle.dev_model.specs.Devices.{DevicesState}
 use Rattle.dev_model.specs.Frames.{GoOn}
 use Rattle.forest_ops.specs.Classes.{class_of}

@@ -1,8 +1,8 @@
 -- What a volume keeps between its operations, beside what its session keeps: the failures that its history tells, and what client 0 has under way, which is nothing.
 use Rattle.std.specs.Prelude.{◌≡◌, ◌<◌, ◌^◌, ℕ, All, false, Option, None, length, option_map, is_some}
-use Rattle.core_state.specs.Actors.{holds}
+use Rattle.core_actors.specs.Actors.{holds}
 use Rattle.core_state.specs.States.{State, mine}
-use Rattle.core_state.specs.declared.answer.Halt.{Halt as MemoryHalt}
+use Rattle.core_actors.specs.declared.answer.Halt.{Halt as MemoryHalt}
 use Rattle.dev_model.specs.Devices.{DevicesState}
 use Rattle.dev_model.specs.Frames.{after_writes}
 use Rattle.forest_ops.specs.History.{History}

@@ -1,7 +1,7 @@
 ghost use Rattle.std.specs.Prelude.{◌≡◌, ◌<◌, true, false, IfOk, Err, None, OnErr, Some};
-ghost use Rattle.core_state.specs.Commits.{AreIntended};
+ghost use Rattle.core_volume.specs.Commits.{AreIntended};
 ghost use Rattle.core_state.specs.Events.{intended_by};
-ghost use Rattle.core_state.specs.Rulings.{IsRefused};
+ghost use Rattle.core_volume.specs.Rulings.{IsRefused};
 ghost use Rattle.core_state.specs.States.{mine};
 ghost use Rattle.forest_ops.specs.declared.operation.Reply.TheVariants.{Okay};
 ghost use Rattle.vol_core.specs.Rested.{IsRested};

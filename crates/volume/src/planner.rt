@@ -2,7 +2,7 @@ ghost use Rattle.std.specs.Arc.{arc_value};
 ghost use Rattle.std.specs.Prelude.{◌≡◌, true, IfOk, OnErr};
 ghost use Rattle.btree_map.specs.Trees.{keys_in};
 ghost use Rattle.dirty_nodes.specs.Ids.{id_trees};
-ghost use Rattle.core_state.specs.Actors.{with_ids, with_look};
+ghost use Rattle.core_actors.specs.Actors.{with_ids, with_look};
 ghost use Rattle.core_state.specs.States.{mine};
 ghost use Rattle.fs_plan.specs.Plans.{MayReply, is_planned};
 ghost use Rattle.vol_session.specs.Sessions.{IsPlanNow};

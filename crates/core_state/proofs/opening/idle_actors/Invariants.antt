@@ -1,5 +1,5 @@
 use Rattle.std.proofs.Common.{◌≡◌, replicate}
-use Rattle.core_state.specs.Actors.{idle_actor}
+use Rattle.core_actors.specs.Actors.{idle_actor}
 use Rattle.core_state.proofs.opening.idle_actors.Given as goal
 
 abbrev pub invariant-loop : goal.invariant-loop

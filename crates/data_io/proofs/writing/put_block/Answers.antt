@@ -8,7 +8,8 @@ use Rattle.dev_model.specs.FrameLaws.{go_on_here, go_on_by_write, go_on_then}
 use Rattle.dev_model.specs.HeldLaws.{hold_here, hold_by_write}
 use Rattle.data_io.specs.Reads.{places_of}
 use Rattle.data_io.specs.Writes.{IsBlockAt, IsOneOf}
-use Rattle.data_io.proofs.WrittenPlaces.{elsewhere_more, is_there, is_within, the_place, written_more}
+use Rattle.dev_model.specs.WriteLaws.{elsewhere_more}
+use Rattle.data_io.proofs.WrittenPlaces.{is_there, is_within, the_place, written_more}
 use Rattle.data_io.proofs.writing.put_block.Goals as goal
 
 -- It is one of the places.

@@ -1,5 +1,5 @@
 use Rattle.std.proofs.Common.{◌<◌, length, ap, ◌∙◌, subst, sym}
-use Rattle.dev_model.specs.Disk.{Disk}
+use Rattle.dev_model.specs.Disk.{Disk, IsBlock}
 use Rattle.dev_model.specs.Restart.{block_left_by}
 use Rattle.dev_model.proofs.DiskSteps.{block_read_or, size_at}
 use Rattle.dev_model.proofs.RecordedSteps.{failed_write_added}
@@ -17,4 +17,4 @@ returns-clause-ok c =
     let place = size_at devices c.args.dev c.args.block disk c.requires.place in
     let read = block_read_or devices c.args.dev c.args.block disk c.block.result.now place.0 c.index-disk.ensures c.block.ensures.block in
     let left = c.in_ok-left.ensures.exact ∙ ap (block_left_by c.args.pick c.args.bytes.now) (c.as_slice.ensures ∙ sym read) in
-    failed_write_added c.add_write.result devices _ c.args.steps.now.items _ c.args.dev c.args.block c.args.bytes.now c.in_ok-left.left _ left c.in_ok-left.ensures.sound c.add_write.ensures.ok
+    failed_write_added c.add_write-result.result devices _ c.args.steps.now.items _ c.args.dev c.args.block c.args.bytes.now c.as_slice-2.result.now _ (c.as_slice-2.ensures ∙ left) (subst IsBlock (sym c.as_slice-2.ensures) c.in_ok-left.ensures.sound) c.add_write-result.ensures.ok

@@ -6,7 +6,8 @@ use Rattle.dev_model.specs.Crashes.{IsCrashImageBut}
 use Rattle.dev_model.specs.FrameLaws.{go_on_here, go_on_by_write, go_on_then}
 use Rattle.dev_model.specs.HeldLaws.{hold_here, hold_by_write}
 use Rattle.geometry.specs.Mirrors.{IsMirror, IsMirrorBlock}
-use Rattle.geometry.proofs.Mirroring.{elsewhere_more, written_more}
+use Rattle.dev_model.specs.WriteLaws.{elsewhere_more}
+use Rattle.geometry.proofs.Mirroring.{written_more}
 use Rattle.geometry.proofs.mirrors.write_mirrors.Goals as goal
 
 pub loop-dev-init : goal.loop-dev-init

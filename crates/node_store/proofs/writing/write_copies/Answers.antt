@@ -9,7 +9,8 @@ use Rattle.dev_model.specs.FrameLaws.{go_on_here, go_on_by_write, go_on_then}
 use Rattle.dev_model.specs.HeldLaws.{hold_here, hold_by_write}
 use Rattle.node_store.specs.Writes.{HasLengthsOf, IsCopyBlock, IsCopyOf}
 use Rattle.node_store.proofs.WrittenLengths.{lengths_go_on}
-use Rattle.node_store.proofs.WrittenCopies.{elsewhere_more, written_more}
+use Rattle.dev_model.specs.WriteLaws.{elsewhere_more}
+use Rattle.node_store.proofs.WrittenCopies.{written_more}
 use Rattle.node_store.proofs.writing.write_copies.Goals as goal
 
 pub loop-place-init : goal.loop-place-init

@@ -1,7 +1,7 @@
 use Rattle.std.proofs.Common.{subst, true}
 use Rattle.core_state.specs.Events.{intended_by}
-use Rattle.core_state.specs.Rulings.{IsRefused}
-use Rattle.core_state.specs.declared.answer.Refusal.{Refusal}
+use Rattle.core_volume.specs.Rulings.{IsRefused}
+use Rattle.core_actors.specs.declared.answer.Refusal.{Refusal}
 use Rattle.volume.proofs.Lacking.{buckets_are_full, commit_is_spent, leaf_is_full}
 use Rattle.volume.proofs.Replying.{intended_is_done}
 use Rattle.volume.proofs.Served.{lack_result, spent_served}

@@ -1,8 +1,8 @@
 use Rattle.std.proofs.Common.{inl, inr, refl, subst, true}
 use Rattle.core_state.specs.Events.{intended_by}
-use Rattle.core_state.specs.Rulings.{IsRefused}
-use Rattle.core_state.specs.declared.answer.Refusal.{Refusal}
-use Rattle.core_state.specs.declared.answer.Refusal.TheVariants as refusals
+use Rattle.core_volume.specs.Rulings.{IsRefused}
+use Rattle.core_actors.specs.declared.answer.Refusal.{Refusal}
+use Rattle.core_actors.specs.declared.answer.Refusal.TheVariants as refusals
 use Rattle.volume.specs.Answers.{IsFullAtRest}
 use Rattle.volume.proofs.Lacking.{commit_is_spent, leaf_is_full}
 use Rattle.volume.proofs.Replying.{intended_is_done}

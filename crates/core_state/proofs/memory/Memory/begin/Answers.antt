@@ -1,4 +1,4 @@
-use Rattle.core_state.specs.Actors.{begun}
+use Rattle.core_actors.specs.Actors.{begun}
 use Rattle.core_state.proofs.Kept.{begun-kept, changed-kept}
 use Rattle.core_state.proofs.memory.Memory.begin.Goals as goal
 

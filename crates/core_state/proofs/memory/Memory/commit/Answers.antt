@@ -2,7 +2,7 @@ use Rattle.std.proofs.Common.{◌∙◌, ap, subst, sym}
 use Rattle.std.specs.Prelude.{slice_set}
 use Rattle.core_state.specs.Events.{CommitGives}
 use Rattle.core_state.specs.States.{State}
-use Rattle.core_state.specs.Volumes.{Volume}
+use Rattle.core_volume.specs.Volumes.{Volume}
 use Rattle.core_state.proofs.Committed.{commit-kept, refused-gives}
 use Rattle.core_state.proofs.memory.Memory.commit.Goals as goal
 

@@ -3,9 +3,9 @@ use Rattle.std.proofs.Common.{rules, ◌≡◌, ◌∙◌, None, ap}
 use Rattle.std.specs.Prelude.{◌≢◌}
 use Rattle.btree_map.specs.Trees.{keys_in}
 use Rattle.core_state.specs.States.{State}
-use Rattle.core_state.specs.Volumes.{Volume, node_stage_of}
+use Rattle.core_volume.specs.Volumes.{Volume, node_stage_of}
 use Rattle.journal_writer.specs.declared.stage.Stage.TheVariants.{CommitNodes}
-use Rattle.core_state.proofs.InPlace.{commit_nodes-told, nodes-kept}
+use Rattle.core_state.proofs.NodeEvents.{commit_nodes-told, nodes-kept}
 use Rattle.core_state.proofs.memory.Memory.commit_nodes.Goals as goal
 
 pub invariant_of-self : goal.invariant_of-self

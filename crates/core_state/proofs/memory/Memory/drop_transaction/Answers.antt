@@ -1,4 +1,4 @@
-use Rattle.core_state.specs.Actors.{dropped}
+use Rattle.core_actors.specs.Actors.{dropped}
 use Rattle.core_state.proofs.Kept.{dropped-kept, given_back-kept}
 use Rattle.core_state.proofs.memory.Memory.drop_transaction.Goals as goal
 

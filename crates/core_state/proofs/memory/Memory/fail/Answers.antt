@@ -1,5 +1,5 @@
 use Rattle.std.specs.Prelude.{slice_set}
-use Rattle.core_state.specs.Actors.{with_fault}
+use Rattle.core_actors.specs.Actors.{with_fault}
 use Rattle.core_state.proofs.Kept.{changed-kept, fault-kept, stopped-kept}
 use Rattle.core_state.proofs.memory.Memory.fail.Goals as goal
 

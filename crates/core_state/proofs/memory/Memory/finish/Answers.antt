@@ -1,4 +1,4 @@
-use Rattle.core_state.specs.Actors.{ended}
+use Rattle.core_actors.specs.Actors.{ended}
 use Rattle.core_state.proofs.Kept.{ended-kept, given_back-kept}
 use Rattle.core_state.proofs.memory.Memory.finish.Goals as goal
 

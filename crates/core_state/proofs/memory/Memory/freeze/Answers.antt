@@ -3,11 +3,11 @@ use Rattle.std.proofs.Common.{rules, not, refl, ◌≡◌, ◌∙◌, None, ap, 
 use Rattle.std.proofs.lemmas.Bool.{eq-eqb, true≢false}
 use Rattle.std.specs.Prelude.{◌==◌, ◌≢◌}
 use Rattle.btree_map.specs.Trees.{keys_in}
-use Rattle.core_state.specs.Checkpoints.{IsUnfrozen}
+use Rattle.core_volume.specs.Checkpoints.{IsUnfrozen}
 use Rattle.core_state.specs.States.{State}
-use Rattle.core_state.specs.Volumes.{Volume, node_stage_of}
+use Rattle.core_volume.specs.Volumes.{Volume, node_stage_of}
 use Rattle.journal_writer.specs.declared.stage.Stage.TheVariants.{Freeze}
-use Rattle.core_state.proofs.InPlace.{freeze-noted, freeze-told, nodes-kept, refused-kept}
+use Rattle.core_state.proofs.NodeEvents.{freeze-noted, freeze-told, nodes-kept, refused-kept}
 use Rattle.core_state.proofs.memory.Memory.freeze.Goals as goal
 
 pub invariant_of-self : goal.invariant_of-self

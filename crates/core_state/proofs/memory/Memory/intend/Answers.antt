@@ -1,6 +1,6 @@
 use Rattle.std.proofs.Common.{◌∙◌, Some, sym, subst}
-use Rattle.core_state.specs.Actors.{with_intent}
-use Rattle.core_state.specs.Commits.{AreIntended}
+use Rattle.core_actors.specs.Actors.{with_intent}
+use Rattle.core_volume.specs.Commits.{AreIntended}
 use Rattle.core_state.specs.States.{State}
 use Rattle.core_state.proofs.Kept.{intends-kept, taken-kept}
 use Rattle.core_state.proofs.memory.Memory.intend.Goals as goal

@@ -2,7 +2,7 @@ use Rattle.std.proofs.Common.{◌∙◌, List, ap, sym}
 use Rattle.btree_map.specs.Trees.{keys_in}
 use Rattle.vol_types.specs.KeyMaps.{answer_of}
 use Rattle.vol_types.specs.declared.keys.Key.{Key}
-use Rattle.core_state.specs.Actors.{with_look}
+use Rattle.core_actors.specs.Actors.{with_look}
 use Rattle.core_state.proofs.Kept.{looked-kept, taken-kept}
 use Rattle.core_state.proofs.memory.Memory.look.Goals as goal
 

@@ -1,5 +1,5 @@
-use Rattle.core_state.specs.Actors.{noted}
-use Rattle.core_state.specs.declared.commit.Why.TheVariants as whys
+use Rattle.core_actors.specs.Actors.{noted}
+use Rattle.core_volume.specs.declared.commit.Why.TheVariants as whys
 use Rattle.core_state.proofs.Kept.{changed-kept, noted-kept}
 use Rattle.core_state.proofs.memory.Memory.refused.Goals as goal
 

@@ -1,5 +1,5 @@
 use Rattle.std.proofs.Common.{ap}
-use Rattle.core_state.specs.Volumes.{Volume}
+use Rattle.core_volume.specs.Volumes.{Volume}
 use Rattle.core_state.proofs.Kept.{journal-kept}
 use Rattle.core_state.proofs.memory.Memory.settle.Goals as goal
 

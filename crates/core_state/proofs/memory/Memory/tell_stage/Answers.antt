@@ -1,4 +1,4 @@
-use Rattle.core_state.specs.Actors.{told_of}
+use Rattle.core_actors.specs.Actors.{told_of}
 use Rattle.core_state.proofs.Kept.{told-kept, changed-kept}
 use Rattle.core_state.proofs.memory.Memory.tell_stage.Goals as goal
 

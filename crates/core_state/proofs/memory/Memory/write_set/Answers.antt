@@ -9,9 +9,9 @@ use Rattle.node_store.specs.declared.fault.NodeFault.{NodeFault}
 use Rattle.node_writeback.specs.NodeWrites.{WritesNodePart}
 use Rattle.core_state.specs.Devices.{WritesNode}
 use Rattle.core_state.specs.States.{State}
-use Rattle.core_state.specs.Volumes.{Volume, node_stage_of}
-use Rattle.core_state.specs.declared.answer.Answer.TheVariants as answers
-use Rattle.core_state.proofs.InPlace.{block-told, fault-told, no_bad_node, no_want_of_memory, nodes-kept, some-left, write_set-told}
+use Rattle.core_volume.specs.Volumes.{Volume, node_stage_of}
+use Rattle.core_actors.specs.declared.answer.Answer.TheVariants as answers
+use Rattle.core_state.proofs.NodeEvents.{block-told, fault-told, no_bad_node, no_want_of_memory, nodes-kept, some-left, write_set-told}
 use Rattle.core_state.proofs.memory.Memory.write_set.Goals as goal
 
 pub returns-then-ne-clause-gives : goal.returns-then-ne-clause-gives

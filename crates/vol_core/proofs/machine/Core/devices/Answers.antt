@@ -1,5 +1,5 @@
 use Rattle.std.proofs.Common.{◌≡◌, subst}
-use Rattle.core_state.specs.Volumes.{Volume}
+use Rattle.core_volume.specs.Volumes.{Volume}
 use Rattle.vol_core.specs.Left.{KeepsLeft}
 use Rattle.vol_core.specs.Safety.{Survives}
 use Rattle.vol_core.proofs.KeptDurable.{left_now}

@@ -1,5 +1,5 @@
 use Rattle.std.proofs.Common.{◌≡◌, [], ◌∷◌, ◌++◌, ◌∙◌, None, true, ap, sym, subst}
-use Rattle.core_state.specs.Volumes.{are_durable}
+use Rattle.core_volume.specs.Volumes.{are_durable}
 use Rattle.dev_model.specs.Devices.{now}
 use Rattle.forest_ops.specs.declared.operation.Op.TheVariants.{Sync}
 use Rattle.forest_ops.specs.declared.operation.Reply.TheVariants.{Synced}

@@ -1,6 +1,6 @@
 use Rattle.std.proofs.Common.{[], ◌∷◌, ◌++◌, ◌+◌, ◌∙◌, refl, ap, sym, subst}
 use Rattle.core_state.specs.Events.{intended_by}
-use Rattle.core_state.specs.Volumes.{IsVolume, KeepParts}
+use Rattle.core_volume.specs.Volumes.{IsVolume, KeepParts}
 use Rattle.vol_session.proofs.Kept.{committed, stays, uncommitted}
 use Rattle.vol_session.specs.Sessions.{IsPlanNow, IsSession, IsUncommitted}
 use Rattle.vol_session.proofs.session.Session.commit.Goals as goal

@@ -1,5 +1,5 @@
 use Rattle.std.proofs.Common.{[], ◌∙◌, ap, sym, subst}
-use Rattle.core_state.specs.Volumes.{IsVolume}
+use Rattle.core_volume.specs.Volumes.{IsVolume}
 use Rattle.dev_model.specs.Devices.{now}
 use Rattle.vol_core.specs.Left.{KeepsLeft}
 use Rattle.vol_core.specs.Safety.{MayBegin}

@@ -1,6 +1,6 @@
 use Rattle.std.proofs.Common.{◌≤◌, ◌<◌, ◌^◌, ℕ, length, sym, subst}
 use Rattle.btree_map.specs.Trees.{IsTrees}
-use Rattle.core_state.specs.Volumes.{IsVolume, KeepParts}
+use Rattle.core_volume.specs.Volumes.{IsVolume, KeepParts}
 use Rattle.vol_session.proofs.NumbersLeft.{commits_few, numbers_left}
 use Rattle.vol_session.specs.Marks.{forest_found}
 use Rattle.vol_session.specs.Numbers.{HasNumbersLeft, IsFarFromSpent}

@@ -1,5 +1,5 @@
 use Rattle.std.proofs.Common.{subst}
-use Rattle.core_state.specs.Volumes.{IsVolume, KeepParts}
+use Rattle.core_volume.specs.Volumes.{IsVolume, KeepParts}
 use Rattle.journal_writer.specs.Queues.{IsQueue}
 use Rattle.vol_session.proofs.Kept.{stepped}
 use Rattle.vol_session.proofs.Moves.{step_moves}

@@ -1,5 +1,5 @@
 use Rattle.std.proofs.Common.{◌∙◌, ap}
-use Rattle.core_state.specs.Volumes.{Volume}
+use Rattle.core_volume.specs.Volumes.{Volume}
 use Rattle.volume.proofs.Opened.{between_opened}
 use Rattle.volume.proofs.state.VolState.start.Goals as goal
 

@@ -1,0 +1,3 @@
+pub mod KeptIds
+pub mod Actors
+pub mod Nodes

@@ -1,6 +1,0 @@
-use Rattle.std.proofs.Common.{◌≡◌, ◌<◌, ◌++◌, drop, length}
-use Rattle.core_state.specs.Nodes.{places_in}
-use Rattle.core_state.proofs.nodes.node_places.Given as goal
-
-abbrev pub invariant-loop-code : goal.invariant-loop-code
-invariant-loop-code l = (l.places ++ places_in (drop l.code l.map.nodes) ≡ places_in l.map.nodes) × (0 < l.code → length l.map.nodes ≡ 9)

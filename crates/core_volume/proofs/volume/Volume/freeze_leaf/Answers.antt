@@ -1,0 +1,62 @@
+-- A leaf that is due is the only one of its btree, and what is written of it may stand; a volume in which it was frozen is kept.
+use Rattle.std.proofs.Common.{◌≡◌, ◌∙◌, Some, None, ap, arith, subst, sym}
+use Rattle.std.specs.Prelude.{option_copied}
+use Rattle.std.specs.Ordering.{nat_cmp}
+use Rattle.birth_index.specs.Births.{levels_of}
+use Rattle.btree_map.specs.Trees.{IsTrees, Trees}
+use Rattle.journal_writer.specs.Queues.{first_with}
+use Rattle.journal_writer.specs.declared.stage.Stage.TheVariants.{Freeze}
+use Rattle.node_writeback.specs.Due.{root_in}
+use Rattle.node_writeback.specs.Durable.{undurable}
+use Rattle.node_writeback.specs.Freezing.{HasBirth, fresh_leaf}
+use Rattle.node_writeback.specs.NodeWork.{with_frozen}
+use Rattle.vol_types.specs.Maps.{put_at}
+use Rattle.core_volume.specs.Checkpoints.{due_in}
+use Rattle.core_volume.specs.Volumes.{IsVolume, Volume, node_stage_of}
+use Rattle.core_volume.proofs.Frozen.{durable-stand, frozen-kept, idle-freezing, mirrors-few, passes}
+use Rattle.core_volume.proofs.volume.Volume.freeze_leaf.Goals as goal
+
+pub freeze_leaf-requires-clause-mirrors : goal.freeze_leaf-requires-clause-mirrors
+freeze_leaf-requires-clause-mirrors c =
+    let inside = c.self.inside in
+    let old : Volume = record { layout = inside.layout; session = inside.session; trees = inside.keys; queue = inside.queue.queue; pins = inside.dirty.pins.numbers; marks = inside.dirty.marks.numbers; later = inside.dirty.later.numbers; space = inside.pool; writer = inside.writer; work = inside.nodes; emptied = inside.emptied; halted = inside.halted; changes = inside.changes } in
+    mirrors-few old c.self.invariant
+
+pub freeze_leaf-requires-clause-alone : goal.freeze_leaf-requires-clause-alone
+freeze_leaf-requires-clause-alone c =
+    let inside = c.self.inside in
+    let old : Volume = record { layout = inside.layout; session = inside.session; trees = inside.keys; queue = inside.queue.queue; pins = inside.dirty.pins.numbers; marks = inside.dirty.marks.numbers; later = inside.dirty.later.numbers; space = inside.pool; writer = inside.writer; work = inside.nodes; emptied = inside.emptied; halted = inside.halted; changes = inside.changes } in
+    let btree = c.args.btree in
+    let due : due_in old ≡ Some btree = subst (λ (v : Volume). due_in v ≡ Some btree) (sym c.self.view_is) c.requires.due in
+    let tree = ((subst IsTrees c.map-2.ensures c.height.ensures.sound).each btree).nodes in
+    let alone = c.frozen_leaves_are_kept.ensures.alone inside.writer.durable.sequence inside.keys.nodes inside.dirty.pins.numbers inside.nodes.finished btree tree (passes old c.self.invariant btree due) in
+    (root_in inside.keys.nodes btree, ap (λ (t : Trees). levels_of t.nodes btree) c.map-3.ensures ∙ alone)
+
+pub freeze_leaf-requires-clause-stand : goal.freeze_leaf-requires-clause-stand
+freeze_leaf-requires-clause-stand c =
+    let inside = c.self.inside in
+    let old : Volume = record { layout = inside.layout; session = inside.session; trees = inside.keys; queue = inside.queue.queue; pins = inside.dirty.pins.numbers; marks = inside.dirty.marks.numbers; later = inside.dirty.later.numbers; space = inside.pool; writer = inside.writer; work = inside.nodes; emptied = inside.emptied; halted = inside.halted; changes = inside.changes } in
+    durable-stand old c.self.invariant c.commits_are_undone.ensures.all c.args.btree c.map-3.result.now c.map-3.ensures (option_copied c.in_flight.result) c.in_flight.ensures.entry
+
+pub invariant_of-self-2 : goal.invariant_of-self-2
+invariant_of-self-2 c =
+    let inside = c.self.inside in
+    let old : Volume = record { layout = inside.layout; session = inside.session; trees = inside.keys; queue = inside.queue.queue; pins = inside.dirty.pins.numbers; marks = inside.dirty.marks.numbers; later = inside.dirty.later.numbers; space = inside.pool; writer = inside.writer; work = inside.nodes; emptied = inside.emptied; halted = inside.halted; changes = inside.changes } in
+    let btree = c.args.btree in
+    let made = c.in_ok-freeze_leaf.ensures in
+    let due : due_in old ≡ Some btree = subst (λ (v : Volume). due_in v ≡ Some btree) (sym c.self.view_is) c.requires.due in
+    let tree = ((subst IsTrees c.map-2.ensures c.height.ensures.sound).each btree).nodes in
+    let idle : inside.nodes.unfinished ≡ None = idle-freezing old c.args.node (subst (λ (v : Volume). node_stage_of v ≡ Freeze c.args.node) (sym c.self.view_is) c.requires.stage.stage_is) in
+    let blocked = made.frozen.blocked in
+    let fresh = fresh_leaf inside.session inside.nodes.born inside.layout.metadata_replicas inside.pool in
+    let has : HasBirth inside.session inside.nodes.born inside.keys.nodes = subst (λ (t : Trees). HasBirth inside.session inside.nodes.born t.nodes) c.map-3.ensures made.birth in
+    let later = made.later ∙ (λ i. put_at nat_cmp (root_in (c.map-3.ensures i).nodes btree).birth (first_with btree (undurable (c.in_flight.ensures.entry i) inside.queue.queue)) inside.dirty.later.numbers) in
+    let work = made.frozen.is ∙ (λ i. with_frozen (record { btree = btree; birth = (root_in (c.map-3.ensures i).nodes btree).birth; fresh = fresh; blocked = blocked }) inside.nodes) in
+    subst IsVolume (sym (λ i. record { layout = inside.layout; session = inside.session; trees = inside.keys; queue = inside.queue.queue; pins = c.freeze_leaf.ensures.pins i; marks = c.freeze_leaf.ensures.marks i; later = later i; space = made.pool i; writer = inside.writer; work = work i; emptied = inside.emptied; halted = inside.halted; changes = inside.changes }))
+    (frozen-kept old c.self.invariant btree due idle c.pin_of.ensures.rise.changed blocked c.frozen_leaves_are_kept.ensures.more tree has
+    (c.nodes_keep_their_buckets.ensures.taken_past_journal inside.layout inside.layout.metadata_replicas inside.pool c.self.invariant.fixed made.free (omega arith))
+    ((c.nodes_keep_their_buckets.ensures.noded 0 inside.layout.metadata_replicas inside.pool).fixed inside.layout c.self.invariant.fixed)
+    c.btrees_change_from_their_first_entry.ensures.later c.btrees_change_from_their_first_entry.ensures.in_turn c.commits.ensures.sound)
+
+pub returns-clause-sound : goal.returns-clause-sound
+returns-clause-sound c = invariant_of-self-2 c
