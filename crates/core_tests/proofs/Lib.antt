@@ -1,1 +1,1 @@
-mod VolumesAreSent
+mod Sendable

@@ -3,7 +3,7 @@ use denote.RattleType.{RattleType}
 use denote.Param.{param}
 use denote.Param.Send.{IsSend, sendable}
 use Rattle.std.proofs.Crossing.{crosses}
-use Rattle.core_tests.proofs.VolumesAreSent.{MemDevices-send}
+use Rattle.core_tests.proofs.Sendable.{MemDevices-send}
 use Rattle.core_tests.specs.contracts.core_threads.Returned as Returned
 use Rattle.dev_model.specs.contracts.memory.MemDevices as MemDevices
 use Rattle.dev_model.specs.contracts.memory.MemDevicesDevices.TheImpl.{ghosts}

@@ -3,7 +3,7 @@ use denote.RattleType.{RattleType}
 use denote.Param.{param}
 use denote.Param.Send.{IsSend, sendable}
 use Rattle.std.proofs.Crossing.{crosses}
-use Rattle.core_tests.proofs.VolumesAreSent.{VolState-send}
+use Rattle.core_tests.proofs.Sendable.{VolState-send}
 use Rattle.core_tests.specs.contracts.volume_threads.Returned as Returned
 use Rattle.dev_model.specs.declared.devices.Devices as devices
 use Rattle.vol_core.specs.declared.opening.Opening as opening
