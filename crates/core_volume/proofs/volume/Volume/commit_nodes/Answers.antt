@@ -43,8 +43,8 @@ invariant_of-self-in-Ok-exchange c =
     let pins = c.put_in_place.ensures.pins ∙ ap (λ (f : List FrozenNode). moved_pins f inside.dirty.later.numbers inside.dirty.pins.numbers) c.finished-in-Ok-exchange.ensures in
     let marks = c.put_in_place.ensures.marks ∙ ap (λ (f : List FrozenNode). moved_pins f inside.dirty.later.numbers inside.dirty.marks.numbers) c.finished-in-Ok-exchange.ensures in
     let space = c.put_in_place.ensures.pool ∙ ap (λ (n : ℕ). emptied_all (places_of c.exchange.new.changes) (n + 1) inside.pool) c.after-sequence.ensures in
-    let now : Volume = record old { trees = c.exchange.new.self; pins = c.put_in_place.new.dirty.pins.numbers; marks = c.put_in_place.new.dirty.marks.numbers; later = c.put_in_place.new.dirty.later.numbers; space = c.put_in_place.new.pool; work = c.end.new.self; emptied = c.after-sequence.result + 1; changes = inside.changes + 1 } in
-    let made : now ≡ in_place c.exchange.new.changes old = λ i. record old { trees = keys i; pins = pins i; marks = marks i; later = c.put_in_place.ensures.later i; space = space i; work = c.end.ensures.ended i; emptied = c.after-sequence.ensures i + 1; changes = inside.changes + 1 } in
+    let now : Volume = record old { trees = c.exchange.new.self; pins = c.put_in_place.new.dirty.pins.numbers; marks = c.put_in_place.new.dirty.marks.numbers; later = c.put_in_place.new.dirty.later.numbers; space = c.put_in_place.new.pool; work = c.end-ended.new.self; emptied = c.after-sequence.result + 1; changes = inside.changes + 1 } in
+    let made : now ≡ in_place c.exchange.new.changes old = λ i. record old { trees = keys i; pins = pins i; marks = marks i; later = c.put_in_place.ensures.later i; space = space i; work = c.end-ended.ensures.ended i; emptied = c.after-sequence.ensures i + 1; changes = inside.changes + 1 } in
     let laws = c.leaves_are_put_in_place.ensures in
     in_place-kept
     (record {
@@ -76,8 +76,8 @@ returns-clause-sound c =
     let pins = c.put_in_place.ensures.pins ∙ ap (λ (f : List FrozenNode). moved_pins f inside.dirty.later.numbers inside.dirty.pins.numbers) c.finished-in-Ok-exchange.ensures in
     let marks = c.put_in_place.ensures.marks ∙ ap (λ (f : List FrozenNode). moved_pins f inside.dirty.later.numbers inside.dirty.marks.numbers) c.finished-in-Ok-exchange.ensures in
     let space = c.put_in_place.ensures.pool ∙ ap (λ (n : ℕ). emptied_all (places_of c.exchange.new.changes) (n + 1) inside.pool) c.after-sequence.ensures in
-    let now : Volume = record old { trees = c.exchange.new.self; pins = c.put_in_place.new.dirty.pins.numbers; marks = c.put_in_place.new.dirty.marks.numbers; later = c.put_in_place.new.dirty.later.numbers; space = c.put_in_place.new.pool; work = c.end.new.self; emptied = c.after-sequence.result + 1; changes = inside.changes + 1 } in
-    let made : now ≡ in_place c.exchange.new.changes old = λ i. record old { trees = keys i; pins = pins i; marks = marks i; later = c.put_in_place.ensures.later i; space = space i; work = c.end.ensures.ended i; emptied = c.after-sequence.ensures i + 1; changes = inside.changes + 1 } in
+    let now : Volume = record old { trees = c.exchange.new.self; pins = c.put_in_place.new.dirty.pins.numbers; marks = c.put_in_place.new.dirty.marks.numbers; later = c.put_in_place.new.dirty.later.numbers; space = c.put_in_place.new.pool; work = c.end-ended.new.self; emptied = c.after-sequence.result + 1; changes = inside.changes + 1 } in
+    let made : now ≡ in_place c.exchange.new.changes old = λ i. record old { trees = keys i; pins = pins i; marks = marks i; later = c.put_in_place.ensures.later i; space = space i; work = c.end-ended.ensures.ended i; emptied = c.after-sequence.ensures i + 1; changes = inside.changes + 1 } in
     let laws = c.leaves_are_put_in_place.ensures in
     in_place-kept
     (record {
@@ -109,8 +109,8 @@ returns-clause-placed c =
     let pins = c.put_in_place.ensures.pins ∙ ap (λ (f : List FrozenNode). moved_pins f inside.dirty.later.numbers inside.dirty.pins.numbers) c.finished-in-Ok-exchange.ensures in
     let marks = c.put_in_place.ensures.marks ∙ ap (λ (f : List FrozenNode). moved_pins f inside.dirty.later.numbers inside.dirty.marks.numbers) c.finished-in-Ok-exchange.ensures in
     let space = c.put_in_place.ensures.pool ∙ ap (λ (n : ℕ). emptied_all (places_of c.exchange.new.changes) (n + 1) inside.pool) c.after-sequence.ensures in
-    let now : Volume = record old { trees = c.exchange.new.self; pins = c.put_in_place.new.dirty.pins.numbers; marks = c.put_in_place.new.dirty.marks.numbers; later = c.put_in_place.new.dirty.later.numbers; space = c.put_in_place.new.pool; work = c.end.new.self; emptied = c.after-sequence.result + 1; changes = inside.changes + 1 } in
-    let made : now ≡ in_place c.exchange.new.changes old = λ i. record old { trees = keys i; pins = pins i; marks = marks i; later = c.put_in_place.ensures.later i; space = space i; work = c.end.ensures.ended i; emptied = c.after-sequence.ensures i + 1; changes = inside.changes + 1 } in
+    let now : Volume = record old { trees = c.exchange.new.self; pins = c.put_in_place.new.dirty.pins.numbers; marks = c.put_in_place.new.dirty.marks.numbers; later = c.put_in_place.new.dirty.later.numbers; space = c.put_in_place.new.pool; work = c.end-ended.new.self; emptied = c.after-sequence.result + 1; changes = inside.changes + 1 } in
+    let made : now ≡ in_place c.exchange.new.changes old = λ i. record old { trees = keys i; pins = pins i; marks = marks i; later = c.put_in_place.ensures.later i; space = space i; work = c.end-ended.ensures.ended i; emptied = c.after-sequence.ensures i + 1; changes = inside.changes + 1 } in
     let numbers = c.has_placing_numbers.ensures.0 c.if-not-has_placing_numbers.false in
     let before = subst (λ (es : List Exchange). AreBefore inside.keys.nodes es c.exchange.new.changes) items c.in-Ok-exchange.ensures.before in
     placed-told old c.args.self.now now c.self.view_is c.requires numbers c.exchange.new.changes
