@@ -1,6 +1,6 @@
 -- Why a change lacks space or a number, said of the updates that client 0 intends for it, or that its plan has.
-use Rattle.std.proofs.Common.{◌≡◌, Bool, true, false, not, inl, inr, ⊎_elim, refl, subst, sym}
-use Rattle.std.proofs.lemmas.Bool.{true≢false}
+use Rattle.std.proofs.Common.{◌≡◌, true, false, not, inl, inr, ⊎_elim, refl, subst, sym}
+use Rattle.std.proofs.lemmas.Bool.{not-false, true≢false}
 use Rattle.core_volume.specs.Commits.{AreIntended}
 use Rattle.core_state.specs.Events.{intended_by}
 use Rattle.core_volume.specs.Rulings.{IsRefused}
@@ -20,10 +20,6 @@ use Rattle.vol_session.specs.Sessions.{IsPlanNow}
 use Rattle.vol_types.specs.declared.space.Short.{Short}
 use Rattle.volume.specs.Answers.{AreUpdatesOf, IsNumberSpent, LacksSpace, TellsRefusal, nothing_short}
 use Rattle.volume.specs.Serving.{IsHelpless, IsIntended}
-
-not_false : (b : Bool) → not b ≡ false → b ≡ true
-not_false true no = refl
-not_false false no = absurd (true≢false no)
 
 -- Both works rest where a checkpoint would help.
 rests : (volume : Volume) → IsHelpless volume true → IsRested volume
@@ -46,7 +42,7 @@ module _ (memory : State) (op : Op) (intended : IsIntended memory op) where
   pub buckets_are_full : (none : NoSpace) → IsHelpless memory.volume (not none.idle) → IsRefused memory.volume (intended_by memory 0) true (refusals.NoSpace none) → LacksSpace op none.short memory.volume
   buckets_are_full none helpless refused =
       ⊎_elim
-      (λ (no : not none.idle ≡ false). inr (inr (inl (record { updates = intended_by memory 0; of_op = intended.now; none = none; refused = refused; idle = not_false none.idle no; told = refl }))))
+      (λ (no : not none.idle ≡ false). inr (inr (inl (record { updates = intended_by memory 0; of_op = intended.now; none = none; refused = refused; idle = not-false none.idle no; told = refl }))))
       (λ (rested : IsRested memory.volume). at_rest none.short (refusals.NoSpace none) rested refused refl)
       helpless
 
