@@ -67,7 +67,7 @@ mkfile main:/a/a/a/a/a/a/a/a/a/a/a/a/a/a/a/a/a/a/a/a/a/a/a/a/a/a/a/a/a/a/a/a
 mkfile main:/a/a/a/a/a/a/a/a/a/a/a/a/a/a/a/a/a/a/a/a/a/a/a/a/a/a/a/a/a/a/a/a/a
 mkfile other:/a
 mkfile :/a
-mkfile a:b:/a
+mkfile a%3Ab:/a
 mkfile ..:/a
 sync
 ",

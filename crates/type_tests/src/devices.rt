@@ -84,56 +84,42 @@ fn made(alloc: Global, failing: u64, run: Run) -> Result<MemDevices, AllocError>
 }
 
 // A run with a call that fails and a pick of what a crash leaves; what is at two places then.
-type Row = (Run, u64, Pick, [Option<(u8, u8)>; 2]);
+type Row = (Run, u64, Pick, (u8, u8), Option<(u8, u8)>);
 
 static CRASHES: [Row; 18] = [
-    (Run::Twice, 9, Pick::AllWritten, [Some((2, 2)), None]),
-    (Run::Twice, 9, Pick::NoneWritten, [Some((1, 1)), None]),
-    (Run::Twice, 9, Pick::Torn, [Some((2, 1)), None]),
-    (Run::Twice, 2, Pick::AllWritten, [Some((1, 1)), None]),
-    (Run::Twice, 2, Pick::NoneWritten, [Some((1, 1)), None]),
-    (Run::Twice, 2, Pick::Torn, [Some((1, 1)), None]),
-    (Run::Twice, 1, Pick::AllWritten, [Some((2, 2)), None]),
-    (Run::Twice, 1, Pick::NoneWritten, [Some((0, 0)), None]),
-    (Run::Twice, 1, Pick::Torn, [Some((2, 0)), None]),
-    (Run::Twice, 0, Pick::AllWritten, [Some((2, 2)), None]),
-    (Run::Twice, 0, Pick::NoneWritten, [Some((0, 0)), None]),
-    (Run::Twice, 0, Pick::Torn, [Some((2, 0)), None]),
-    (
-        Run::Longer,
-        2,
-        Pick::AllWritten,
-        [Some((0, 0)), Some((1, 1))],
-    ),
-    (Run::Longer, 2, Pick::NoneWritten, [Some((0, 0)), None]),
-    (Run::Longer, 2, Pick::Torn, [Some((0, 0)), Some((1, 0))]),
-    (
-        Run::Longer,
-        9,
-        Pick::AllWritten,
-        [Some((0, 0)), Some((1, 1))],
-    ),
-    (
-        Run::Longer,
-        9,
-        Pick::NoneWritten,
-        [Some((0, 0)), Some((1, 1))],
-    ),
-    (Run::Longer, 9, Pick::Torn, [Some((0, 0)), Some((1, 1))]),
+    (Run::Twice, 9, Pick::AllWritten, (2, 2), None),
+    (Run::Twice, 9, Pick::NoneWritten, (1, 1), None),
+    (Run::Twice, 9, Pick::Torn, (2, 1), None),
+    (Run::Twice, 2, Pick::AllWritten, (1, 1), None),
+    (Run::Twice, 2, Pick::NoneWritten, (1, 1), None),
+    (Run::Twice, 2, Pick::Torn, (1, 1), None),
+    (Run::Twice, 1, Pick::AllWritten, (2, 2), None),
+    (Run::Twice, 1, Pick::NoneWritten, (0, 0), None),
+    (Run::Twice, 1, Pick::Torn, (2, 0), None),
+    (Run::Twice, 0, Pick::AllWritten, (2, 2), None),
+    (Run::Twice, 0, Pick::NoneWritten, (0, 0), None),
+    (Run::Twice, 0, Pick::Torn, (2, 0), None),
+    (Run::Longer, 2, Pick::AllWritten, (0, 0), Some((1, 1))),
+    (Run::Longer, 2, Pick::NoneWritten, (0, 0), None),
+    (Run::Longer, 2, Pick::Torn, (0, 0), Some((1, 0))),
+    (Run::Longer, 9, Pick::AllWritten, (0, 0), Some((1, 1))),
+    (Run::Longer, 9, Pick::NoneWritten, (0, 0), Some((1, 1))),
+    (Run::Longer, 9, Pick::Torn, (0, 0), Some((1, 1))),
 ];
 
 // Whether a crash leaves it so, and zeros at another place.
 fn is_left(alloc: Global, row: &Row) -> bool {
-    let (run, failing, pick, wanted) = row;
+    let (run, failing, pick, first, behind) = row;
     let Ok(devices) = made(alloc, *failing, *run) else {
         return false;
     };
     match devices.restart(*pick) {
         Ok(mut after) => {
-            let found = [ends(&mut after, 1, 2), ends(&mut after, 0, 5)];
+            let found = ends(&mut after, 1, 2);
+            let extended = ends(&mut after, 0, 5);
             let other = ends(&mut after, 0, 3);
             drop(after);
-            found == *wanted && other == Some((0, 0))
+            found == Some(*first) && extended == *behind && other == Some((0, 0))
         }
         Err(_) => false,
     }
