@@ -217,9 +217,16 @@ fn keys_of(alloc: Global, case: &Case, code: u64) -> Result<TreeKeys, AllocError
     Ok(tree)
 }
 
+fn cut(tree: &mut TreeKeys, pos: &Pos) -> Result<(), AllocError> {
+    if !tree.is_end(pos) {
+        tree.cut(pos)?;
+    }
+    Ok(())
+}
+
 fn change(tree: &mut TreeKeys, is_cut: bool, has_hole: bool) -> Result<(), AllocError> {
-    if is_cut && !tree.is_end(&at(5)) {
-        tree.cut(&at(5))?;
+    if is_cut {
+        cut(tree, &at(5))?;
     }
     if has_hole {
         tree.put(&at(3), Some(Value::Hole { blocks: 1 }))?;

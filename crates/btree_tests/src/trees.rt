@@ -1,6 +1,6 @@
 //! Trees of ids by tables: records, chains, ancestry, splits, updates and each refusal.
 
-ghost use Rattle.std.specs.Prelude.{IfOk, All};
+ghost use Rattle.std.specs.Prelude.{◌≡◌, All, IfOk};
 ghost use Rattle.snap_tree.specs.Snaps.{IsSnapKey};
 ghost use Rattle.snap_tree.specs.Updates.{IsFitting};
 

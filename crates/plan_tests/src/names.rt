@@ -223,47 +223,45 @@ fn step_of(alloc: Global, id: u32, added: Added) -> Result<NameStep, AllocError>
 }
 
 /// What 10, 20 and 30 have, an id, and what adding `a` to it comes to.
-static ADDED: [([Own; 3], u32, Added); 20] = [
+static ADDED: [(Own, Own, Own, u32, Added); 20] = [
     // alone, first, in the middle, last
-    ([Nothing, Nothing, Nothing], 10, Added::Put(b"a")),
-    ([Names(b"bc"), Nothing, Nothing], 10, Added::Put(b"abc")),
-    ([Names(b"AZbc"), Nothing, Nothing], 10, Added::Put(b"AZabc")),
-    ([Names(b"AZ"), Nothing, Nothing], 10, Added::Put(b"AZa")),
+    (Nothing, Nothing, Nothing, 10, Added::Put(b"a")),
+    (Names(b"bc"), Nothing, Nothing, 10, Added::Put(b"abc")),
+    (Names(b"AZbc"), Nothing, Nothing, 10, Added::Put(b"AZabc")),
+    (Names(b"AZ"), Nothing, Nothing, 10, Added::Put(b"AZa")),
     // beside those of an ancestor, but not beside hidden ones
-    ([Nothing, Nothing, Names(b"Zb")], 10, Added::Put(b"Zab")),
-    ([Nothing, Names(b"c"), Names(b"Zb")], 10, Added::Put(b"ac")),
-    ([Names(b"a"), Nothing, Names(b"Zb")], 20, Added::Put(b"Zab")),
-    ([Whiteout, Nothing, Names(b"ab")], 10, Added::Put(b"a")),
-    ([Names(b"d"), Nothing, Names(b"ab")], 10, Added::Put(b"ad")),
+    (Nothing, Nothing, Names(b"Zb"), 10, Added::Put(b"Zab")),
+    (Nothing, Names(b"c"), Names(b"Zb"), 10, Added::Put(b"ac")),
+    (Names(b"a"), Nothing, Names(b"Zb"), 20, Added::Put(b"Zab")),
+    (Whiteout, Nothing, Names(b"ab"), 10, Added::Put(b"a")),
+    (Names(b"d"), Nothing, Names(b"ab"), 10, Added::Put(b"ad")),
     // seven others leave room, and eight don't
     (
-        [Nothing, Nothing, Names(b"ABCDbcd")],
+        Nothing,
+        Nothing,
+        Names(b"ABCDbcd"),
         10,
         Added::Put(b"ABCDabcd"),
     ),
-    ([Nothing, Nothing, Names(b"ABCDbcde")], 10, Added::Crowded),
-    ([Names(b"bcdefghi"), Nothing, Nothing], 10, Added::Crowded),
-    (
-        [Whiteout, Nothing, Names(b"ABCDbcde")],
-        10,
-        Added::Put(b"a"),
-    ),
-    ([Names(b"bcdefghi"), Nothing, Nothing], 30, Added::Put(b"a")),
+    (Nothing, Nothing, Names(b"ABCDbcde"), 10, Added::Crowded),
+    (Names(b"bcdefghi"), Nothing, Nothing, 10, Added::Crowded),
+    (Whiteout, Nothing, Names(b"ABCDbcde"), 10, Added::Put(b"a")),
+    (Names(b"bcdefghi"), Nothing, Nothing, 30, Added::Put(b"a")),
     // the name is there, also where it is one of eight
-    ([Names(b"a"), Nothing, Nothing], 10, Added::Exists),
-    ([Nothing, Nothing, Names(b"Zab")], 10, Added::Exists),
-    ([Nothing, Nothing, Names(b"ABCDabcd")], 10, Added::Exists),
+    (Names(b"a"), Nothing, Nothing, 10, Added::Exists),
+    (Nothing, Nothing, Names(b"Zab"), 10, Added::Exists),
+    (Nothing, Nothing, Names(b"ABCDabcd"), 10, Added::Exists),
     // other ids have it
-    ([Nothing, Nothing, Nothing], 15, Added::Exists),
-    ([Nothing, Nothing, Nothing], 40, Added::Exists),
-    ([Nothing, Nothing, Nothing], 20, Added::Put(b"a")),
+    (Nothing, Nothing, Nothing, 15, Added::Exists),
+    (Nothing, Nothing, Nothing, 40, Added::Exists),
+    (Nothing, Nothing, Nothing, 20, Added::Put(b"a")),
 ];
 
 // The number of the first row to which adding `a` comes to something else.
 fn first_other_added(alloc: Global) -> Result<Option<u32>, Fail> {
     let mut number: u32 = 0;
-    for (held, id, added) in ADDED.iter() {
-        if !is_added(alloc, *held, *id, *added)? {
+    for (lowest, middle, root, id, added) in ADDED.iter() {
+        if !is_added(alloc, [*lowest, *middle, *root], *id, *added)? {
             return Ok(Some(number));
         }
         number = number.saturating_add(1);
@@ -336,36 +334,32 @@ fn is_removed(alloc: Global, held: [Own; 3], id: u32, put: Option<Own>) -> Resul
 }
 
 /// What 10, 20 and 30 have, an id, and what is put where it loses `a`, if it has it.
-static REMOVED: [([Own; 3], u32, Option<Own>); 14] = [
+static REMOVED: [(Own, Own, Own, u32, Option<Own>); 14] = [
     // others are left, of its own or of an ancestor
-    ([Names(b"abc"), Nothing, Nothing], 10, Some(Names(b"bc"))),
-    ([Nothing, Nothing, Names(b"Zab")], 10, Some(Names(b"Zb"))),
-    (
-        [Names(b"ad"), Nothing, Names(b"Zab")],
-        10,
-        Some(Names(b"d")),
-    ),
+    (Names(b"abc"), Nothing, Nothing, 10, Some(Names(b"bc"))),
+    (Nothing, Nothing, Names(b"Zab"), 10, Some(Names(b"Zb"))),
+    (Names(b"ad"), Nothing, Names(b"Zab"), 10, Some(Names(b"d"))),
     // the last one of an ancestor is hidden
-    ([Nothing, Nothing, Names(b"a")], 10, Some(Whiteout)),
-    ([Nothing, Names(b"a"), Nothing], 10, Some(Whiteout)),
-    ([Names(b"a"), Nothing, Names(b"Zb")], 10, Some(Whiteout)),
+    (Nothing, Nothing, Names(b"a"), 10, Some(Whiteout)),
+    (Nothing, Names(b"a"), Nothing, 10, Some(Whiteout)),
+    (Names(b"a"), Nothing, Names(b"Zb"), 10, Some(Whiteout)),
     // the last one of its own goes
-    ([Names(b"a"), Nothing, Nothing], 10, Some(Nothing)),
-    ([Names(b"a"), Whiteout, Names(b"a")], 10, Some(Nothing)),
-    ([Names(b"ab"), Names(b"b"), Names(b"a")], 30, Some(Nothing)),
-    ([Nothing, Nothing, Nothing], 40, Some(Names(b"q"))),
+    (Names(b"a"), Nothing, Nothing, 10, Some(Nothing)),
+    (Names(b"a"), Whiteout, Names(b"a"), 10, Some(Nothing)),
+    (Names(b"ab"), Names(b"b"), Names(b"a"), 30, Some(Nothing)),
+    (Nothing, Nothing, Nothing, 40, Some(Names(b"q"))),
     // it isn't there
-    ([Nothing, Nothing, Nothing], 10, None),
-    ([Names(b"Zb"), Nothing, Names(b"a")], 10, None),
-    ([Whiteout, Nothing, Names(b"a")], 10, None),
-    ([Names(b"a"), Nothing, Nothing], 20, None),
+    (Nothing, Nothing, Nothing, 10, None),
+    (Names(b"Zb"), Nothing, Names(b"a"), 10, None),
+    (Whiteout, Nothing, Names(b"a"), 10, None),
+    (Names(b"a"), Nothing, Nothing, 20, None),
 ];
 
 // The number of the first row from which removing `a` comes to something else.
 fn first_other_removed(alloc: Global) -> Result<Option<u32>, Fail> {
     let mut number: u32 = 0;
-    for (held, id, put) in REMOVED.iter() {
-        if !is_removed(alloc, *held, *id, *put)? {
+    for (lowest, middle, root, id, put) in REMOVED.iter() {
+        if !is_removed(alloc, [*lowest, *middle, *root], *id, *put)? {
             return Ok(Some(number));
         }
         number = number.saturating_add(1);

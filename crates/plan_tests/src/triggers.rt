@@ -171,44 +171,50 @@ fn owner_at(keys: &PlainKeys, block: u64) -> Option<u64> {
 
 /// A plan, the blocks and generations of buckets 1 and 2 of device 0 after it, and where the extents end that begin at its blocks 16, 24
 /// and 32.
-type Row = (&'static [Change], [(u8, u32); 2], [Option<u64>; 3]);
+type Row = (
+    &'static [Change],
+    (u8, u32),
+    (u8, u32),
+    (Option<u64>, Option<u64>, Option<u64>),
+);
 
 // The plans of one volume, one after the other.
 static PLANS: [Row; 7] = [
     (
         &[(16, Some((16, 16)))],
-        [(16, 0), (0, 0)],
-        [Some(16), None, None],
+        (16, 0),
+        (0, 0),
+        (Some(16), None, None),
     ),
     // The middle is cut out, the first part put before or behind the last one.
     (
         &[(4, Some((16, 4))), (16, Some((24, 8)))],
-        [(12, 0), (0, 0)],
-        [Some(4), Some(16), None],
+        (12, 0),
+        (0, 0),
+        (Some(4), Some(16), None),
     ),
     // The later of two updates counts.
     (
         &[(4, None), (4, Some((32, 4)))],
-        [(8, 0), (4, 0)],
-        [None, Some(16), Some(4)],
+        (8, 0),
+        (4, 0),
+        (None, Some(16), Some(4)),
     ),
-    (&[(16, None)], [(0, 1), (4, 0)], [None, None, Some(4)]),
+    (&[(16, None)], (0, 1), (4, 0), (None, None, Some(4))),
     (
         &[(32, Some((16, 2)))],
-        [(2, 1), (4, 0)],
-        [Some(32), None, Some(4)],
+        (2, 1),
+        (4, 0),
+        (Some(32), None, Some(4)),
     ),
     // An extent that moves leaves its bucket in use.
     (
         &[(40, Some((16, 2))), (32, None)],
-        [(2, 1), (4, 0)],
-        [Some(40), None, Some(4)],
+        (2, 1),
+        (4, 0),
+        (Some(40), None, Some(4)),
     ),
-    (
-        &[(40, None), (4, None)],
-        [(0, 2), (0, 1)],
-        [None, None, None],
-    ),
+    (&[(40, None), (4, None)], (0, 2), (0, 1), (None, None, None)),
 ];
 
 // The blocks and the generation of a bucket of device 0.
@@ -219,10 +225,10 @@ fn state_of(keys: &PlainKeys, bucket: u64) -> (u8, u32) {
 
 // Makes a plan, and says whether all is then as it has to be.
 fn follows(alloc: Global, keys: &mut PlainKeys, row: &Row) -> Result<bool, Fail> {
-    let (changes, states, owners) = row;
+    let (changes, first, second, owners) = row;
     commit(alloc, keys, changes)?;
-    let found = [owner_at(keys, 16), owner_at(keys, 24), owner_at(keys, 32)];
-    Ok([state_of(keys, 1), state_of(keys, 2)] == *states && found == *owners)
+    let found = (owner_at(keys, 16), owner_at(keys, 24), owner_at(keys, 32));
+    Ok(state_of(keys, 1) == *first && state_of(keys, 2) == *second && found == *owners)
 }
 
 // The number of the first plan after which it isn't.
