@@ -55,8 +55,8 @@ returns-in-Ok g c arguments asked =
     let all : Run g.row.D.Denot g.row.K.Denot = run_of S.left S.faults K.held K.faults D.state arguments c.args.source.now c.args.source.now c.args.sink.now c.format_devices-ended.new.sink c.args.devices ended in
     formatted S.tells K.tells D.tells K.held K.given_at all layout format c.format_devices-ended.ensures.formats refl refl c.format_devices-ended.ensures.shorts
 
-pub returns : goal.returns
-returns g c arguments asked =
+pub returns-in-Err : goal.returns-in-Err
+returns-in-Err g c arguments asked =
     let D = g.D.Devices in
     let S = g.S.Source in
     let K = g.K.Sink in
