@@ -240,13 +240,13 @@ fn listing_of<'a>(found: &'a str) -> Trial<'a> {
 }
 
 // Whether a run whose devices fail at this call, alone or with all later ones, ends so, and the next one on what is left of them does.
-fn ends_so(
+fn ends_so<'a>(
     alloc: Global,
-    run: &Trial,
+    run: &Trial<'a>,
     call: u64,
     stays: bool,
     pick: Pick,
-    next: &Trial,
+    next: &Trial<'a>,
 ) -> Result<bool, AllocError> {
     let steps = [
         Step::Fail { call, stays },
