@@ -1,3 +1,4 @@
+pub mod Changed
 pub mod Counting
 pub mod Listed
 pub mod Looks

@@ -84,7 +84,7 @@ count_without name (link ∷ links) = by (is_eq (name_cmp name link.name)) (coun
     by false later = omega (arith, later)
 
 -- Each link has what each had, where the further one has it.
-all_with : (P : Link → Type 0) (link : Link) (links : List Link) → P link → All P links → All P (with_link link links)
+pub all_with : (P : Link → Type 0) (link : Link) (links : List Link) → P link → All P links → All P (with_link link links)
 all_with P link [] new all = All-cons P link [] new (All-nil P)
 all_with P link (other ∷ links) new all = by (is_lt (name_cmp link.name other.name)) (all_with P link links new (All-tail P other links all))
   where
@@ -92,7 +92,7 @@ all_with P link (other ∷ links) new all = by (is_lt (name_cmp link.name other.
     by true later = All-cons P link (other ∷ links) new all
     by false later = All-cons P other (with_link link links) (All-head P other links all) later
 
-all_without : (P : Link → Type 0) (name : List ℕ) (links : List Link) → All P links → All P (without_name name links)
+pub all_without : (P : Link → Type 0) (name : List ℕ) (links : List Link) → All P links → All P (without_name name links)
 all_without P name [] all = All-nil P
 all_without P name (link ∷ links) all = by (is_eq (name_cmp name link.name)) (all_without P name links (All-tail P link links all))
   where

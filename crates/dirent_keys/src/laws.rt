@@ -1,9 +1,11 @@
 ghost use Rattle.std.specs.Ordering.{nat_cmp};
-ghost use Rattle.std.specs.Prelude.{◌≡◌, ℕ, All, List, Option, length, map, option_map};
+ghost use Rattle.std.specs.Prelude.{◌≡◌, ℕ, All, List, None, Option, length, map, option_map};
+ghost use Rattle.dirent_keys.specs.Links.{with_link, without_name};
 ghost use Rattle.dirent_keys.specs.Names.{SeesName, Target, refusal_of, step_to_add, updates_to_add, updates_to_remove};
 ghost use Rattle.key_meaning.specs.Changes.{ChangesName, ChangesOnly, StaysIn};
 ghost use Rattle.key_meaning.specs.Checks.{AreNamesJoined, IsLiveLeaf};
-ghost use Rattle.key_meaning.specs.Forest.{Read, directories_in, files_in, links_in, names_in, number_in};
+ghost use Rattle.key_meaning.specs.Forest.{Read, directories_in, files_in, link_named, links_in, names_in, number_in};
+ghost use Rattle.key_steps.specs.Names.{AddsName, TakesName};
 ghost use Rattle.key_meaning.specs.Tidy.{AreKeysDrawn};
 ghost use Rattle.key_meaning.specs.Visible.{visible};
 ghost use Rattle.plain_forest.specs.Maps.{changed_at};
@@ -67,4 +69,11 @@ pub fn sound_names_are_refused_alike()
         → AreNamesJoined keys → IsLiveLeaf keys id
         → check_name link.name (names_in keys id directory) ≡ refusal_of
         (step_to_add keys id directory link) }
+{}
+
+/// A further name among those of a slot is added to them, and one that goes is taken from them.
+pub fn links_are_added_and_taken()
+    ensures added { (link : Link) (links : List Link) → link_named link.name links ≡ None
+        → AddsName link links (with_link link links) }
+    ensures taken { (name : List ℕ) (links : List Link) → TakesName name links (without_name name links) }
 {}

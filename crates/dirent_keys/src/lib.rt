@@ -10,6 +10,9 @@ mod links;
 mod names;
 mod step;
 
-pub use laws::{directories_take_names, names_are_refused_alike, sound_names_are_refused_alike};
+pub use laws::{
+    directories_take_names, links_are_added_and_taken, names_are_refused_alike,
+    sound_names_are_refused_alike,
+};
 pub use names::{add, remove};
 pub use step::NameStep;

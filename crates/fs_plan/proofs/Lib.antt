@@ -4,11 +4,4 @@ pub mod Bounds
 pub mod Gathered
 pub mod Listed
 pub mod Idle
-pub mod Sums
-pub mod Linking
-pub mod Naming
-pub mod Tidying
-pub mod Placing
-pub mod Made
 pub mod Filed
-pub mod Filing

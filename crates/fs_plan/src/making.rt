@@ -15,14 +15,16 @@ ghost use Rattle.vol_types.specs.declared.pointers.Place.{Place};
 ghost use Rattle.vol_types.specs.declared.positions.Btree.TheVariants.{Dirents};
 
 use crate::walking::directory_along;
-use dirent_keys::{NameStep, add, sound_names_are_refused_alike};
+use dirent_keys::{NameStep, add, links_are_added_and_taken, sound_names_are_refused_alike};
 use forest_ops::Cause;
-use inode_keys::{
-    Draw, drawn_inodes_want_names, draws_are_counted, draws_are_new, next_number, set,
+use inode_keys::{Draw, draws_are_counted, draws_are_new, next_number, set};
+use key_steps::{
+    counters_are_steps, inodes_are_steps, names_are_steps, steps_end_in_good_trees,
+    steps_follow_each_other,
 };
-use key_meaning::sound_ids_are_apart;
 use key_view::{Hold, View};
 use plain_forest::Path;
+use shown_changes::{good_trees_are_changed, places_stand_in_trees, subvolumes_begin_good};
 use snap_tree::SnapTree;
 use std::alloc::{AllocError, Global};
 use vol_types::{Bytes, FileKind, Inode, Updates};
@@ -47,6 +49,7 @@ pub(crate) fn make_file<V: View>(
 }
 
 // The updates after which there is an empty file at a path, where the ids are those of this tree.
+#[tactic(auto, using(crate::proofs::Looks::looks_then))]
 fn make_in<V: View>(
     alloc: Global,
     view: &mut V,
@@ -62,12 +65,18 @@ fn make_in<V: View>(
     ensures ids { V.told view.new ≡ V.told view.old }
     ensures cause { IfErr result (IsCause (V.held view.new)) }
 {
-    tree.ids_fit();
-    sound_ids_are_apart();
     sound_names_are_refused_alike();
+    links_are_added_and_taken();
     draws_are_new();
     draws_are_counted();
-    drawn_inodes_want_names();
+    subvolumes_begin_good();
+    places_stand_in_trees();
+    counters_are_steps();
+    inodes_are_steps();
+    names_are_steps();
+    steps_follow_each_other();
+    good_trees_are_changed();
+    steps_end_in_good_trees();
     let spot = match directory_along(view, tree, path, path.parents())? {
         Ok(spot) => spot,
         Err(cause) => return Ok(Err(cause)),
@@ -82,6 +91,7 @@ fn make_in<V: View>(
 }
 
 // The updates after which a directory has a new file under a name in an id.
+#[tactic(auto, using(crate::proofs::Looks::looks_then))]
 fn new_file<V: View>(
     alloc: Global,
     view: &mut V,
@@ -114,6 +124,7 @@ fn new_file<V: View>(
 }
 
 // The updates after which a directory has a new file of this number, which was drawn by some updates.
+#[tactic(auto, using(crate::proofs::Looks::looks_then))]
 fn numbered_file<V: View>(
     alloc: Global,
     view: &mut V,

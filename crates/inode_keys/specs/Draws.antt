@@ -2,7 +2,6 @@
 use Rattle.std.specs.Prelude.{◌≡◌, ◌↔◌, true, ◌≢◌, ℕ, ◌+◌, ◌*◌, nat_le, Option, Some, List, [], ◌∷◌, ⊤, slice_index, slice_set, option_and_then, unwrap_or, if◌then◌else◌}
 use Rattle.inode_keys.specs.declared.numbers.Draw.{Draw}
 use Rattle.inode_keys.specs.declared.numbers.Draw.TheVariants.{Drawn, Spent}
-use Rattle.key_meaning.specs.Checks.{AreBlocksPlaced, AreDirectoriesTrees, AreExtentsApart, AreLinksCounted, AreNamesJoined, AreTreesJoined, DoLeavesMatch, IsSpaceCounted}
 use Rattle.key_meaning.specs.Forest.{Read, counter_in, counter_of, forest_in, next_in}
 use Rattle.key_meaning.specs.Numbers.{IsUnused, ShowSame, ShowsNowhere}
 use Rattle.plain_forest.specs.Forest.{Forest}
@@ -10,12 +9,8 @@ use Rattle.plain_forest.specs.Steps.{next_number, numbers_per_client}
 use Rattle.vol_types.specs.KeyMaps.{KeyMap}
 use Rattle.vol_types.specs.declared.keys.Key.{Key}
 use Rattle.vol_types.specs.declared.keys.Update.{Update}
-use Rattle.vol_types.specs.declared.layout.Layout.{Layout}
-use Rattle.vol_types.specs.declared.pointers.Place.{Place}
 use Rattle.vol_types.specs.declared.positions.Btree.TheVariants.{Counters}
 use Rattle.vol_types.specs.declared.positions.Pos.{Pos}
-use Rattle.vol_types.specs.declared.values.FileKind.{FileKind}
-use Rattle.vol_types.specs.declared.values.FileKind.TheVariants.{File, Directory}
 use Rattle.vol_types.specs.declared.values.Value.TheVariants.{Counter}
 
 -- where a counter stands
@@ -61,15 +56,3 @@ pub record CountsOne (keys new : KeyMap) (client : ℕ) : Type 0 where
 pub record IsNextOf (forest : Forest) (client : ℕ) (draw : Draw) : Type 0 where
   pub number : IfDrawn draw (λ number _. number ≡ next_number client forest)
   pub spent : (draw ≡ Spent) ↔ (nat_le numbers_per_client (slice_index forest.next client) ≡ true)
-
--- All checks hold, but for the one that wants the name of a new inode of this kind: that of links for a file, and that of
--- directories for a directory.
-pub record IsSoundButName (keys : KeyMap) (nodes : List Place) (layout : Layout) (kind : FileKind) : Type 0 where
-  pub trees : AreTreesJoined keys
-  pub leaves : DoLeavesMatch keys
-  pub extents : AreExtentsApart keys
-  pub names : AreNamesJoined keys
-  pub links : kind ≢ File → AreLinksCounted keys
-  pub directories : kind ≢ Directory → AreDirectoriesTrees keys
-  pub blocks : AreBlocksPlaced keys nodes layout
-  pub space : IsSpaceCounted keys

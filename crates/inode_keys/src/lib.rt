@@ -3,8 +3,6 @@
 
 mod inodes;
 mod numbers;
-mod tidy;
 
 pub use inodes::set;
 pub use numbers::{Draw, draws_are_counted, draws_are_new, next_number};
-pub use tidy::{drawn_inodes_want_names, sets_are_tidy};

@@ -1,16 +1,13 @@
-ghost use Rattle.std.specs.Prelude.{◌≡◌, ◌<◌, ◌≤◌, ◌+◌, ◌∷◌, [], ◌↔◌, ℕ, List, All, IfErr, IfOk, length, unwrap_or, option_copied};
+ghost use Rattle.std.specs.Prelude.{◌≡◌, ◌<◌, ◌≤◌, ◌+◌, ◌∷◌, [], ◌↔◌, ℕ, All, IfErr, IfOk, length, unwrap_or, option_copied};
 ghost use Rattle.inode_keys.specs.Draws.{CountsOne, IfDrawn, IsNewNumber, IsNextOf, count_in_key, counter_pos, counter_update, draw_at, draw_in};
 ghost use Rattle.inode_keys.specs.declared.numbers.Draw.TheVariants.{Spent};
-ghost use Rattle.key_meaning.specs.Checks.{IsSound};
 ghost use Rattle.key_meaning.specs.Forest.{Read, counter_of, forest_in, next_in};
-ghost use Rattle.key_meaning.specs.Tidy.{AreKeysDrawn, IsDrawn, IsTidy};
+ghost use Rattle.key_meaning.specs.Tidy.{AreKeysDrawn, IsDrawn};
 ghost use Rattle.key_view.specs.Holds.{IsCause};
 ghost use Rattle.key_view.specs.Seen.{GoesOn};
 ghost use Rattle.plain_forest.specs.Steps.{numbers_per_client};
 ghost use Rattle.vol_types.specs.KeyMaps.{GivesLooks, IsKeyMap, KeyMap, with_updates};
 ghost use Rattle.vol_types.specs.Standing.{IsUpdate};
-ghost use Rattle.vol_types.specs.declared.layout.Layout.{Layout};
-ghost use Rattle.vol_types.specs.declared.pointers.Place.{Place};
 
 use key_meaning::{counters_are_raised, counters_are_updated, numbers_are_drawn_upwards};
 use key_view::{Hold, View};
@@ -144,7 +141,7 @@ pub fn draws_are_new()
 }
 
 /// After a client drew a number its counter stands at one more and nothing else that is seen changes. The number is drawn then,
-/// and is new still; sound and tidy keys stay so.
+/// and is new still.
 pub fn draws_are_counted()
     ensures counts { (keys : KeyMap) (client : ℕ) → client < 16 → IsKeyMap keys
         → IfDrawn (draw_in keys client) (λ _ updates. CountsOne keys (with_updates updates keys) client) }
@@ -152,12 +149,6 @@ pub fn draws_are_counted()
         → IfDrawn (draw_in keys client) (λ number updates. IsDrawn (with_updates updates keys) number) }
     ensures new { (keys : KeyMap) (client : ℕ) → client < 16 → IsKeyMap keys → AreKeysDrawn keys
         → IfDrawn (draw_in keys client) (λ number updates. IsNewNumber (with_updates updates keys) number) }
-    ensures sound { (keys : KeyMap) (client : ℕ) → client < 16 → IsKeyMap keys
-        → (nodes : List Place) (layout : Layout) → IsSound keys nodes layout
-        → IfDrawn (draw_in keys client)
-        (λ _ updates. IsSound (with_updates updates keys) nodes layout) }
-    ensures tidy { (keys : KeyMap) (client : ℕ) → client < 16 → IsKeyMap keys → IsTidy keys
-        → IfDrawn (draw_in keys client) (λ _ updates. IsTidy (with_updates updates keys)) }
 {
     numbers_are_drawn_upwards();
     counters_are_raised();

@@ -36,7 +36,7 @@ abbrev pub root_inode : Inode
 root_inode = record { kind = Directory; links = 1; size = 0 }
 
 first_joined : (id : ℕ) → IsJoined (snaps_of fresh_keys) id first_snap
-first_joined id = record { parent = λ some. absurd (some refl); first = λ some. absurd (some refl); second = λ some. absurd (some refl); leaf = λ other. (refl, refl) }
+first_joined id = record { parent = λ some. absurd (some refl); first = λ some. absurd (some refl); second = λ some. absurd (some refl); apart = λ some. absurd (some refl); leaf = λ other. (refl, refl) }
 
 pub trees : AreTreesJoined fresh_keys
 trees = record { each = λ id snap found. subst (IsJoined (snaps_of fresh_keys) id) (cond_some (is_at (nat_cmp id) first_id) first_snap snap found).1 (first_joined id) }

@@ -19,7 +19,7 @@ use Rattle.snap_tree.specs.Snaps.{chain_of, is_ancestor_of}
 use Rattle.key_meaning.specs.Blocks.{first_cover, shown_of}
 use Rattle.key_meaning.specs.Forest.{inode_in, next_in}
 use Rattle.key_meaning.specs.Fresh.{at_offset, counter_at, first_id, fresh_keys, main_name, main_sub}
-use Rattle.key_meaning.specs.Tidy.{AreBlocksBelow, AreGone, AreKeysDrawn, AreNamesGood, DoFilesEnd, HasGoodNames, HasGoodSubvolumes, IsCounterFrom, IsDrawn, IsKeyOf, IsTidy, id_counter}
+use Rattle.key_meaning.specs.Tidy.{AreBlocksBelow, AreBlocksOwned, AreGone, AreKeysDrawn, AreNamesGood, DoFilesEnd, HasGoodNames, HasGoodSubvolumes, HasOwner, IsCounterFrom, IsDrawn, IsKeyOf, IsTidy, id_counter}
 use Rattle.key_meaning.specs.Visible.{snaps_of}
 use Rattle.key_meaning.proofs.FreshSound.{root_inode}
 
@@ -126,5 +126,8 @@ ends = record { each = λ id number block inode leaf found behind. ap (option_an
 gone : AreGone fresh_keys
 gone = record { each = All-nil (λ (entry : Pos × Value). inode_in fresh_keys entry.0.snapshot entry.0.offset ≡ None) }
 
+owned : AreBlocksOwned fresh_keys
+owned = record { each = All-nil (HasOwner fresh_keys) }
+
 pub fresh_is_tidy : IsTidy fresh_keys
-fresh_is_tidy = record { drawn = drawn; named = named; below = below; ends = ends; gone = gone }
+fresh_is_tidy = record { drawn = drawn; named = named; below = below; ends = ends; gone = gone; owned = owned }

@@ -43,11 +43,12 @@ pub record IsOver (snaps : Snaps) (id child : ℕ) : Type 0 where
   pub found : value_at nat_cmp child snaps ≡ Some snap
   pub named : snap.parent ≡ id
 
--- The id with this record is joined to its parent and its children, where it has some; a leaf has no child.
+-- The id with this record is joined to its parent and its children, where it has some; two children are two, and a leaf has none.
 pub record IsJoined (snaps : Snaps) (id : ℕ) (snap : Snap) : Type 0 where
   pub parent : snap.parent ≢ 0 → IsUnder snaps id snap.parent
   pub first : snap.first_child ≢ 0 → IsOver snaps id snap.first_child
   pub second : snap.second_child ≢ 0 → IsOver snaps id snap.second_child
+  pub apart : snap.first_child ≢ 0 → snap.second_child ≢ snap.first_child
   pub leaf : snap.state ≢ Interior → (snap.first_child ≡ 0) × (snap.second_child ≡ 0)
 
 -- The trees of snapshot ids are joined: each id to its parent and its children.

@@ -1,21 +1,17 @@
--- A client's counter that is raised within its range keeps all that is sound and tidy.
-use Rattle.std.proofs.Common.{◌≡◌, ℕ, ◌+◌, ◌*◌, ◌<◌, ◌≤◌, Bool, true, false, cond, Option, Some, List, refl, sym, ap, ◌∙◌, subst, arith}
+-- A counter that is set changes nothing that shows, and one that is raised within its range keeps the keys' numbers drawn.
+use Rattle.std.proofs.Common.{◌≡◌, ℕ, ◌+◌, ◌*◌, ◌<◌, ◌≤◌, Bool, true, false, cond, Option, Some, refl, sym, ap, ◌∙◌, subst, arith}
 use Rattle.std.specs.Prelude.{◌==◌, ◌/◌, ◌%◌, IsSome, All, unwrap_or}
 use Rattle.std.specs.Int.{IsInRange}
-use Rattle.std.specs.Ordering.{nat_cmp}
 use Rattle.std.proofs.lemmas.Bool.{eq-eqb, eqb-true, ne_eqb, true≢false}
 use Rattle.std.proofs.lemmas.List.Elements.{All-weaker}
 use Rattle.std.proofs.lemmas.Option.{same_Some}
 use Rattle.plain_forest.specs.Steps.{numbers_per_client}
-use Rattle.snap_tree.specs.Snaps.{Snaps}
 use Rattle.vol_types.specs.Btrees.{btree_code}
 use Rattle.vol_types.specs.KeyMapLaws.{entries_of-with_update}
-use Rattle.vol_types.specs.KeyMaps.{Entries, IsKeyMap, KeyMap, entries_of, is_update_of, with_update}
-use Rattle.vol_types.specs.Maps.{put_at, value_at}
+use Rattle.vol_types.specs.KeyMaps.{IsKeyMap, KeyMap, entries_of, is_update_of, with_update}
+use Rattle.vol_types.specs.Maps.{put_at}
 use Rattle.vol_types.specs.Positions.{pos_cmp}
 use Rattle.vol_types.specs.declared.keys.Update.{Update}
-use Rattle.vol_types.specs.declared.layout.Layout.{Layout}
-use Rattle.vol_types.specs.declared.pointers.Place.{Place}
 use Rattle.vol_types.specs.declared.positions.Btree.{Btree}
 use Rattle.vol_types.specs.declared.positions.Btree.TheVariants.{Extents, Inodes, Dirents, Subvols, Snapshots, Alloc, Backptrs, Deleted, Counters}
 use Rattle.vol_types.specs.declared.positions.Pos.{Pos}
@@ -24,13 +20,10 @@ use Rattle.vol_types.specs.declared.values.Sub.{Sub}
 use Rattle.vol_types.specs.declared.values.Value.{Value}
 use Rattle.vol_types.specs.declared.values.Value.TheVariants as values
 use Rattle.key_meaning.specs.ChangeLaws.{alike_unseen}
-use Rattle.key_meaning.specs.Checks.{AreIdsThere, IsSound}
 use Rattle.key_meaning.specs.EntryLaws.{all-with_update}
 use Rattle.key_meaning.specs.Forest.{counter_in, links_of, next_in, subs_of}
-use Rattle.key_meaning.specs.KeptLaws.{blocks_stay_placed, space_stays_counted}
 use Rattle.key_meaning.specs.Numbers.{IsUnused, MayCountTo, NamesOthers, SetsCounter, ShowSame}
-use Rattle.key_meaning.specs.SameLaws.{below-same, extents_apart-same, files_end-same, gone-same, leaves_sound-same}
-use Rattle.key_meaning.specs.Tidy.{AreKeysDrawn, HasDrawn, HasGoodNames, HasGoodSubvolumes, IsCounterFrom, IsDrawn, IsKeyOf, IsTidy, id_counter}
+use Rattle.key_meaning.specs.Tidy.{AreKeysDrawn, HasDrawn, IsCounterFrom, IsDrawn, IsKeyOf, id_counter}
 use Rattle.key_meaning.specs.UpdateLaws.{counter_in-put, next_in-put, of_no_other}
 use Rattle.key_meaning.specs.VisibleLaws.{snaps_of-with_update}
 
@@ -73,28 +66,6 @@ module _ (update : Update) (keys : KeyMap) (is : IsKeyMap keys) (counter next : 
     subvols = entries_other update keys Subvols (no_other Subvols refl);
     each = alike_unseen update keys is (no_other Snapshots refl) (record { extents = no_other Extents refl; inodes = no_other Inodes refl; dirents = no_other Dirents refl });
   }
-
-  -- It keeps all checks.
-  pub counter_keeps_sound : (nodes : List Place) (layout : Layout) → IsSound keys nodes layout → IsSound (with_update update keys) nodes layout
-  counter_keeps_sound nodes layout sound =
-      let leaves = leaves_sound-same keys (with_update update keys) counter_shows_same (record { trees = sound.trees; leaves = sound.leaves; names = sound.names; links = sound.links; directories = sound.directories }) in
-      let extents = entries_other update keys Extents (no_other Extents refl) in
-      record {
-        trees = leaves.trees;
-        leaves = leaves.leaves;
-        extents = extents_apart-same keys (with_update update keys) counter_shows_same.snaps extents
-            (ids_there (entries_other update keys Inodes (no_other Inodes refl)) sound.extents.inodes)
-            (ids_there (entries_other update keys Dirents (no_other Dirents refl)) sound.extents.dirents)
-            (entries_other update keys Deleted (no_other Deleted refl)) sound.extents;
-        names = leaves.names;
-        links = leaves.links;
-        directories = leaves.directories;
-        blocks = blocks_stay_placed keys (with_update update keys) nodes layout extents sound.blocks;
-        space = space_stays_counted keys (with_update update keys) extents (entries_other update keys Alloc (no_other Alloc refl)) (entries_other update keys Backptrs (no_other Backptrs refl)) sound.space;
-      }
-    where
-      ids_there : {entries was : Entries} → entries ≡ was → AreIdsThere keys was → AreIdsThere (with_update update keys) entries
-      ids_there {entries} {was} same there = subst (AreIdsThere (with_update update keys)) (sym same) (subst (λ (s : Snaps). All (λ (entry : Pos × Value). IsSome (value_at nat_cmp entry.0.snapshot s)) was) (sym counter_shows_same.snaps) there)
 
   -- It names no number.
   pub counter_leaves_unused : (number : ℕ) → IsUnused keys number → IsUnused (with_update update keys) number
@@ -182,16 +153,3 @@ module _ (update : Update) (keys : KeyMap) (is : IsKeyMap keys) (counter next : 
       where
         ids_stay : next_in (with_update update keys) id_counter ≡ next_in keys id_counter
         ids_stay = next_in-put update keys is sets.of_counters counter next sets.place sets.value id_counter ∙ ap (λ b. cond b next (next_in keys id_counter)) (ne_eqb counter id_counter (λ same. let lt = may.client_fits in absurd (omega (arith, lt, same))))
-
-    -- So do all five.
-    pub counter_keeps_tidy : IsTidy keys → IsTidy (with_update update keys)
-    counter_keeps_tidy was = record {
-      drawn = counter_keeps_drawn was.drawn;
-      named = record {
-        subvolumes = subst (All HasGoodSubvolumes) (sym counter_shows_same.subvols) was.named.subvolumes;
-        names = subst (All HasGoodNames) (sym (entries_other update keys Dirents (no_other Dirents refl))) was.named.names;
-      };
-      below = below-same keys (with_update update keys) counter_shows_same (entries_other update keys Extents (no_other Extents refl)) was.below;
-      ends = files_end-same keys (with_update update keys) counter_shows_same was.ends;
-      gone = gone-same keys (with_update update keys) counter_shows_same (entries_other update keys Deleted (no_other Deleted refl)) was.gone;
-    }

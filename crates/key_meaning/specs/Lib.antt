@@ -29,4 +29,3 @@ pub mod NumberLaws
 pub mod SameLaws
 pub mod CounterLaws
 pub mod InodeLaws
-pub mod NewInodeLaws

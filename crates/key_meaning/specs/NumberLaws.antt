@@ -1,17 +1,17 @@
--- Numbers from a client's counter on are named by no key, and where no key names a number nothing shows of it.
+-- Numbers from a client's counter on are named by no key; where no key names a number, nothing shows of it and no name leads to it.
 use Rattle.std.proofs.Common.{◌≡◌, ℕ, ◌+◌, ◌*◌, ◌/◌, ◌%◌, ◌<◌, ◌≤◌, Bool, true, false, cond, Option, Some, None, List, [], ◌∷◌, refl, sym, ap, ◌∙◌, subst, arith}
-use Rattle.std.specs.Prelude.{◌≢◌, ◌==◌, ◌&&◌, All, find, option_map, option_and_then}
+use Rattle.std.specs.Prelude.{◌≢◌, ◌==◌, ◌&&◌, All, find, option_map, option_and_then, count_by, sum_by}
 use Rattle.std.specs.BTreeMap.{is_at}
 use Rattle.std.specs.Option.{option_or}
-use Rattle.std.specs.Ordering.{is_eq}
+use Rattle.std.specs.Ordering.{is_eq, match_ordering, nat_cmp}
 use Rattle.std.proofs.lemmas.Bool.{ne_eqb}
-use Rattle.std.proofs.lemmas.List.Elements.{All-head, All-nil, All-tail, All-weaker}
+use Rattle.std.proofs.lemmas.List.Elements.{All-head, All-nil, All-tail, All-weaker, All-cons}
 use Rattle.std.proofs.lemmas.Option.{same_Some, none-some as none_some}
 use Rattle.plain_forest.specs.Steps.{numbers_per_client}
 use Rattle.snap_tree.specs.Snaps.{chain_of}
 use Rattle.vol_digest.specs.Digests.{slot_of}
 use Rattle.vol_types.specs.KeyMaps.{Entries, KeyMap, entries_of}
-use Rattle.vol_types.specs.Maps.{value_at}
+use Rattle.vol_types.specs.Maps.{value_at, with_value}
 use Rattle.vol_types.specs.PositionLaws.{pos_exact}
 use Rattle.vol_types.specs.Positions.{pos_cmp}
 use Rattle.vol_types.specs.Ranges.{name_cmp}
@@ -22,13 +22,20 @@ use Rattle.vol_types.specs.declared.values.Link.{Link}
 use Rattle.vol_types.specs.declared.values.Sub.{Sub}
 use Rattle.vol_types.specs.declared.values.Value.{Value}
 use Rattle.key_meaning.specs.Blocks.{covers, first_cover, is_cover, shown_of}
-use Rattle.key_meaning.specs.Forest.{inode_of, link_named, links_in, links_of, next_in, number_in, subs_of}
+use Rattle.key_meaning.specs.Forest.{inode_of, link_named, links_in, links_of, next_in, number_in, subs_of, directories_in, directory_in, is_directory, kind_in, names_in, names_under, numbers_of}
 use Rattle.key_meaning.specs.ForestLaws.{links_shown}
 use Rattle.key_meaning.specs.Numbers.{IsUnused, NamesOthers, ShowsNowhere}
 use Rattle.key_meaning.specs.SoundLaws.{all_in, found_in}
 use Rattle.key_meaning.specs.TableLaws.{same_key}
 use Rattle.key_meaning.specs.Tidy.{AreKeysDrawn, HasDrawn, IsDrawn}
 use Rattle.key_meaning.specs.Visible.{first_value, own_value, shown, snaps_of, visible}
+use Rattle.std.specs.declared.cmp.Ordering.{Ordering}
+use Rattle.std.specs.declared.cmp.Ordering.TheVariants.{Less, Equal, Greater}
+use Rattle.std.proofs.lemmas.List.Sums.{sum_by-cons}
+use Rattle.std.proofs.lemmas.Map.Lookups.{CmpEqualImpliesEq, exact_bytes, exact_unsigned}
+use Rattle.plain_forest.specs.Forest.{Names}
+use Rattle.key_meaning.specs.Checks.{names_to}
+use Rattle.key_meaning.specs.Tables.{map_over, with_any}
 
 -- a drawn number is below its client's counter
 drawn_below : (keys : KeyMap) (client n other : ℕ) → next_in keys client ≤ n → n < numbers_per_client → IsDrawn keys other → other ≢ client * numbers_per_client + n
@@ -90,8 +97,8 @@ module _ (keys : KeyMap) where
   pub none_shows : (btree : Btree) (inode offset : ℕ) → ((id : ℕ) → own_value keys btree inode offset id ≡ None) → (id : ℕ) → visible keys btree inode offset id ≡ None
   none_shows btree inode offset none id = ap shown (none_first btree inode offset none (chain_of (snaps_of keys) id))
 
-  -- what all values of a btree have, the first value of some ids has
-  first_has : (Q : Value → Type 0) (btree : Btree) (inode offset : ℕ) (value : Value) → All (λ (entry : Pos × Value). Q entry.1) (entries_of keys btree) → (ids : List ℕ) → first_value keys btree inode offset ids ≡ Some value → Q value
+  -- What all values of a btree have, the first value of some ids has.
+  pub first_has : (Q : Value → Type 0) (btree : Btree) (inode offset : ℕ) (value : Value) → All (λ (entry : Pos × Value). Q entry.1) (entries_of keys btree) → (ids : List ℕ) → first_value keys btree inode offset ids ≡ Some value → Q value
   first_has Q btree inode offset value all [] found = absurd (none_some value found)
   first_has Q btree inode offset value all (id ∷ ids) found = by (own_value keys btree inode offset id) refl found (first_has Q btree inode offset value all ids)
     where
@@ -141,3 +148,50 @@ module _ (keys : KeyMap) (number : ℕ) (unused : IsUnused keys number) where
     leads = leads_elsewhere;
     blocks = λ id block. ap (option_and_then (shown_of block)) (no_cover block (chain_of (snaps_of keys) id));
   }
+
+module _ {K X : Type 0} (cmp : K → K → Ordering) (exact : CmpEqualImpliesEq cmp) (P : K × X → Type 0) where
+  all_with : (key : K) (value : X) (entries : List (K × X)) → P (key, value) → All P entries → All P (with_value cmp key value entries)
+  all_with key value [] put all = All-cons P (key, value) [] put (All-nil P)
+  all_with key value (e ∷ es) put all = by (cmp key e.0) refl (all_with key value es put (All-tail P e es all))
+    where
+      by : (r : Ordering) → cmp key e.0 ≡ r → All P (with_value cmp key value es) → All P (match_ordering r ((key, value) ∷ e ∷ es) ((e.0, value) ∷ es) (e ∷ with_value cmp key value es))
+      by Less at later = All-cons P (key, value) (e ∷ es) put all
+      by Equal at later = All-cons P (e.0, value) es (subst (λ (k : K). P (k, value)) (exact key e.0 at) put) (All-tail P e es all)
+      by Greater at later = All-cons P e (with_value cmp key value es) (All-head P e es all) later
+
+  -- what each value that a function gives has, the entries of its map have
+  all-map_over : (value : K → Option X) → ((key : K) (x : X) → value key ≡ Some x → P (key, x)) → (keys : List K) → All P (map_over cmp value keys)
+  all-map_over value has [] = All-nil P
+  all-map_over value has (key ∷ keys) = by (value key) refl (all-map_over value has keys)
+    where
+      by : (given : Option X) → value key ≡ given → All P (map_over cmp value keys) → All P (with_any cmp key given (map_over cmp value keys))
+      by None is later = later
+      by (Some x) is later = all_with key x (map_over cmp value keys) (has key x is) later
+
+-- a sum of zeros is zero
+sum_of_zeros : {X : Type 0} (f : X → ℕ) (xs : List X) → All (λ x. f x ≡ 0) xs → sum_by f xs ≡ 0
+sum_of_zeros f [] zeros = refl
+sum_of_zeros f (x ∷ xs) zeros =
+    let whole : sum_by f (x ∷ xs) ≡ f x + sum_by f xs = sum_by-cons f x xs in
+    let first : f x ≡ 0 = All-head (λ y. f y ≡ 0) x xs zeros in
+    let rest : sum_by f xs ≡ 0 = sum_of_zeros f xs (All-tail (λ y. f y ≡ 0) x xs zeros) in omega (arith, whole, first, rest)
+
+module _ (keys : KeyMap) (id number : ℕ) (unused : IsUnused keys number) where
+  -- the names of a directory lead elsewhere
+  names_elsewhere : (directory : ℕ) → All (λ (name : List ℕ × ℕ). cond {A = ℕ} (name.1 == number) 1 0 ≡ 0) (names_in keys id directory)
+  names_elsewhere directory = all-map_over name_cmp exact_bytes (λ (name : List ℕ × ℕ). cond {A = ℕ} (name.1 == number) 1 0 ≡ 0) (number_in keys id directory)
+      (λ name n is. ap (λ b. cond {A = ℕ} b 1 0) (ne_eqb n number (λ same. (unused_shows_nowhere keys number unused).leads id directory name (is ∙ ap Some same))))
+      (names_under keys directory)
+
+  -- No name leads to it.
+  pub no_name_to_unused : names_to keys id number ≡ 0
+  no_name_to_unused = sum_of_zeros (λ (directory : ℕ × Names). count_by (λ (name : List ℕ × ℕ). name.1 == number) directory.1) (directories_in keys id)
+      (all-map_over nat_cmp exact_unsigned (λ (directory : ℕ × Names). count_by (λ (name : List ℕ × ℕ). name.1 == number) directory.1 ≡ 0) (directory_in keys id) none (numbers_of keys))
+    where
+      none : (directory : ℕ) (names : Names) → directory_in keys id directory ≡ Some names → count_by (λ (name : List ℕ × ℕ). name.1 == number) names ≡ 0
+      none directory names is = by (is_directory (kind_in keys id directory)) is
+        where
+          by : (b : Bool) → cond b (Some (names_in keys id directory)) None ≡ Some names → count_by (λ (name : List ℕ × ℕ). name.1 == number) names ≡ 0
+          by true some = subst (λ (ns : Names). count_by (λ (name : List ℕ × ℕ). name.1 == number) ns ≡ 0) (same_Some (names_in keys id directory) names some)
+              (sum_of_zeros (λ (name : List ℕ × ℕ). cond {A = ℕ} (name.1 == number) 1 0) (names_in keys id directory) (names_elsewhere directory))
+          by false some = absurd (none_some names some)

@@ -1,24 +1,19 @@
 -- Which inode numbers keys name, when nothing shows of a number, and which updates set a counter or an inode.
-use Rattle.std.specs.Prelude.{◌≡◌, ◌≢◌, ℕ, ◌*◌, ◌<◌, ◌≤◌, true, None, Option, Some, List, [], All, ⊤}
+use Rattle.std.specs.Prelude.{◌≡◌, ◌≢◌, ℕ, ◌<◌, ◌≤◌, true, None, Option, Some, List, [], All, ⊤}
 use Rattle.std.specs.Int.{IsInRange}
 use Rattle.plain_forest.specs.Steps.{numbers_per_client}
 use Rattle.vol_types.specs.KeyMaps.{KeyMap, entries_of, is_update_of, with_update}
-use Rattle.vol_types.specs.Limits.{block_size}
 use Rattle.vol_types.specs.declared.keys.Update.{Update}
 use Rattle.vol_types.specs.declared.positions.Btree.{Btree}
 use Rattle.vol_types.specs.declared.positions.Btree.TheVariants.{Extents, Inodes, Dirents, Subvols, Snapshots, Alloc, Backptrs, Deleted, Counters}
 use Rattle.vol_types.specs.declared.positions.Pos.{Pos}
-use Rattle.vol_types.specs.declared.values.FileKind.{FileKind}
-use Rattle.vol_types.specs.declared.values.FileKind.TheVariants.{File}
-use Rattle.vol_types.specs.declared.values.Inode.{Inode}
 use Rattle.vol_types.specs.declared.values.Link.{Link}
 use Rattle.vol_types.specs.declared.values.Sub.{Sub}
 use Rattle.vol_types.specs.declared.values.Value.{Value}
 use Rattle.vol_types.specs.declared.values.Value.TheVariants as values
 use Rattle.key_meaning.specs.Alike.{ShowAlike}
 use Rattle.key_meaning.specs.Blocks.{block_in}
-use Rattle.key_meaning.specs.Checks.{names_to}
-use Rattle.key_meaning.specs.Forest.{all_subs, inode_in, is_directory, kind_in, links_in, links_of, next_in, number_in, subs_of}
+use Rattle.key_meaning.specs.Forest.{inode_in, links_in, links_of, next_in, number_in, subs_of}
 use Rattle.key_meaning.specs.Visible.{snaps_of}
 
 -- The entry of the btree names other inode numbers than this one, if any, at its position and in its value.
@@ -69,27 +64,3 @@ own_inode id number value = record { btree = Inodes; level = 0; pos = record { i
 -- the key map after this update
 abbrev pub with_inode : ℕ → ℕ → Option Value → KeyMap → KeyMap
 with_inode id number value keys = with_update (own_inode id number value) keys
-
--- No block of the number shows in the id at or behind the end of its new inode there.
-pub record EndsAtSize (keys new : KeyMap) (id number : ℕ) : Type 0 where
-  pub each : (inode : Inode) (block : ℕ) → inode_in new id number ≡ Some inode → inode.size ≤ block * block_size → block_in keys id number block ≡ None
-
--- What the number stood for in the id it stands for still.
-pub record KeepsKind (keys new : KeyMap) (id number : ℕ) : Type 0 where
-  pub each : (kind : FileKind) → kind_in keys id number ≡ Some kind → kind_in new id number ≡ Some kind
-
--- The number is a directory in the id exactly where it was one.
-abbrev pub KeepsDirectory : KeyMap → KeyMap → ℕ → ℕ → Type 0
-KeepsDirectory keys new id number = is_directory (kind_in new id number) ≡ is_directory (kind_in keys id number)
-
--- The links of a file that the number stands for in the id are its names there.
-pub record HasItsNames (keys new : KeyMap) (id number : ℕ) : Type 0 where
-  pub each : (inode : Inode) → inode_in new id number ≡ Some inode → inode.kind ≡ File → inode.links ≡ names_to keys id number
-
--- In the id no name leads to the number, and none stands in its directory.
-pub record HasNoName (keys : KeyMap) (id number : ℕ) : Type 0 where
-  pub each : (directory slot : ℕ) → All (λ (link : Link). (directory ≢ number) × (link.number ≢ number)) (links_in keys id directory slot)
-
--- No subvolume has the number as its root.
-abbrev pub IsNoRoot : KeyMap → ℕ → Type 0
-IsNoRoot keys number = All (λ (sub : Sub). sub.root ≢ number) (all_subs keys)

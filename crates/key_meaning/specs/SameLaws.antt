@@ -1,6 +1,6 @@
--- Where each id shows the same, what was sound and tidy of what shows is so still.
-use Rattle.std.proofs.Common.{◌≡◌, ℕ, false, None, Some, refl, sym, ap, ◌∙◌, subst}
-use Rattle.std.specs.Prelude.{◌==◌, IsSome, All, count_by, flat_map, option_map}
+-- Where each id shows the same, what was sound and tidy of ids and extents is so still.
+use Rattle.std.proofs.Common.{◌≡◌, ℕ, false, None, Some, sym, ap, ◌∙◌, subst}
+use Rattle.std.specs.Prelude.{IsSome, All, flat_map}
 use Rattle.std.specs.List.{slice_index_or}
 use Rattle.std.specs.Ordering.{nat_cmp}
 use Rattle.snap_tree.specs.Snaps.{Snaps, is_ancestor_of}
@@ -9,15 +9,11 @@ use Rattle.vol_types.specs.Maps.{value_at}
 use Rattle.vol_types.specs.Positions.{pos_cmp}
 use Rattle.vol_types.specs.declared.positions.Btree.TheVariants.{Extents}
 use Rattle.vol_types.specs.declared.positions.Pos.{Pos}
-use Rattle.vol_types.specs.declared.values.Inode.{Inode}
-use Rattle.vol_types.specs.declared.values.Sub.{Sub}
 use Rattle.vol_types.specs.declared.values.Value.{Value}
-use Rattle.key_meaning.specs.AlikeLaws.{directories_in-alike, tree_of-alike}
-use Rattle.key_meaning.specs.Checks.{AreDirectoriesTrees, AreExtentsApart, AreIdsThere, AreLinksCounted, AreNamesJoined, AreTreesJoined, DoLeavesMatch, HasRoom, IsJoined, IsLiveLeaf, IsNameJoined, IsRooted, IsSubvolume, count_names}
-use Rattle.key_meaning.specs.Forest.{all_subs, inode_in, kind_in, links_in, subs_of, tree_of}
-use Rattle.key_meaning.specs.Kept.{AreLeavesSound}
+use Rattle.key_meaning.specs.Checks.{AreExtentsApart, AreIdsThere, AreTreesJoined, HasRoom, IsJoined, IsLiveLeaf}
+use Rattle.key_meaning.specs.Forest.{all_subs, inode_in, subs_of}
 use Rattle.key_meaning.specs.Numbers.{ShowSame}
-use Rattle.key_meaning.specs.Tidy.{AreBlocksBelow, AreGone, DoFilesEnd}
+use Rattle.key_meaning.specs.Tidy.{AreBlocksBelow, AreGone}
 use Rattle.key_meaning.specs.Visible.{own_value, snaps_of}
 
 -- Live leaves stay where the ids do,
@@ -33,52 +29,7 @@ pub same_subs : (keys new : KeyMap) → new.subvols ≡ keys.subvols → all_sub
 same_subs keys new subvols = ap (λ (entries : Entries). flat_map (λ (entry : Pos × Value). subs_of (Some entry.1)) entries) subvols
 
 module _ (keys new : KeyMap) (same : ShowSame keys new) where
-  kind_same : (id number : ℕ) → kind_in new id number ≡ kind_in keys id number
-  kind_same id number = ap (option_map (λ (inode : Inode). inode.kind)) ((same.each id).inodes number)
-
-  leaf_was : (id : ℕ) → IsLiveLeaf new id → IsLiveLeaf keys id
-  leaf_was = live_leaf_was keys new same.snaps
-
-  leaf_is : (id : ℕ) → IsLiveLeaf keys id → IsLiveLeaf new id
-  leaf_is = live_leaf_was new keys (sym same.snaps)
-
-  leaves_match : DoLeavesMatch keys → DoLeavesMatch new
-  leaves_match was = record {
-    subvolumes = subst (All (IsSubvolume new)) (sym (same_subs keys new same.subvols))
-        (λ k d lt. let sub = slice_index_or (all_subs keys) k d in let is = was.subvolumes k d lt in record { leaf = leaf_is sub.id is.leaf; root = kind_same sub.id sub.root ∙ is.root });
-    leaves = λ id leaf. ap (count_by (λ (s : Sub). s.id == id)) (same_subs keys new same.subvols) ∙ was.leaves id (leaf_was id leaf);
-  }
-
-  names_joined : AreNamesJoined keys → AreNamesJoined new
-  names_joined was = record {
-    each = λ id directory slot leaf. subst (All (IsNameJoined new id directory slot)) (sym ((same.each id).names directory slot))
-        (λ k d lt. let link = slice_index_or (links_in keys id directory slot) k d in let is = was.each id directory slot (leaf_was id leaf) k d lt in
-        record { under_slot = is.under_slot; in_directory = kind_same id directory ∙ is.in_directory; leads_to = kind_same id link.number ∙ is.leads_to });
-  }
-
-  links_counted : AreLinksCounted keys → AreLinksCounted new
-  links_counted was = record {
-    each = λ id number inode leaf at file. was.each id number inode (leaf_was id leaf) (sym ((same.each id).inodes number) ∙ at) file
-        ∙ ap (λ directories. count_names directories number) (sym (directories_in-alike new keys id id (same.each id)));
-  }
-
-  directories_trees : AreDirectoriesTrees keys → AreDirectoriesTrees new
-  directories_trees was = record {
-    each = λ read. subst (All (λ sub. IsRooted (tree_of new read sub))) (sym (same_subs keys new same.subvols))
-        (λ k d lt. let sub = slice_index_or (all_subs keys) k d in subst IsRooted (sym (tree_of-alike new keys read sub sub (same.each sub.id) refl refl)) (was.each read k d lt));
-  }
-
-  -- What is checked of ids and of what shows stays.
-  pub leaves_sound-same : AreLeavesSound keys → AreLeavesSound new
-  leaves_sound-same was = record { trees = trees_stay_joined keys new same.snaps was.trees; leaves = leaves_match was.leaves; names = names_joined was.names; links = links_counted was.links; directories = directories_trees was.directories }
-
-  -- Files end where they did;
-  pub files_end-same : DoFilesEnd keys → DoFilesEnd new
-  files_end-same was = record {
-    each = λ id number block inode leaf at behind. (same.each id).blocks number block ∙ was.each id number block inode (leaf_was id leaf) (sym ((same.each id).inodes number) ∙ at) behind;
-  }
-
-  -- where the files that are gone are the same, they show no inode still;
+  -- Where the files that are gone are the same, they show no inode still;
   pub gone-same : new.deleted ≡ keys.deleted → AreGone keys → AreGone new
   gone-same deleted was = record {
     each = subst (All (λ (entry : Pos × Value). inode_in new entry.0.snapshot entry.0.offset ≡ None)) (sym deleted)

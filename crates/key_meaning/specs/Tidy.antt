@@ -1,16 +1,17 @@
--- What holds of the key map of a volume that nobody else wrote, besides that it is sound: five further facts.
-use Rattle.std.specs.Prelude.{◌≡◌, ℕ, ◌*◌, ◌/◌, ◌%◌, ◌^◌, ◌<◌, ◌≤◌, true, false, None, Some, IsSome, All, ⊤}
+-- What holds of the key map of a volume that nobody else wrote, besides that it is sound: six further facts.
+use Rattle.std.specs.Prelude.{◌≡◌, ◌⊎◌, ℕ, ◌*◌, ◌/◌, ◌%◌, ◌^◌, ◌<◌, ◌≤◌, true, false, None, Some, IsSome, All, ⊤}
 use Rattle.std.specs.Int.{IsInRange}
 use Rattle.plain_forest.specs.Names.{is_good_name, is_good_subvolume_name}
 use Rattle.plain_forest.specs.Steps.{numbers_per_client}
 use Rattle.vol_digest.specs.Digests.{slot_of}
-use Rattle.vol_types.specs.KeyMaps.{KeyMap, entries_of}
+use Rattle.vol_types.specs.KeyMaps.{KeyMap, entries_of, value_in}
 use Rattle.vol_types.specs.Limits.{block_size}
 use Rattle.vol_types.specs.Ranges.{IsValue}
 use Rattle.vol_types.specs.Standing.{MayStand}
 use Rattle.vol_types.specs.declared.positions.Btree.{Btree}
 use Rattle.vol_types.specs.declared.positions.Btree.TheVariants.{Extents, Inodes, Dirents, Subvols, Snapshots, Alloc, Backptrs, Deleted, Counters}
 use Rattle.vol_types.specs.declared.positions.Pos.{Pos}
+use Rattle.vol_types.specs.declared.values.FileKind.TheVariants.{File}
 use Rattle.vol_types.specs.declared.values.Inode.{Inode}
 use Rattle.vol_types.specs.declared.values.Link.{Link}
 use Rattle.vol_types.specs.declared.values.Sub.{Sub}
@@ -19,7 +20,7 @@ use Rattle.vol_types.specs.declared.values.Value.TheVariants as values
 use Rattle.snap_tree.specs.Snaps.{is_ancestor_of}
 use Rattle.key_meaning.specs.Blocks.{block_in}
 use Rattle.key_meaning.specs.Checks.{IsLiveLeaf}
-use Rattle.key_meaning.specs.Forest.{counter_in, inode_in, links_of, next_in, subs_of}
+use Rattle.key_meaning.specs.Forest.{counter_in, inode_in, kind_in, links_of, next_in, subs_of}
 use Rattle.key_meaning.specs.Visible.{snaps_of}
 
 -- Fact 1: positions, numbers and counters.
@@ -115,10 +116,25 @@ pub record DoFilesEnd (keys : KeyMap) : Type 0 where
 pub record AreGone (keys : KeyMap) : Type 0 where
   pub each : All (λ entry. inode_in keys entry.0.snapshot entry.0.offset ≡ None) keys.deleted
 
--- The key map is tidy: the five facts hold.
+-- Fact 6: owners of blocks.
+
+-- The number is noted as that of a file that is gone in the id.
+abbrev pub IsNoted : KeyMap → ℕ → ℕ → Type 0
+IsNoted keys id number = IsSome (value_in keys Deleted (record { inode = 0; offset = number; snapshot = id }))
+
+-- The number of an extent or hole shows a file in its id, or is noted as gone there.
+abbrev pub HasOwner : KeyMap → Pos × Value → Type 0
+HasOwner keys entry = (kind_in keys entry.0.snapshot entry.0.inode ≡ Some File) ⊎ IsNoted keys entry.0.snapshot entry.0.inode
+
+-- All extents and holes have an owner, so that no blocks are lost.
+pub record AreBlocksOwned (keys : KeyMap) : Type 0 where
+  pub each : All (HasOwner keys) keys.extents
+
+-- The key map is tidy: the six facts hold.
 pub record IsTidy (keys : KeyMap) : Type 0 where
   pub drawn : AreKeysDrawn keys
   pub named : AreNamesGood keys
   pub below : AreBlocksBelow keys
   pub ends : DoFilesEnd keys
   pub gone : AreGone keys
+  pub owned : AreBlocksOwned keys

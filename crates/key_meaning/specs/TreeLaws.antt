@@ -38,16 +38,12 @@ module _ (keys new : KeyMap) (id number : ℕ) (change : ChangesInode keys new i
   pub same_names : (directory : ℕ) → names_in new id directory ≡ names_in keys id directory
   same_names directory = map_over-same nat_list_cmp_total exact_bytes (number_in new id directory) (number_in keys id directory) (names_under new directory) (names_under keys directory) (names_within new id directory) (names_within keys id directory) (change.names directory)
 
-  -- Where one inode changed, a directory is put or removed at its number,
+  -- A directory is put or removed at its number,
   pub directories_in-inode : directories_in new id ≡ put_at nat_cmp number (directory_in new id number) (directories_in keys id)
   directories_in-inode = map_over-changed nat_cmp_total exact_unsigned (directory_in keys id) (directory_in new id) (numbers_of keys) (numbers_of new) number (directories_within keys id) (directories_within new id)
       (λ other apart i. cond (is_directory (option_map (λ (inode : Inode). inode.kind) (change.inodes other (other_number number other apart) i))) (Some (same_names other i)) None)
 
-  -- with the names that the number had as a directory's,
-  pub directory_in-inode : directory_in new id number ≡ cond (is_directory (option_map (λ (inode : Inode). inode.kind) (inode_in new id number))) (Some (names_in keys id number)) None
-  directory_in-inode = ap (λ names. cond (is_directory (option_map (λ (inode : Inode). inode.kind) (inode_in new id number))) (Some names) None) (same_names number)
-
-  -- and a file so.
+  -- and so is a file.
   pub files_in-inode : (read : Read) → files_in new read id ≡ put_at nat_cmp number (file_in new read id number) (files_in keys read id)
   files_in-inode read = map_over-changed nat_cmp_total exact_unsigned (file_in keys read id) (file_in new read id) (numbers_of keys) (numbers_of new) number (files_within keys id read) (files_within new id read)
       (λ other apart i. option_map (λ (size : ℕ). map (λ (index : ℕ). byte_at (option_and_then (λ (shown : Block). read shown.places shown.digest) (change.blocks other (index / block_size) i)) (index % block_size)) (range_with_len 0 size)) (option_and_then size_of (change.inodes other (other_number number other apart) i)))

@@ -5,7 +5,6 @@
 
 mod changes;
 mod examples;
-mod inodes;
 mod laws;
 mod numbers;
 mod shared;
@@ -15,7 +14,6 @@ pub use changes::{
     names_are_updated, trees_take_a_name, trees_take_an_inode,
 };
 pub use examples::{whiteouts_hide, wrong_keys_are_refused};
-pub use inodes::{new_inodes_want_names, set_inodes_are_checked, set_inodes_are_tidy};
 pub use laws::{
     alike_ids_have_one_tree, forests_are_looked_up, forests_hang_on_their_blocks,
     fresh_keys_mean_fresh, sound_ids_are_apart, sound_is_all_checks, soundness_stays, updates_show,

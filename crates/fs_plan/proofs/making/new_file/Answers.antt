@@ -1,37 +1,20 @@
 -- With a number the file gets it, and without one it is refused.
 use Rattle.std.proofs.Common.{◌∙◌, ap, sym}
-use Rattle.fs_plan.proofs.Looks.{carried, gave_before, looks_then}
+use Rattle.fs_plan.proofs.Looks.{carried, gave_before}
 use Rattle.fs_plan.specs.Making.{file_drawn, spent_file}
 use Rattle.fs_plan.proofs.making.new_file.Goals as goal
 
 pub returns-in-Drawn-clause-made : goal.returns-in-Drawn-clause-made
 returns-in-Drawn-clause-made g c = carried c.numbered_file.result _ _
     (λ result holds keys seen.
-    let made = g.V.View.made in
     let a = c.args in
-    let before = gave_before keys (made c.next_number.new.view) (made c.numbered_file.new.view) c.numbered_file.ensures.looks seen.gives in
+    let before = gave_before keys (g.V.View.made c.next_number.new.view) (g.V.View.made c.numbered_file.new.view) c.numbered_file.ensures.looks seen.gives in
     holds keys seen ∙ ap (file_drawn keys a.id a.directory a.name.now) (sym c.in-Drawn.is ∙ c.in_ok-number.ensures.draw keys before))
     c.numbered_file.ensures.made
 
 pub returns-in_ok-step-in-Spent-clause-made : goal.returns-in_ok-step-in-Spent-clause-made
 returns-in_ok-step-in-Spent-clause-made g c = λ keys seen.
-    let made = g.V.View.made in
     let a = c.args in
-    let before = gave_before keys (made c.next_number.new.view) (made c.add.new.view) c.in_ok-step-in-Spent.ensures.looks seen.gives in
+    let before = gave_before keys (g.V.View.made c.next_number.new.view) (g.V.View.made c.add.new.view) c.in_ok-step-in-Spent.ensures.looks seen.gives in
     c.spent.ensures ∙ ap spent_file (c.in_ok-step-in-Spent.ensures.step keys seen)
     ∙ ap (file_drawn keys a.id a.directory a.name.now) (sym c.in-Spent.is ∙ c.in_ok-number.ensures.draw keys before)
-
-pub returns-in-Drawn-clause-looks : goal.returns-in-Drawn-clause-looks
-returns-in-Drawn-clause-looks g c =
-    let made = g.V.View.made in
-    looks_then (made c.args.view.now) (made c.next_number.new.view) (made c.numbered_file.new.view) c.in_ok-number.ensures.looks c.numbered_file.ensures.looks
-
-pub returns-in_err-step-in-Spent-clause-looks : goal.returns-in_err-step-in-Spent-clause-looks
-returns-in_err-step-in-Spent-clause-looks g c =
-    let made = g.V.View.made in
-    looks_then (made c.args.view.now) (made c.next_number.new.view) (made c.add.new.view) c.in_ok-number.ensures.looks c.in_err-step-in-Spent.ensures.looks
-
-pub returns-in_ok-step-in-Spent-clause-looks : goal.returns-in_ok-step-in-Spent-clause-looks
-returns-in_ok-step-in-Spent-clause-looks g c =
-    let made = g.V.View.made in
-    looks_then (made c.args.view.now) (made c.next_number.new.view) (made c.add.new.view) c.in_ok-number.ensures.looks c.in_ok-step-in-Spent.ensures.looks

@@ -3,9 +3,8 @@ use Rattle.std.specs.Prelude.{slice_set}
 use Rattle.std.proofs.lemmas.Bool.{eq-eqb, ne_eqb}
 use Rattle.inode_keys.proofs.Drawing.{counts_to, if_drawn, next_in-forest, sets_counter}
 use Rattle.inode_keys.specs.Draws.{CountsOne, IsNewNumber, counter_update}
-use Rattle.key_meaning.specs.Checks.{IsSound}
 use Rattle.key_meaning.specs.Forest.{counter_in, forest_in, next_in}
-use Rattle.key_meaning.specs.Tidy.{IsDrawn, IsTidy}
+use Rattle.key_meaning.specs.Tidy.{IsDrawn}
 use Rattle.plain_forest.specs.Steps.{numbers_per_client}
 use Rattle.vol_types.specs.KeyMaps.{with_update, with_updates}
 use Rattle.inode_keys.proofs.numbers.draws_are_counted.Goals as goal
@@ -31,8 +30,4 @@ returns c = record {
       let number = client * numbers_per_client + next_in keys client in
       let unused = c.counters_are_raised.ensures.unused update keys is client (next_in keys client + 1) (sets_counter client (next_in keys client + 1)) number (c.numbers_are_drawn_upwards.ensures.unused keys client (next_in keys client) drawn (omega arith) more) in
       record { unused = unused; nowhere = c.numbers_are_drawn_upwards.ensures.nowhere (with_update update keys) number unused });
-  sound = λ keys client lt is nodes layout sound. if_drawn client (next_in keys client) (λ _ updates. IsSound (with_updates updates keys) nodes layout)
-      (λ more. c.counters_are_raised.ensures.sound (counter_update client (next_in keys client + 1)) keys is client (next_in keys client + 1) (sets_counter client (next_in keys client + 1)) nodes layout sound);
-  tidy = λ keys client lt is tidy. if_drawn client (next_in keys client) (λ _ updates. IsTidy (with_updates updates keys))
-      (λ more. c.counters_are_raised.ensures.tidy (counter_update client (next_in keys client + 1)) keys is client (next_in keys client + 1) (sets_counter client (next_in keys client + 1)) (counts_to keys client lt more) tidy);
 }

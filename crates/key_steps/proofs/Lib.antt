@@ -1,0 +1,12 @@
+pub mod Apart
+pub mod Counters
+pub mod Ends
+pub mod Following
+pub mod Inodes
+pub mod Meanings
+pub mod Names
+pub mod Plans
+pub mod Removals
+pub mod Showing
+pub mod Staying
+pub mod Subvolumes

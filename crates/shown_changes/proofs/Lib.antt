@@ -1,0 +1,10 @@
+pub mod Begun
+pub mod Laws
+pub mod Directories
+pub mod Files
+pub mod Joined
+pub mod Counts
+pub mod Formed
+pub mod Added
+pub mod Taken
+pub mod Moved

@@ -1,0 +1,10 @@
+pub mod Sums
+pub mod Leading
+pub mod Ways
+pub mod Counting
+pub mod Unique
+pub mod Formed
+pub mod Added
+pub mod Taken
+pub mod Moving
+pub mod Passing
