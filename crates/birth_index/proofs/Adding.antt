@@ -16,7 +16,7 @@ use Rattle.birth_index.specs.declared.making.IndexFault.TheVariants.{NoMemory, S
 use Rattle.birth_index.specs.declared.name.NodeName.{NodeName}
 use Rattle.tree_nodes.specs.Levels.{IsRow, Level}
 use Rattle.vol_types.specs.CopyLaws.{copy_more}
-use Rattle.vol_types.specs.MapLaws.{AreApart, IsMap-parts, value_at-append, value_at-with_value}
+use Rattle.vol_types.specs.MapLaws.{AreKeysBelow, IsMap-parts, value_at-append, value_at-with_value}
 use Rattle.vol_types.specs.Maps.{IsMap, value_at, with_value}
 use Rattle.vol_types.specs.Btrees.{btree_code}
 use Rattle.vol_types.specs.PositionLaws.{pos_total}
@@ -54,7 +54,7 @@ adding_none old btree level nodes rest same = record {
     by births none name true is = none name is
     by births none name false is = refl
 
-not_apart : (at : Pos) (node : NodePtr) (done later : Level) → AreApart pos_cmp done ((at, node) ∷ later) → value_at pos_cmp at done ≡ None
+not_apart : (at : Pos) (node : NodePtr) (done later : Level) → AreKeysBelow pos_cmp done ((at, node) ∷ later) → value_at pos_cmp at done ≡ None
 not_apart at node [] later apart = refl
 not_apart at node (d ∷ done) later apart =
     ap (λ r. cond (is_eq r) (Some d.1) (value_at pos_cmp at done)) (pos_total.antisymm at d.0 ∙ ap ordering_reverse apart.0.0) ∙ not_apart at node done later apart.1

@@ -9,7 +9,7 @@ use Rattle.std.proofs.lemmas.List.Kept.{AllPairs-cons}
 use Rattle.std.proofs.lemmas.Option.{same_Some}
 use Rattle.birth_index.specs.Births.{birth_of, levels_of, node_of}
 use Rattle.birth_index.specs.ChangeLaws.{beside-put, beside-same, look-with_node, node_of-set}
-use Rattle.birth_index.specs.Exchanges.{AreApart, AreExchanges, HaveOneNode, IsExchange, IsOfRoot, exchanged, one_node, with_pointer, with_roots}
+use Rattle.birth_index.specs.Exchanges.{AreOfOtherNodes, AreExchanges, HaveOneNode, IsExchange, IsOfRoot, exchanged, one_node, with_pointer, with_roots}
 use Rattle.birth_index.specs.NameLaws.{apart_names, one_btree, same_itself, same_name}
 use Rattle.birth_index.specs.PlaceLaws.{btree-there}
 use Rattle.birth_index.specs.declared.name.Exchange.{Exchange}
@@ -55,7 +55,7 @@ module _ (nodes : List Levels) (change : Exchange) (is : IsExchange nodes change
   other-with_pointer other apart = node_of-with_pointer other ∙ ap (λ (b : Bool). cond b (Some change.pointer) (node_of nodes other)) (apart_names change.name other apart)
 
   -- a change that may be made may still be made after another
-  exchange-later : (later : Exchange) → AreApart change later → IsExchange nodes later → IsExchange (with_pointer change nodes) later
+  exchange-later : (later : Exchange) → AreOfOtherNodes change later → IsExchange nodes later → IsExchange (with_pointer change nodes) later
   exchange-later later apart other = record {
     there = subst IsSome (sym (other-with_pointer later.name apart.names)) other.there;
     node = other.node;
@@ -80,10 +80,10 @@ pub exchanges-none : (nodes : List Levels) → AreExchanges nodes []
 exchanges-none nodes = record { each = All-nil (IsExchange nodes); apart = λ one other none before lt. absurd (omega (arith, lt)) }
 
 -- and further ones before others, which are apart from them.
-pub exchanges-cons : (nodes : List Levels) (change : Exchange) (changes : List Exchange) → IsExchange nodes change → All (AreApart change) changes → AreExchanges nodes changes → AreExchanges nodes (change ∷ changes)
+pub exchanges-cons : (nodes : List Levels) (change : Exchange) (changes : List Exchange) → IsExchange nodes change → All (AreOfOtherNodes change) changes → AreExchanges nodes changes → AreExchanges nodes (change ∷ changes)
 exchanges-cons nodes change changes is apart are = record {
   each = All-cons (IsExchange nodes) change changes is are.each;
-  apart = AllPairs-cons AreApart change changes apart are.apart;
+  apart = AllPairs-cons AreOfOtherNodes change changes apart are.apart;
 }
 
 module _ (nodes : List Levels) (change : Exchange) (changes : List Exchange) (are : AreExchanges nodes (change ∷ changes)) where
@@ -92,14 +92,14 @@ module _ (nodes : List Levels) (change : Exchange) (changes : List Exchange) (ar
   exchanges-head = All-head (IsExchange nodes) change changes are.each
 
   -- It is apart from those that follow.
-  pub exchanges-apart : All (AreApart change) changes
-  exchanges-apart = pairs-head AreApart change changes are.apart
+  pub exchanges-apart : All (AreOfOtherNodes change) changes
+  exchanges-apart = pairs-head AreOfOtherNodes change changes are.apart
 
   -- Those that follow may be made after it.
   pub exchanges-later : AreExchanges (with_pointer change nodes) changes
   exchanges-later = record {
     each = λ place none lt. exchange-later nodes change exchanges-head (slice_index_or changes place none) (exchanges-apart place none lt) (All-tail (IsExchange nodes) change changes are.each place none lt);
-    apart = pairs-tail AreApart change changes are.apart;
+    apart = pairs-tail AreOfOtherNodes change changes are.apart;
   }
 
 -- Nodes that aren't named have their own pointers.

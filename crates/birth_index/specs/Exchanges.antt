@@ -29,14 +29,14 @@ pub record IsExchange (nodes : List Levels) (change : Exchange) : Type 0 where
   pub unused : (name : NodeName) → birth_of nodes name ≢ Some change.pointer.birth
 
 -- They are changes of two nodes, with pointers of two births.
-pub record AreApart (one other : Exchange) : Type 0 where
+pub record AreOfOtherNodes (one other : Exchange) : Type 0 where
   pub names : one.name ≢ other.name
   pub births : one.pointer.birth ≢ other.pointer.birth
 
 -- The pointers of nodes may be exchanged for others: each node is there and named once, and no birth is in use or comes twice.
 pub record AreExchanges (nodes : List Levels) (changes : List Exchange) : Type 0 where
   pub each : All (IsExchange nodes) changes
-  pub apart : AllPairs AreApart changes
+  pub apart : AllPairs AreOfOtherNodes changes
 
 -- the node that a change is of
 abbrev pub name_of : Exchange → NodeName

@@ -25,8 +25,8 @@ abbrev pub IsHeldPast : ℕ → Space → Place → Type 0
 IsHeldPast seq space place = HoldsNode space place ⊎ ((entry : ℕ) × (state_at space place ≡ Some (Waiting entry)) × (seq < entry))
 
 -- Two places lie in different buckets.
-abbrev pub AreApart : Place → Place → Type 0
-AreApart one other = (one.dev ≢ other.dev) ⊎ (one.block / bucket_blocks ≢ other.block / bucket_blocks)
+abbrev pub AreInOtherBuckets : Place → Place → Type 0
+AreInOtherBuckets one other = (one.dev ≢ other.dev) ⊎ (one.block / bucket_blocks ≢ other.block / bucket_blocks)
 
 -- The place is the first block of a bucket that is there.
 pub record BeginsBucket (space : Space) (place : Place) : Type 0 where

@@ -17,7 +17,7 @@ use Rattle.bucket_pool.specs.declared.bucket.State.TheVariants.{Super, Journal, 
 use Rattle.bucket_pool.specs.Buckets.{is_free, is_free_state, is_current_of, kept_at, let_go, opened_for, settled, waited, waited_by}
 use Rattle.bucket_pool.specs.CountLaws.{first_there, length-changed}
 use Rattle.bucket_pool.specs.Given.{bucket_at, is_due, is_open_state, is_shut_state, is_used_state}
-use Rattle.bucket_pool.specs.NodeBuckets.{AreApart, AreFixed, BeginsBucket, HoldsNode, IsHeldPast, KeepsNodes, MayHoldNode, bucket_state, state_at}
+use Rattle.bucket_pool.specs.NodeBuckets.{AreInOtherBuckets, AreFixed, BeginsBucket, HoldsNode, IsHeldPast, KeepsNodes, MayHoldNode, bucket_state, state_at}
 use Rattle.bucket_pool.specs.Places.{changed, each_from, picked_from, with_pick}
 use Rattle.bucket_pool.specs.Space.{Space, as_node, can_give, emptied, first_free, has_open_room, have_free, kept, marked, node_place, node_places, noded, pointer_to, readied, reopened, reserved, reserved_at, reserved_on, settled_space, spot, with_node}
 use Rattle.bucket_pool.specs.StayLaws.{changed_get, changed_stays, chosen, each_get, emptied_stays, first_is_free, given_by, kept_stays, noded_stays, on_device, parts, reserved_stays, settled_stays}
@@ -142,7 +142,7 @@ emptied_waits place seq space holds =
     (on_device (emptied place seq space) dev at (changed (waited seq) at buckets) (waited seq found.0) (changed_here (changed (waited seq) at) dev space buckets device) (changed_here (waited seq) at buckets found.0 there))
     (ap (λ state. (waited_by seq found.0 state).state) found.2))
 
-emptied_elsewhere : (place : Place) (seq : ℕ) (space : Space) (other : Place) (bucket : Bucket) → AreApart place other → bucket_at space other.dev (other.block / bucket_blocks) ≡ Some bucket
+emptied_elsewhere : (place : Place) (seq : ℕ) (space : Space) (other : Place) (bucket : Bucket) → AreInOtherBuckets place other → bucket_at space other.dev (other.block / bucket_blocks) ≡ Some bucket
     → bucket_at (emptied place seq space) other.dev (other.block / bucket_blocks) ≡ Some bucket
 emptied_elsewhere place seq space other bucket apart is =
     let dev = other.dev in
@@ -157,13 +157,13 @@ emptied_elsewhere place seq space other bucket apart is =
     (changed_get change place.dev dev space buckets device))
     apart)
 
-pub emptied_apart : (place : Place) (seq : ℕ) (space : Space) (other : Place) → AreApart place other → HoldsNode space other → HoldsNode (emptied place seq space) other
+pub emptied_apart : (place : Place) (seq : ℕ) (space : Space) (other : Place) → AreInOtherBuckets place other → HoldsNode space other → HoldsNode (emptied place seq space) other
 emptied_apart place seq space other apart holds =
     let found = from_state space other.dev (other.block / bucket_blocks) Node holds in
     to_state (emptied place seq space) other.dev (other.block / bucket_blocks) found.0 Node (emptied_elsewhere place seq space other found.0 apart found.1) found.2
 
 -- a place lies in the same bucket as another one, or apart from it
-pub apart_or_same : (one other : Place) → AreApart one other ⊎ ((one.dev ≡ other.dev) × (one.block / bucket_blocks ≡ other.block / bucket_blocks))
+pub apart_or_same : (one other : Place) → AreInOtherBuckets one other ⊎ ((one.dev ≡ other.dev) × (one.block / bucket_blocks ≡ other.block / bucket_blocks))
 apart_or_same one other =
     ⊎_elim (λ devices. ⊎_elim (λ blocks. inr (devices, blocks)) (λ blocks. inl (inr blocks)) (cases_eq (one.block / bucket_blocks) (other.block / bucket_blocks))) (λ devices. inl (inl devices)) (cases_eq one.dev other.dev)
 
@@ -188,7 +188,7 @@ emptied_held past place seq space other lt held =
     same_state now same is = (λ i. bucket_state now (same.0 i) (same.1 i)) ∙ is
 
 -- What lies apart is held as before, whatever the entry is.
-pub emptied_held_apart : (past : ℕ) (place : Place) (seq : ℕ) (space : Space) (other : Place) → AreApart place other → IsHeldPast past space other → IsHeldPast past (emptied place seq space) other
+pub emptied_held_apart : (past : ℕ) (place : Place) (seq : ℕ) (space : Space) (other : Place) → AreInOtherBuckets place other → IsHeldPast past space other → IsHeldPast past (emptied place seq space) other
 emptied_held_apart past place seq space other apart held =
     ⊎_elim (λ holds. inl (emptied_apart place seq space other apart holds))
     (λ waits. waiting_by (λ state. is_used_state state ≡ false) space (emptied place seq space) (emptied_stays place seq space) past (λ entry later. refl) other waits.0 waits.1 waits.2)
@@ -266,8 +266,8 @@ not_first space dev at buckets state device is taken first =
 held_taken : (past : ℕ) (space : Space) (place : Place) → IsHeldPast past space place → (state : State) × (state_at space place ≡ Some state) × (is_free_state state ≡ false)
 held_taken past space place = ⊎_elim (λ holds. (Node, holds, refl)) (λ waits. (Waiting waits.0, waits.1, refl))
 
-pub taken_apart : (past count : ℕ) (space : Space) (other : Place) → IsHeldPast past space other → All (AreApart other) (node_places count space)
-taken_apart past count space other held = each_taken (AreApart other) count space (λ dev buckets got lt.
+pub taken_apart : (past count : ℕ) (space : Space) (other : Place) → IsHeldPast past space other → All (AreInOtherBuckets other) (node_places count space)
+taken_apart past count space other held = each_taken (AreInOtherBuckets other) count space (λ dev buckets got lt.
     let found = held_taken past space other held in
     ⊎_elim (λ apart. apart)
     (λ same. absurd (not_first space dev (other.block / bucket_blocks) buckets found.0 got (ap (λ n. bucket_state space n (other.block / bucket_blocks)) (sym same.0) ∙ found.1) found.2 (same.1 ∙ whole_buckets (first_free buckets))))

@@ -11,7 +11,7 @@ ghost use Rattle.bucket_pool.specs.declared.bucket.Run.{Run as ARun};
 ghost use Rattle.bucket_pool.specs.declared.bucket.State.TheVariants.{Waiting};
 ghost use Rattle.bucket_pool.specs.Buckets.{is_free};
 ghost use Rattle.bucket_pool.specs.Given.{LiesUnused, bucket_at, is_due, is_open_state, is_shut_state, is_used_state};
-ghost use Rattle.bucket_pool.specs.NodeBuckets.{AreApart, AreFixed, BeginsBucket, HoldsNode, IsHeldPast, KeepsNodes, MayHoldNode, state_at};
+ghost use Rattle.bucket_pool.specs.NodeBuckets.{AreInOtherBuckets, AreFixed, BeginsBucket, HoldsNode, IsHeldPast, KeepsNodes, MayHoldNode, state_at};
 ghost use Rattle.bucket_pool.specs.Opening.{space_of};
 ghost use Rattle.bucket_pool.specs.Space.{Space, emptied, givers, have_free, kept, node_places, noded, reserved, settled_space};
 
@@ -68,7 +68,7 @@ pub fn nodes_keep_their_buckets()
     ensures taken_devices { (count : ℕ) (space : Space) → count ≤ length space
         → map (λ place. place.dev) (node_places count space) ≡ range_with_len 0 count }
     ensures taken_apart { (past count : ℕ) (space : Space) (other : APlace)
-        → IsHeldPast past space other → All (AreApart other) (node_places count space) }
+        → IsHeldPast past space other → All (AreInOtherBuckets other) (node_places count space) }
     ensures taken_past_journal { (layout : ALayout) (count : ℕ) (space : Space)
         → AreFixed layout space → have_free count space ≡ true → count ≤ layout.metadata_replicas
         → All (λ place. (place.dev < layout.metadata_replicas) × MayHoldNode layout place)
@@ -84,13 +84,13 @@ pub fn nodes_keep_their_buckets()
     ensures emptied_waits { (place : APlace) (seq : ℕ) (space : Space) → HoldsNode space place
         → state_at (emptied place seq space) place ≡ Some (Waiting seq) }
     ensures emptied_apart { (place : APlace) (seq : ℕ) (space : Space) (other : APlace)
-        → AreApart place other → HoldsNode space other
+        → AreInOtherBuckets place other → HoldsNode space other
         → HoldsNode (emptied place seq space) other }
     ensures emptied_held { (past : ℕ) (place : APlace) (seq : ℕ) (space : Space) (other : APlace)
         → past < seq → IsHeldPast past space other
         → IsHeldPast past (emptied place seq space) other }
     ensures emptied_held_apart { (past : ℕ) (place : APlace) (seq : ℕ) (space : Space)
-        (other : APlace) → AreApart place other → IsHeldPast past space other
+        (other : APlace) → AreInOtherBuckets place other → IsHeldPast past space other
         → IsHeldPast past (emptied place seq space) other }
     ensures emptied_fixed { (layout : ALayout) (place : APlace) (seq : ℕ) (space : Space)
         → AreFixed layout space → AreFixed layout (emptied place seq space) }

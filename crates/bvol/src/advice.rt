@@ -1,7 +1,7 @@
-use crate::refusal::Refusal;
+use crate::refusal::NotBegun;
 use file_devices::Trouble;
 use script_text::LineFault;
-use shell::{EarlyEnd, Refusal as MountRefusal};
+use shell::{EarlyEnd, MountRefusal};
 use std::fmt;
 use std::rc::RcStr;
 
@@ -17,7 +17,7 @@ pub struct Advice<'a> {
 /// The same for a command that wasn't begun.
 #[derive(Drop)]
 pub struct RefusalAdvice<'a> {
-    pub refusal: Refusal,
+    pub refusal: NotBegun,
     pub arguments: &'a [RcStr],
     pub images: &'a [RcStr],
 }
@@ -174,16 +174,16 @@ fn write_usage<W: fmt::Write>(
 impl fmt::Display for RefusalAdvice<'_> {
     fn fmt<W: fmt::Write>(&self, f: &mut fmt::Formatter<W>) -> fmt::Result {
         match self.refusal {
-            Refusal::Usage => write_usage(f, self.arguments, self.images),
-            Refusal::NotText => {
+            NotBegun::Usage => write_usage(f, self.arguments, self.images),
+            NotBegun::NotText => {
                 f.write_str("bvol: an argument isn't UTF-8; give the image a name that is")
             }
-            Refusal::Device(dev, trouble) => {
+            NotBegun::Device(dev, trouble) => {
                 let name = name_of(self.images, dev);
                 let text = trouble_text(trouble);
                 write!(f, "bvol: {name}: {text}")
             }
-            Refusal::Memory => f.write_str("bvol: out of memory; nothing was done"),
+            NotBegun::Memory => f.write_str("bvol: out of memory; nothing was done"),
         }
     }
 }

@@ -17,7 +17,7 @@ use dev_model::NoGate;
 use file_devices::{MOST_DEVICES, open_devices};
 use judging::judge_arguments;
 use overwriting::say_what_is_lost;
-use refusal::Refusal;
+use refusal::NotBegun;
 use shell::run_task;
 use std::alloc::Global;
 use std::env;
@@ -50,7 +50,7 @@ fn run<R: Files<File = File> + Env + AllocGlobal + Print + Eprint, I: Read + Dro
     alloc: Global,
     input: I,
     output: O,
-) -> Result<u8, Refusal> {
+) -> Result<u8, NotBegun> {
     let args = match read_arguments(rt, alloc) {
         Ok(args) => args,
         Err(refusal) => return Err(advised(rt, refusal, &[], &[])),
@@ -66,7 +66,12 @@ fn run<R: Files<File = File> + Env + AllocGlobal + Print + Eprint, I: Read + Dro
 }
 
 // The refusal, of which standard error has its sentence.
-fn advised<R: Eprint>(rt: &R, refusal: Refusal, arguments: &[RcStr], images: &[RcStr]) -> Refusal {
+fn advised<R: Eprint>(
+    rt: &R,
+    refusal: NotBegun,
+    arguments: &[RcStr],
+    images: &[RcStr],
+) -> NotBegun {
     drop(rt.eprintln(RefusalAdvice {
         refusal,
         arguments,
@@ -87,7 +92,7 @@ fn run_on<
     images: &[RcStr],
     input: I,
     output: O,
-) -> Result<u8, Refusal> {
+) -> Result<u8, NotBegun> {
     let mut source = StdSource::new(input);
     let mut sink = StdSink::new(output);
     let status = run_over(rt, alloc, arguments, images, &mut source, &mut sink);
@@ -104,16 +109,16 @@ fn run_over<R: Files<File = File> + Env + AllocGlobal + Print + Eprint, I: Read,
     images: &[RcStr],
     source: &mut StdSource<I>,
     sink: &mut StdSink<O>,
-) -> Result<u8, Refusal> {
+) -> Result<u8, NotBegun> {
     if images.is_empty() || images.len() > MOST_DEVICES {
-        return Err(Refusal::Usage);
+        return Err(NotBegun::Usage);
     }
     let task = judge_arguments(alloc, arguments, count_of(images))?;
     let mut devices = open_devices(rt, alloc, images)?;
     if let Err(fault) = devices.lock() {
         drop(devices);
         drop(task);
-        return Err(Refusal::from(fault));
+        return Err(NotBegun::from(fault));
     }
     say_what_is_lost(rt, &task, &mut devices, images);
     let ended = run_task(rt, alloc, task, source, sink, devices, &NoGate);
@@ -138,7 +143,7 @@ fn count_of(images: &[RcStr]) -> u8
 }
 
 // The arguments after the program's name.
-fn read_arguments<R: Env + AllocGlobal>(rt: &R, alloc: Global) -> Result<Vec<RcStr>, Refusal> {
+fn read_arguments<R: Env + AllocGlobal>(rt: &R, alloc: Global) -> Result<Vec<RcStr>, NotBegun> {
     let mut args = Vec::new(alloc);
     for arg in env::args(rt)?.skip(1) {
         args.push(RcStr::from_string(arg)?)?;

@@ -7,7 +7,7 @@ use std::{fmt, io};
 
 /// Why no command was begun.
 #[derive(Clone, Copy)]
-pub enum Refusal {
+pub enum NotBegun {
     /// The arguments name no files, or too many.
     Usage,
     /// An argument isn't UTF-8.
@@ -18,52 +18,52 @@ pub enum Refusal {
     Memory,
 }
 
-impl Refusal {
+impl NotBegun {
     /// The status with which the program ends.
     pub fn status(self) -> u8
         ensures { result ≡ refusal_status self }
     {
         match self {
-            Refusal::Usage | Refusal::NotText => 1,
-            Refusal::Device(_, _) => 6,
-            Refusal::Memory => 7,
+            NotBegun::Usage | NotBegun::NotText => 1,
+            NotBegun::Device(_, _) => 6,
+            NotBegun::Memory => 7,
         }
     }
 }
 
-impl fmt::Display for Refusal {
+impl fmt::Display for NotBegun {
     fn fmt<W: fmt::Write>(&self, f: &mut fmt::Formatter<W>) -> fmt::Result {
         match *self {
-            Refusal::Usage | Refusal::NotText => f.write_str("error 1 usage"),
-            Refusal::Device(dev, _) => write!(f, "error 6 device {dev}"),
-            Refusal::Memory => f.write_str("error 7 memory"),
+            NotBegun::Usage | NotBegun::NotText => f.write_str("error 1 usage"),
+            NotBegun::Device(dev, _) => write!(f, "error 6 device {dev}"),
+            NotBegun::Memory => f.write_str("error 7 memory"),
         }
     }
 }
 
-impl From<AllocError> for Refusal {
+impl From<AllocError> for NotBegun {
     ghost use Rattle.std.specs.Prelude.{◌≡◌};
-    ghost use Rattle.bvol.specs.declared.refusal.Refusal.TheVariants.{Memory};
+    ghost use Rattle.bvol.specs.declared.refusal.NotBegun.TheVariants.{Memory};
 
     ghost from_gives = { λ _ refusal. refusal ≡ Memory };
 
     fn from(_error: AllocError) -> Self {
-        Refusal::Memory
+        NotBegun::Memory
     }
 }
 
-impl<T: Drop> From<AllocFailed<T>> for Refusal {
+impl<T: Drop> From<AllocFailed<T>> for NotBegun {
     ghost use Rattle.std.specs.Prelude.{◌≡◌};
-    ghost use Rattle.bvol.specs.declared.refusal.Refusal.TheVariants.{Memory};
+    ghost use Rattle.bvol.specs.declared.refusal.NotBegun.TheVariants.{Memory};
 
     ghost from_gives = { λ _ refusal. refusal ≡ Memory };
 
     fn from(_error: AllocFailed<T>) -> Self {
-        Refusal::Memory
+        NotBegun::Memory
     }
 }
 
-impl From<OpenFault> for Refusal {
+impl From<OpenFault> for NotBegun {
     ghost use Rattle.std.specs.Prelude.{◌≡◌};
     ghost use Rattle.bvol.specs.Refusals.{refusal_of};
 
@@ -71,18 +71,18 @@ impl From<OpenFault> for Refusal {
 
     fn from(fault: OpenFault) -> Self {
         match fault {
-            OpenFault::Device(dev, trouble) => Refusal::Device(dev, trouble),
-            OpenFault::NoMemory => Refusal::Memory,
+            OpenFault::Device(dev, trouble) => NotBegun::Device(dev, trouble),
+            OpenFault::NoMemory => NotBegun::Memory,
         }
     }
 }
 
 // Of the arguments: one isn't UTF-8, or it is out of memory.
-impl From<io::Error> for Refusal {
+impl From<io::Error> for NotBegun {
     fn from(error: io::Error) -> Self {
         match error.kind() {
-            io::ErrorKind::OutOfMemory => Refusal::Memory,
-            _ => Refusal::NotText,
+            io::ErrorKind::OutOfMemory => NotBegun::Memory,
+            _ => NotBegun::NotText,
         }
     }
 }

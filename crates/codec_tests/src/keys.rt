@@ -24,6 +24,9 @@ const GREATEST: Pos = Pos {
     snapshot: u32::MAX,
 };
 
+// The bytes of the greatest position.
+static GREATEST_BYTES: [u8; 20] = [0xff; 20];
+
 // A key at the least position, whose kind and fields the digits encode.
 fn key_of(alloc: Global, digits: &str) -> Result<Vec<u8>, AllocError> {
     let mut bytes = Vec::from_slice(alloc, &[0; 20])?;
@@ -31,27 +34,39 @@ fn key_of(alloc: Global, digits: &str) -> Result<Vec<u8>, AllocError> {
     Ok(bytes)
 }
 
+// A key at the greatest position, whose kind and fields the digits encode, with these bytes behind them.
+fn greatest_key_of(alloc: Global, digits: &str, behind: &[u8]) -> Result<Vec<u8>, AllocError> {
+    let mut bytes = Vec::from_slice(alloc, &GREATEST_BYTES)?;
+    put_hex(&mut bytes, digits)?;
+    bytes.extend_from_slice(behind)?;
+    Ok(bytes)
+}
+
 // Whether a key at the least position is encoded so.
 fn is_least(alloc: Global, digits: &str, value: Option<Value>) -> Result<bool, AllocError> {
-    is_encoded(alloc, &key_of(alloc, digits)?, LEAST, value)
+    match key_of(alloc, digits) {
+        Ok(bytes) => is_encoded(alloc, &bytes, LEAST, value),
+        Err(error) => {
+            drop(value);
+            Err(error)
+        }
+    }
 }
 
-// Whether a key at the greatest position is encoded so.
-fn is_greatest(alloc: Global, digits: &str, value: Option<Value>) -> Result<bool, AllocError> {
-    is_greatest_and(alloc, digits, &[], value)
-}
-
-// Whether it is encoded so, with these bytes behind the digits.
+// Whether a key at the greatest position is encoded so, with these bytes behind the digits.
 fn is_greatest_and(
     alloc: Global,
     digits: &str,
     behind: &[u8],
     value: Option<Value>,
 ) -> Result<bool, AllocError> {
-    let mut bytes = Vec::from_slice(alloc, &[0xff; 20])?;
-    put_hex(&mut bytes, digits)?;
-    bytes.extend_from_slice(behind)?;
-    is_encoded(alloc, &bytes, GREATEST, value)
+    match greatest_key_of(alloc, digits, behind) {
+        Ok(bytes) => is_encoded(alloc, &bytes, GREATEST, value),
+        Err(error) => {
+            drop(value);
+            Err(error)
+        }
+    }
 }
 
 // The bytes, with one more after them.
@@ -293,12 +308,20 @@ fn least_fault(alloc: Global, digits: &str) -> Result<Option<KeyFault>, AllocErr
     Ok(fault_in(alloc, &key_of(alloc, digits)?))
 }
 
+// The first row whose fault is another.
+fn first_other_fault(alloc: Global) -> Result<Option<usize>, AllocError> {
+    for row in 0..FAULTS.len() {
+        let (digits, fault) = FAULTS[row];
+        if least_fault(alloc, digits)? != Some(fault) {
+            return Ok(Some(row));
+        }
+    }
+    Ok(None)
+}
+
 #[test]
 fn each_fault_at_each_field(rt: HostRuntime) -> Result<(), Fail> {
-    let alloc = rt.alloc();
-    for (digits, fault) in FAULTS.iter() {
-        assert!(rt; least_fault(alloc, digits)? == Some(*fault), "{digits}");
-    }
+    assert!(rt; first_other_fault(rt.alloc())? == None);
     Ok(())
 }
 
@@ -330,104 +353,111 @@ fn is_whole(alloc: Global, bytes: &[u8]) -> bool {
     }
 }
 
+// The first row that isn't so.
+fn first_not_whole(alloc: Global) -> Result<Option<usize>, AllocError> {
+    for row in 0..KINDS.len() {
+        if !is_whole(alloc, &key_of(alloc, KINDS[row])?) {
+            return Ok(Some(row));
+        }
+    }
+    Ok(None)
+}
+
 #[test]
 fn each_kind_cut(rt: HostRuntime) -> Result<(), Fail> {
-    let alloc = rt.alloc();
-    for digits in KINDS.iter() {
-        assert!(rt; is_whole(alloc, &key_of(alloc, digits)?), "{digits}");
-    }
+    assert!(rt; first_not_whole(rt.alloc())? == None);
     Ok(())
+}
+
+// The kinds and the fields of keys with the least number in each field.
+static LEAST_NUMBERS: [&str; 9] = [
+    "00",
+    "01 01 01000000 0000000000000000",
+    "04 01000000",
+    "05",
+    "07 00000000 00000000 00000000 01",
+    "08 00000000 00",
+    "09 0000000000000000 0000000000000000 00000000",
+    "0a",
+    "0b 0000000000000000",
+];
+
+// The value of the key in a row of them.
+fn least_number(row: usize) -> Option<Value> {
+    match row {
+        0 => None,
+        1 => inode_of(FileKind::File, 1, 0),
+        2 => Some(Value::Hole { blocks: 1 }),
+        3 => Some(Value::White),
+        4 => snap_of(0, SnapState::LiveLeaf),
+        5 => live_of(0, 0),
+        6 => Some(Value::Back { extent: LEAST }),
+        7 => Some(Value::Gone),
+        _ => Some(Value::Counter { next: 0 }),
+    }
+}
+
+// The first row that isn't encoded so.
+fn first_other_least(alloc: Global) -> Result<Option<usize>, AllocError> {
+    for row in 0..LEAST_NUMBERS.len() {
+        if !is_least(alloc, LEAST_NUMBERS[row], least_number(row))? {
+            return Ok(Some(row));
+        }
+    }
+    Ok(None)
 }
 
 #[test]
 fn least_numbers(rt: HostRuntime) -> Result<(), Fail> {
-    let alloc = rt.alloc();
-    assert!(rt; is_least(alloc, "00", None)?);
-    assert!(rt;
-        is_least(
-            alloc,
-            "01 01 01000000 0000000000000000",
-            inode_of(FileKind::File, 1, 0)
-        )?
-    );
-    assert!(rt; is_least(alloc, "04 01000000", Some(Value::Hole { blocks: 1 }))?);
-    assert!(rt; is_least(alloc, "05", Some(Value::White))?);
-    assert!(rt;
-        is_least(
-            alloc,
-            "07 00000000 00000000 00000000 01",
-            snap_of(0, SnapState::LiveLeaf)
-        )?
-    );
-    assert!(rt; is_least(alloc, "08 00000000 00", live_of(0, 0))?);
-    assert!(rt;
-        is_least(
-            alloc,
-            "09 0000000000000000 0000000000000000 00000000",
-            Some(Value::Back { extent: LEAST })
-        )?
-    );
-    assert!(rt; is_least(alloc, "0a", Some(Value::Gone))?);
-    assert!(rt;
-        is_least(
-            alloc,
-            "0b 0000000000000000",
-            Some(Value::Counter { next: 0 })
-        )?
-    );
+    assert!(rt; first_other_least(rt.alloc())? == None);
     Ok(())
+}
+
+// The kinds and the fields of keys with the greatest number in each field.
+static GREATEST_NUMBERS: [&str; 11] = [
+    "00",
+    "01 01 ff000000 0000000100000000",
+    "01 02 01000000 0000000000000000",
+    "04 00100000",
+    "05",
+    "07 ffffffff ffffffff ffffffff 02",
+    "07 ffffffff ffffffff ffffffff 03",
+    "08 ffffffff 10",
+    "09 ffffffffffffffff ffffffffffffffff ffffffff",
+    "0a",
+    "0b ffffffffffffffff",
+];
+
+// The value of the key in a row of them.
+fn greatest_number(row: usize) -> Option<Value> {
+    match row {
+        0 => None,
+        1 => inode_of(FileKind::File, 255, 16_777_216),
+        2 => inode_of(FileKind::Directory, 1, 0),
+        3 => Some(Value::Hole { blocks: 4096 }),
+        4 => Some(Value::White),
+        5 => snap_of(u32::MAX, SnapState::Interior),
+        6 => snap_of(u32::MAX, SnapState::DeadLeaf),
+        7 => live_of(u32::MAX, 16),
+        8 => Some(Value::Back { extent: GREATEST }),
+        9 => Some(Value::Gone),
+        _ => Some(Value::Counter { next: u64::MAX }),
+    }
+}
+
+// The first row that isn't encoded so.
+fn first_other_greatest(alloc: Global) -> Result<Option<usize>, AllocError> {
+    for row in 0..GREATEST_NUMBERS.len() {
+        if !is_greatest_and(alloc, GREATEST_NUMBERS[row], &[], greatest_number(row))? {
+            return Ok(Some(row));
+        }
+    }
+    Ok(None)
 }
 
 #[test]
 fn greatest_numbers(rt: HostRuntime) -> Result<(), Fail> {
-    let alloc = rt.alloc();
-    assert!(rt; is_greatest(alloc, "00", None)?);
-    assert!(rt;
-        is_greatest(
-            alloc,
-            "01 01 ff000000 0000000100000000",
-            inode_of(FileKind::File, 255, 16_777_216)
-        )?
-    );
-    assert!(rt;
-        is_greatest(
-            alloc,
-            "01 02 01000000 0000000000000000",
-            inode_of(FileKind::Directory, 1, 0)
-        )?
-    );
-    assert!(rt; is_greatest(alloc, "04 00100000", Some(Value::Hole { blocks: 4096 }))?);
-    assert!(rt; is_greatest(alloc, "05", Some(Value::White))?);
-    assert!(rt;
-        is_greatest(
-            alloc,
-            "07 ffffffff ffffffff ffffffff 02",
-            snap_of(u32::MAX, SnapState::Interior)
-        )?
-    );
-    assert!(rt;
-        is_greatest(
-            alloc,
-            "07 ffffffff ffffffff ffffffff 03",
-            snap_of(u32::MAX, SnapState::DeadLeaf)
-        )?
-    );
-    assert!(rt; is_greatest(alloc, "08 ffffffff 10", live_of(u32::MAX, 16))?);
-    assert!(rt;
-        is_greatest(
-            alloc,
-            "09 ffffffffffffffff ffffffffffffffff ffffffff",
-            Some(Value::Back { extent: GREATEST })
-        )?
-    );
-    assert!(rt; is_greatest(alloc, "0a", Some(Value::Gone))?);
-    assert!(rt;
-        is_greatest(
-            alloc,
-            "0b ffffffffffffffff",
-            Some(Value::Counter { next: u64::MAX })
-        )?
-    );
+    assert!(rt; first_other_greatest(rt.alloc())? == None);
     Ok(())
 }
 
@@ -510,7 +540,7 @@ fn least_and_greatest_nodes(rt: HostRuntime) -> Result<(), Fail> {
     };
     let greatest = node_of(alloc, u64::MAX, 7, &[last, last, last])?;
     let digits = "0c ffffffffffffffff 07 03 07 f0ffffff 07 f0ffffff 07 f0ffffff";
-    assert!(rt; is_greatest(alloc, digits, greatest)?);
+    assert!(rt; is_greatest_and(alloc, digits, &[], greatest)?);
     Ok(())
 }
 

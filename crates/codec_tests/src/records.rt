@@ -1,9 +1,12 @@
 //! Each place of three payloads with other bytes in it, and the kinds at each level of each btree. What is expected comes from a
 //! second reader, written in Python by the table of the format.
 
+ghost use Rattle.record_codec.specs.Entries.{IsEntryInRange};
+ghost use Rattle.record_codec.specs.Sets.{IsSetInRange};
+
 use crate::digits::bytes_of;
 use key_codec::KeyFault;
-use record_codec::{RecordFault, get_entry, get_set, put_entry, put_set};
+use record_codec::{EntryRecord, RecordFault, SetRecord, get_entry, get_set, put_entry, put_set};
 use std::alloc::{AllocError, Global};
 use std::test::Fail;
 
@@ -59,17 +62,34 @@ fn letter_of(fault: RecordFault) -> u8 {
     }
 }
 
+// A dot where a record was written as it was read.
+fn letter_of_written(written: &[u8], payload: &[u8]) -> u8 {
+    if written == payload { b'.' } else { b'!' }
+}
+
+fn letter_of_set(alloc: Global, set: &SetRecord, payload: &[u8]) -> Result<u8, AllocError>
+    requires { IsSetInRange set.now }
+{
+    let again = put_set(alloc, set)?;
+    Ok(letter_of_written(again.as_slice(), payload))
+}
+
 fn set_letter(alloc: Global, payload: &[u8]) -> Result<u8, AllocError> {
     match get_set(alloc, payload) {
         Err(fault) => Ok(letter_of(fault)),
         Ok(set) => {
-            let again = put_set(alloc, &set)?;
-            if again.as_slice() == payload {
-                return Ok(b'.');
-            }
-            Ok(b'!')
+            let letter = letter_of_set(alloc, &set, payload);
+            drop(set);
+            letter
         }
     }
+}
+
+fn letter_of_entry(alloc: Global, entry: &EntryRecord, payload: &[u8]) -> Result<u8, AllocError>
+    requires { IsEntryInRange entry.now }
+{
+    let again = put_entry(alloc, entry)?;
+    Ok(letter_of_written(again.as_slice(), payload))
 }
 
 /// What reading an entry gives, as a letter.
@@ -77,11 +97,9 @@ pub fn entry_letter(alloc: Global, payload: &[u8]) -> Result<u8, AllocError> {
     match get_entry(alloc, payload) {
         Err(fault) => Ok(letter_of(fault)),
         Ok(entry) => {
-            let again = put_entry(alloc, &entry)?;
-            if again.as_slice() == payload {
-                return Ok(b'.');
-            }
-            Ok(b'!')
+            let letter = letter_of_entry(alloc, &entry, payload);
+            drop(entry);
+            letter
         }
     }
 }

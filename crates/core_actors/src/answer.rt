@@ -3,14 +3,7 @@ use journal_ring::RingFull;
 use journal_writer::Stage;
 use snap_tree::SnapTree;
 use std::sync::Arc;
-use vol_types::{Keys, Short};
-
-/// Where a session stopped writing: the device of which a write or a flush failed, and the moment after that.
-#[derive(Clone, Copy, PartialEq, Eq)]
-pub struct Halt {
-    pub dev: u8,
-    pub tick: u64,
-}
+use vol_types::{Halt, Keys, Short};
 
 /// A metadata device has too few free buckets for the nodes that will have to be written.
 #[derive(PartialEq, Eq, Drop)]

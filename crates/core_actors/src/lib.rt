@@ -12,7 +12,7 @@ mod keys;
 mod nodes;
 
 pub use actor::{Actor, Failure};
-pub use answer::{Answer, Halt, NoSpace, Refusal};
+pub use answer::{Answer, NoSpace, Refusal};
 pub use answering::find_keys;
 pub use event::{Event, Work};
 pub use keys::VolumeKeys;

@@ -13,13 +13,16 @@ use Rattle.vol_types.specs.declared.queries.Query.{Query}
 use Rattle.vol_types.specs.declared.queries.Look.{Look}
 use Rattle.core_actors.specs.Actors.{begun, dropped, ended, holds, idle_actor, told_of, with_fault, with_intent, with_look}
 use Rattle.core_volume.specs.Commits.{AreIntended}
-use Rattle.core_state.specs.Events.{noted_fault}
+use Rattle.core_actors.specs.declared.answer.Answer.{Answer}
+use Rattle.core_state.specs.Events.{IsTold, SealGives, noted_fault}
 use Rattle.core_volume.specs.declared.commit.VolumeFault.{VolumeFault}
 use Rattle.core_volume.specs.declared.commit.VolumeFault.TheVariants.{NoMemory, Refused}
 use Rattle.journal_writer.specs.declared.stage.Stage.{Stage}
+use Rattle.journal_writer.specs.declared.stage.Stage.TheVariants.{Seal}
+use Rattle.core_volume.specs.Sealing.{IsOtherStage}
 use Rattle.core_state.specs.States.{IsActor, IsState, State, actor_count, mine, other_holder}
 use Rattle.core_volume.specs.Volumes.{IsVolume, Volume, first_halt, halted_at}
-use Rattle.core_actors.specs.declared.answer.Halt.{Halt}
+use Rattle.vol_types.specs.declared.failure.Halt.{Halt}
 use Rattle.core_volume.proofs.Written.{halted-kept}
 use Rattle.core_actors.specs.declared.actor.Actor.{Actor}
 
@@ -197,3 +200,7 @@ journal-kept old is volume sound trees layout = record {
 pub stopped-kept : (old : State) → IsState old → (halt : Halt) (volume : Volume) → volume ≡ halted_at halt old.volume → IsState (record { volume = volume; actors = old.actors; turn = old.turn })
 stopped-kept old is halt volume same =
     journal-kept old is volume (subst IsVolume (sym same) (halted-kept old.volume is.volume (first_halt halt old.volume.halted))) (ap (λ (v : Volume). v.trees) same) (ap (λ (v : Volume). v.layout) same)
+
+-- What an actor is told where no entry is to be sealed.
+pub seal-told : (old new : State) (actor : ℕ) (answer : Answer) → IsOtherStage Seal old.volume → IsTold old actor answer new → SealGives old actor answer new
+seal-told old new actor answer other told = subst (λ (a : Answer). SealGives old actor a new) (sym told.0) (other, (refl, told.1))

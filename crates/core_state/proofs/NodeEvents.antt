@@ -1,5 +1,5 @@
 -- What is kept of a volume and its actors stays so where nodes are written anew.
-use Rattle.std.proofs.Common.{◌≡◌, ℕ, Bool, true, false, cond, Option, Some, None, length, take, refl, sym, ap, ◌∙◌, subst, arith}
+use Rattle.std.proofs.Common.{◌≡◌, ℕ, Bool, true, false, cond, Option, Some, None, length, take, refl, sym, ap, ◌∙◌, subst}
 use Rattle.std.specs.Prelude.{◌≢◌, ◌==◌, Contains, IfSome, IsSome}
 use Rattle.std.proofs.lemmas.Bool.{true≢false}
 use Rattle.btree_map.specs.Trees.{keys_in}

@@ -1,5 +1,5 @@
 -- What is kept of the actors of a volume that was loaded.
-use Rattle.std.proofs.Common.{◌≡◌, ℕ, ◌-◌, ◌<◌, ◌≤◌, None, List, length, refl, sym, ap, ◌∙◌, subst, true, ⊎_elim}
+use Rattle.std.proofs.Common.{◌≡◌, ℕ, ◌<◌, ◌≤◌, None, List, length, sym, ap, ◌∙◌, subst, ⊎_elim}
 use Rattle.std.proofs.Math.ListN.{get_or-eq_default}
 use Rattle.std.proofs.lemmas.Bool.{cases_lt, true≢false}
 use Rattle.std.proofs.lemmas.List.{get_or-replicate, length-replicate}

@@ -6,7 +6,7 @@ use Rattle.core_actors.specs.Actors.{holds, idle_actor}
 use Rattle.core_volume.specs.Commits.{AreIntended}
 use Rattle.core_volume.specs.Volumes.{IsVolume, Volume, halted_at}
 use Rattle.core_actors.specs.declared.actor.Actor.{Actor}
-use Rattle.core_actors.specs.declared.answer.Halt.{Halt}
+use Rattle.vol_types.specs.declared.failure.Halt.{Halt}
 
 -- how many actors there are: 16 clients and the reclaimer
 abbrev pub actor_count : ℕ

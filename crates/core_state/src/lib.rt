@@ -11,6 +11,6 @@ mod device_events;
 mod memory;
 mod opening;
 
-pub use core_actors::{Actor, Answer, Event, Failure, Halt, NoSpace, Refusal, Work, node_places};
+pub use core_actors::{Actor, Answer, Event, Failure, NoSpace, Refusal, Work, node_places};
 pub use journal_writer::{Durable, Stage};
 pub use memory::Memory;

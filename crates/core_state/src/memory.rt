@@ -7,12 +7,12 @@ ghost use Rattle.core_state.specs.Events.{answer_of_fault, noted_fault};
 ghost use Rattle.core_actors.specs.declared.event.Event.TheVariants.{Begin, Commit, CommitNodes, Drop, Finish, Freeze, Intend, Look, LookIds, Seal, Settle};
 ghost use Rattle.core_actors.specs.declared.answer.Answer.TheVariants as Answer;
 
-use core_actors::{Actor, Answer, Event, Halt, Refusal, Work};
+use core_actors::{Actor, Answer, Event, Refusal, Work};
 use core_volume::{Uncommitted, Volume, VolumeFault};
 use journal_writer::Stage;
 use std::alloc::Global;
 use std::marker::Model;
-use vol_types::{Query, Updates};
+use vol_types::{Halt, Query, Updates};
 
 /// How many actors there are.
 pub(crate) const ACTORS: usize = 17;
@@ -95,6 +95,13 @@ impl Memory {
             | Event::WriteSet(_)
             | Event::CommitNodes => true,
         }
+    }
+
+    /// How the session has stopped writing, if it has.
+    pub fn halted(&self) -> Option<Halt>
+        ensures { result ≡ self.now.volume.halted }
+    {
+        self.volume.halted()
     }
 
     /// Says that the session stops writing, since a write or a flush failed. What it was told first stays.

@@ -6,7 +6,7 @@ ghost use Rattle.replay.specs.Volumes.{found_in};
 
 use crate::failing::{Failing, NEVER, loaded_from};
 use crate::volumes::{
-    Names, count_numbered, ended, formatted_by, is_made, is_synced, list, make_file,
+    Names, count_numbered, ended, formatted_by, is_made, is_made_by, is_synced, list, make_file,
 };
 use dev_model::{Devices, MemDevices};
 use forest_ops::{Op, Reply};
@@ -23,6 +23,8 @@ use volume::VolState;
 pub enum Deed {
     /// So many files are made, from number 0 on.
     Make(Names, u64),
+    /// This client, below 16, makes two files, of this number and the next.
+    MakeBy(u8, u64),
     /// So many files are made, each with a sync.
     MakeEach(Names, u64),
     /// A sync acknowledges so many commits.
@@ -84,6 +86,20 @@ fn are_synced<D: Devices, O: Opening>(
         }
     }
     true
+}
+
+// Whether a client makes two files, of this number and the next.
+fn are_made_by<D: Devices, O: Opening>(
+    alloc: Global,
+    volume: &mut VolState<D, O>,
+    client: u8,
+    first: u64,
+) -> bool {
+    if client >= 16 {
+        return false;
+    }
+    is_made_by(alloc, volume, client, Names::Short, first)
+        && is_made_by(alloc, volume, client, Names::Short, first.saturating_add(1))
 }
 
 // Whether it lists so many names.
@@ -191,7 +207,7 @@ fn make_one<D: Devices, O: Opening>(
 
 // Syncs: whether the reply is one that it may be.
 fn sync_one<D: Devices, O: Opening>(volume: &mut VolState<D, O>, played: &mut Played) -> bool {
-    match volume.call(Op::Sync) {
+    match volume.call(0, Op::Sync) {
         Ok(reply) => {
             let is_right = note_sync(&reply, played);
             drop(reply);
@@ -229,6 +245,7 @@ fn is_done<D: Devices, O: Opening>(
 ) -> bool {
     match deed {
         Deed::Make(names, count) => are_made(alloc, volume, names, count),
+        Deed::MakeBy(client, first) => are_made_by(alloc, volume, client, first),
         Deed::MakeEach(names, count) => are_synced(alloc, volume, names, count),
         Deed::Sync(commits) => is_synced(volume, commits),
         Deed::Count(count) => count_numbered(alloc, volume) == Some(count),

@@ -1,7 +1,7 @@
 //! Open volumes on devices in memory. What memory keeps of one, alone: random events beside a plain table, and each cause that refuses
 //! a commit. A core: what its events are answered beside a plain model, how many device calls its syncs and checkpoints make, what is
-//! written where, rounds of the journal's ring, and what is left where device calls fail. A volume: the entry of sixty files, a root at
-//! its limit, rounds of the ring, and what is left where calls fail. Each of the two goes to another thread. The crate holds tests alone.
+//! written where, rounds of the journal's ring, and what is left where device calls fail. A volume: the entry of sixty files, the
+//! numbers of two clients' files, a root at its limit, rounds of the ring, and what is left where calls fail. Each of the two goes to another thread. The crate holds tests alone.
 #![tactic(auto)]
 
 #[cfg(test)]
@@ -36,6 +36,8 @@ mod memory;
 mod model;
 #[cfg(test)]
 mod moves;
+#[cfg(test)]
+mod numbers;
 #[cfg(test)]
 mod remains;
 #[cfg(test)]

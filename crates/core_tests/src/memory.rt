@@ -8,14 +8,14 @@ ghost use Rattle.tree_nodes.specs.Levels.{IsNodeOf};
 
 use crate::draws::following;
 use btree_map::KeyMap;
-use core_state::{Answer, Event, Failure, Halt, Memory, NoSpace, Refusal, Stage, Work};
+use core_state::{Answer, Event, Failure, Memory, NoSpace, Refusal, Stage, Work};
 use journal_ring::FoundEntry;
 use record_codec::EntryRecord;
 use std::alloc::{AllocError, Global};
 use std::test::Fail;
 use vol_types::{
-    Blocks, Btree, Keys, Layout, Live, NodePtr, Place, Places, Pos, Query, Roots, Update, Updates,
-    Value,
+    Blocks, Btree, Halt, Keys, Layout, Live, NodePtr, Place, Places, Pos, Query, Roots, Update,
+    Updates, Value,
 };
 
 fn pointer(alloc: Global, birth: u64) -> Result<NodePtr, AllocError>

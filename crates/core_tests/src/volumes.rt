@@ -1,6 +1,6 @@
 //! A formatted volume on devices of 1,024 blocks in memory, with a journal area of 256 on each metadata device, and operations on it.
 
-ghost use Rattle.std.specs.Prelude.{◌≡◌, true};
+ghost use Rattle.std.specs.Prelude.{◌≡◌, ◌<◌, true};
 
 use dev_model::{Devices, MemDevices};
 use forest_ops::{Op, Reply};
@@ -152,15 +152,44 @@ fn path_of(alloc: Global, names: Names, number: u64) -> Result<Path, AllocError>
     path_to(alloc, list_of(alloc, name_of(alloc, names, number)?)?)
 }
 
-/// Makes the file of this number in the root of `main`: the reply.
+/// Makes the file of this number in the root of `main`, for a client: the reply.
+pub fn make_file_by<D: Devices, O: Opening>(
+    alloc: Global,
+    volume: &mut VolState<D, O>,
+    client: u8,
+    names: Names,
+    number: u64,
+) -> Result<Reply, AllocError>
+    requires { client < 16 }
+{
+    let path = path_of(alloc, names, number)?;
+    volume.call(client, Op::Mkfile { path })
+}
+
+/// The same for client 0.
 pub fn make_file<D: Devices, O: Opening>(
     alloc: Global,
     volume: &mut VolState<D, O>,
     names: Names,
     number: u64,
 ) -> Result<Reply, AllocError> {
-    let path = path_of(alloc, names, number)?;
-    volume.call(Op::Mkfile { path })
+    make_file_by(alloc, volume, 0, names, number)
+}
+
+/// Whether the file of this number is made for a client.
+pub fn is_made_by<D: Devices, O: Opening>(
+    alloc: Global,
+    volume: &mut VolState<D, O>,
+    client: u8,
+    names: Names,
+    number: u64,
+) -> bool
+    requires { client < 16 }
+{
+    let reply = make_file_by(alloc, volume, client, names, number);
+    let is_made = matches!(&reply, Ok(Reply::Okay));
+    drop(reply);
+    is_made
 }
 
 /// Whether the file of this number is made.
@@ -170,15 +199,12 @@ pub fn is_made<D: Devices, O: Opening>(
     names: Names,
     number: u64,
 ) -> bool {
-    let reply = make_file(alloc, volume, names, number);
-    let is_made = matches!(&reply, Ok(Reply::Okay));
-    drop(reply);
-    is_made
+    is_made_by(alloc, volume, 0, names, number)
 }
 
 /// Whether all commits are made durable, so many in all.
 pub fn is_synced<D: Devices, O: Opening>(volume: &mut VolState<D, O>, commits: u64) -> bool {
-    let reply = volume.call(Op::Sync);
+    let reply = volume.call(0, Op::Sync);
     let is_synced = matches!(&reply, Ok(Reply::Synced(count)) if *count == commits);
     drop(reply);
     is_synced
@@ -190,7 +216,7 @@ pub fn list<D: Devices, O: Opening>(
     volume: &mut VolState<D, O>,
 ) -> Result<Reply, AllocError> {
     let path = path_to(alloc, NameList::new(alloc))?;
-    volume.call(Op::Ls { path })
+    volume.call(0, Op::Ls { path })
 }
 
 // Whether it is the file of this number.

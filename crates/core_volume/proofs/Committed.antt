@@ -1,5 +1,5 @@
 -- What is kept of a volume stays so where a commit is made.
-use Rattle.std.proofs.Common.{◌≡◌, ℕ, ◌+◌, Bool, true, false, cond, List, [], ◌∷◌, ◌++◌, refl, sym, ap, ◌∙◌, subst}
+use Rattle.std.proofs.Common.{◌≡◌, ℕ, ◌+◌, Bool, true, false, cond, List, [], ◌∷◌, ◌++◌, refl, sym, ◌∙◌, subst}
 use Rattle.btree_map.specs.Trees.{Trees, keys_in}
 use Rattle.dirty_nodes.specs.Dirty.{AreMarked, changed_nodes, paths_of, with_pins}
 use Rattle.journal_writer.specs.Changes.{LeadTo, changes_of}
@@ -56,7 +56,7 @@ committed-volume updates counted old new is made marked followed pin turn leads 
     })
 
 -- What a commit makes, part by part.
-pub made-told : (old : Volume) (updates : List Update) (counted : Bool) (trees : Trees) (queue : Queue) (pins marks later : List (ℕ × ℕ)) → keys_in trees ≡ with_updates updates (keys_in old.trees) → trees.nodes ≡ old.trees.nodes
+made-told : (old : Volume) (updates : List Update) (counted : Bool) (trees : Trees) (queue : Queue) (pins marks later : List (ℕ × ℕ)) → keys_in trees ≡ with_updates updates (keys_in old.trees) → trees.nodes ≡ old.trees.nodes
     → queue ≡ joined (changes_of updates (keys_in old.trees)) counted old.queue
     → pins ≡ with_pins (entry_of old updates) (changed_nodes old.trees.nodes updates) old.pins → marks ≡ with_pins (entry_of old updates) (paths_of old.trees.nodes updates) old.marks
     → later ≡ with_pins (entry_of old updates) (changed_nodes old.trees.nodes updates) old.later

@@ -1,6 +1,6 @@
 -- What is kept of a volume stays so where a leaf is frozen, where a block of one is written, and where the work on nodes is given up.
 use Rattle.std.proofs.Common.{◌≡◌, ℕ, zero, suc, ◌+◌, ◌<◌, ◌≤◌, Bool, true, false, cond, not, Option, Some, None, List, [], ◌∷◌, ◌++◌, length, take, refl, sym, ap, ◌∙◌, subst, arith, append-nil}
-use Rattle.std.specs.Prelude.{◌≢◌, ◌==◌, ◌&&◌, All, IfSome, slice_get, slice_index_or}
+use Rattle.std.specs.Prelude.{◌≢◌, ◌==◌, ◌&&◌, All, IfSome, option_map, slice_get, slice_index_or}
 use Rattle.std.specs.List.{filter}
 use Rattle.std.specs.Map.{values_of}
 use Rattle.std.specs.Ordering.{nat_cmp}
@@ -145,6 +145,13 @@ module _ (volume : Volume) where
   -- None are where frozen leaves are to be put in place.
   pub idle-placing : node_stage_of volume ≡ CommitNodes → volume.work.unfinished ≡ None
   idle-placing is = idle_in CommitNodes (λ left same. cc) is
+
+-- The leaf that is to be frozen has the birth that the stage of the nodes names.
+pub due_birth : (volume : Volume) (btree : Btree) (node : ℕ) → due_in volume ≡ Some btree → volume.work.unfinished ≡ None → node_stage_of volume ≡ Freeze node → (root_in volume.trees.nodes btree).birth ≡ node
+due_birth volume btree node due idle is = same ((λ i. node_stage_by (birth_left (sym idle i)) (option_map (λ (b : Btree). (root_in volume.trees.nodes b).birth) (sym due i)) volume) ∙ is)
+  where
+    same : Freeze (root_in volume.trees.nodes btree).birth ≡ Freeze node → (root_in volume.trees.nodes btree).birth ≡ node
+    same equal = cc
 
 -- a leaf that is due is frozen besides others
 abbrev pub MoreFrozen : Type 0

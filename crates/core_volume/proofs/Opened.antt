@@ -1,5 +1,5 @@
 -- What is kept of a volume that was loaded.
-use Rattle.std.proofs.Common.{◌≡◌, ℕ, ◌-◌, None, List, [], refl, sym, ap, ◌∙◌, subst, true}
+use Rattle.std.proofs.Common.{◌≡◌, ℕ, ◌-◌, None, List, [], refl, ap, ◌∙◌, true}
 use Rattle.std.proofs.lemmas.List.Elements.{All-nil}
 use Rattle.std.proofs.lemmas.Option.{none-some as none_some}
 use Rattle.bucket_pool.specs.NodeBuckets.{AreFixed}

@@ -33,7 +33,7 @@ use Rattle.vol_types.specs.declared.pointers.NodePtr.{NodePtr}
 use Rattle.vol_types.specs.declared.positions.Btree.{Btree}
 use Rattle.core_volume.specs.Rulings.{entry_of}
 use Rattle.core_volume.specs.Volumes.{ArePinnedByRoots, IsFrozenKept, IsNotNewer, IsPinnedBy, IsWorkKept, Volume, in_flight, undurable_in}
-use Rattle.core_actors.specs.declared.answer.Halt.{Halt}
+use Rattle.vol_types.specs.declared.failure.Halt.{Halt}
 
 -- the sequence of an entry that updates join, where they change the btree
 abbrev pub joining : Btree → List Update → ℕ → Option ℕ

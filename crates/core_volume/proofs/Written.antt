@@ -26,7 +26,7 @@ use Rattle.vol_types.specs.Standing.{IsUpdate}
 use Rattle.vol_types.specs.declared.layout.Layout.{Layout}
 use Rattle.core_volume.specs.Sealing.{oldest_needed}
 use Rattle.core_volume.specs.Volumes.{IsPinnedBy, IsRingOf, IsVolume, Volume, changes_in, in_flight, last_sealed, undurable_in}
-use Rattle.core_actors.specs.declared.answer.Halt.{Halt}
+use Rattle.vol_types.specs.declared.failure.Halt.{Halt}
 use Rattle.core_volume.proofs.HeldBack.{flown-held, settled-held}
 use Rattle.core_volume.proofs.Pinned.{Grows, first-flown, first-settled, grown-roots, grown-work}
 

@@ -4,7 +4,7 @@ use Rattle.std.specs.List.{range_with_len}
 use Rattle.bucket_pool.specs.Space.{Space, free_count}
 use Rattle.dirty_nodes.specs.Dirty.{changed_nodes, paths_of, with_pins}
 use Rattle.dirty_nodes.specs.Splits.{IsSplitNeed, first_large}
-use Rattle.journal_writer.specs.Queues.{HasNumbers, growth, readied}
+use Rattle.journal_writer.specs.Queues.{HasNumbers, IsSizeOf, growth, readied}
 use Rattle.vol_types.specs.declared.keys.Update.{Update}
 use Rattle.vol_types.specs.declared.space.Short.{Short}
 use Rattle.core_actors.specs.declared.answer.NoSpace.{NoSpace}
@@ -84,8 +84,9 @@ IsRefused volume updates counted (refusals.RingFull full) =
 IsRefused volume updates counted (refusals.NoSpace none) =
     MayJoin volume updates counted × IsShortOfNodes volume.space volume.layout.metadata_replicas (marked_after volume updates) × (none ≡ no_space (is_idle volume) volume)
 
--- The ruling on a commit is right: it is refused for its first cause, or allowed with the nodes that it makes dirty.
+-- The ruling on a commit is right: it is refused for its first cause, or allowed with the nodes that it makes dirty and what its
+-- updates come to in the journal.
 abbrev pub IsRuling : Volume → List Update → Bool → Ruling → Type 0
 IsRuling volume updates counted (Refused refusal) = IsRefused volume updates counted refusal
-IsRuling volume updates counted (Allowed paths) =
-    IsAllowed volume updates counted × (paths.changed.items ≡ changed_nodes volume.trees.nodes updates) × (paths.over.items ≡ paths_of volume.trees.nodes updates)
+IsRuling volume updates counted (Allowed paths size) =
+    IsAllowed volume updates counted × (paths.changed.items ≡ changed_nodes volume.trees.nodes updates) × (paths.over.items ≡ paths_of volume.trees.nodes updates) × IsSizeOf volume.queue updates size

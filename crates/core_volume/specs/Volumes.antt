@@ -26,7 +26,7 @@ use Rattle.vol_types.specs.Maps.{value_at}
 use Rattle.vol_types.specs.declared.layout.Layout.{Layout}
 use Rattle.vol_types.specs.declared.pointers.NodePtr.{NodePtr}
 use Rattle.vol_types.specs.declared.positions.Btree.{Btree}
-use Rattle.core_actors.specs.declared.answer.Halt.{Halt}
+use Rattle.vol_types.specs.declared.failure.Halt.{Halt}
 use Rattle.journal_writer.specs.Writers.{Writer, first_flag, flush_before, stage_of as writer_stage}
 use Rattle.journal_writer.specs.declared.durable.Durable.{Durable}
 use Rattle.journal_writer.specs.declared.stage.Stage.{Stage}

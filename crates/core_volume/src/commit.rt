@@ -1,19 +1,22 @@
-ghost use Rattle.std.specs.Prelude.{◌≡◌, ◌≤◌, All, IfErr, OnErr, OnOk, length};
-ghost use Rattle.dirty_nodes.specs.Dirty.{changed_nodes, paths_of};
+ghost use Rattle.std.specs.Prelude.{◌≡◌, ◌+◌, ◌≤◌, All, IfErr, OnErr, OnOk, length};
+ghost use Rattle.btree_map.specs.Trees.{keys_in};
+ghost use Rattle.dirty_nodes.specs.Dirty.{changed_nodes, paths_of, with_pins};
 ghost use Rattle.core_volume.specs.Commits.{AreIntended, IsCommitted};
 ghost use Rattle.core_volume.specs.Rulings.{IsAllowed};
 ghost use Rattle.core_volume.specs.Volumes.{IsVolume};
 ghost use Rattle.core_volume.specs.Uncommitted.{IsCommitFault};
 ghost use Rattle.core_volume.specs.declared.commit.VolumeFault.TheVariants.{NoMemory};
-ghost use Rattle.journal_writer.specs.Queues.{HasRoom, blocks_with};
+ghost use Rattle.journal_writer.specs.Changes.{changes_of};
+ghost use Rattle.journal_writer.specs.Queues.{HasNumbers, HasRoom, IsSizeOf, blocks_with, joined, readied};
+ghost use Rattle.vol_types.specs.KeyMaps.{with_updates};
 ghost use Rattle.vol_types.specs.Standing.{IsUpdate};
 
 use crate::ruling::{Ruling, entry_of, rule};
 use crate::volume::{Volume, see_widths};
-use core_actors::Refusal;
+use core_actors::{Refusal, VolumeKeys};
 use dirty_nodes::{DirtyNodes, Paths, changed_pins_are_known, dirty_nodes_are_marked};
 use journal_writer::{
-    EntryQueue, KeyChanges, commits_are_undone, commits_leave_queues,
+    EntryQueue, EntrySize, KeyChanges, commits_are_undone, commits_leave_queues,
     waiting_changes_lead_from_durable_keys,
 };
 use std::alloc::{AllocError, Global};
@@ -58,7 +61,7 @@ impl Volume {
                 updates,
                 why: VolumeFault::Refused(refusal),
             }),
-            Ok(Ruling::Allowed(paths)) => self.make(alloc, updates, counted, &paths),
+            Ok(Ruling::Allowed(paths, size)) => self.make(alloc, updates, size, counted, &paths),
         }
     }
 
@@ -67,10 +70,12 @@ impl Volume {
         &mut self,
         alloc: Global,
         updates: Updates,
+        size: EntrySize,
         counted: bool,
         paths: &Paths,
     ) -> Result<(), Uncommitted>
         requires intended { AreIntended self.old.layout.metadata_replicas updates }
+        requires size { IsSizeOf self.old.queue updates size }
         requires allowed { IsAllowed self.old updates counted }
         requires changed { paths.now.changed.items ≡ changed_nodes self.old.trees.nodes updates }
         requires over { paths.now.over.items ≡ paths_of self.old.trees.nodes updates }
@@ -86,23 +91,75 @@ impl Volume {
         let _ = self.queue.commits();
         let _ = self.keys.map().node_of(0);
         let _ = self.keys.map().height(Btree::Extents);
-        commits_are_undone();
         commits_leave_queues();
         waiting_changes_lead_from_durable_keys();
         dirty_nodes_are_marked();
         changed_pins_are_known();
-        let seq = entry_of(&self.queue, updates.as_slice(), counted);
-        if reserve(&mut self.queue, &mut self.dirty, updates.as_slice(), paths).is_err() {
-            return Err(unmade(updates));
-        }
-        match self.keys.apply(alloc, &updates) {
-            Err(_) => Err(unmade(updates)),
-            Ok(before) => {
-                self.queue.join(KeyChanges { updates, before }, counted);
-                self.dirty.dirty(paths, seq);
+        match join(
+            alloc,
+            updates,
+            size,
+            counted,
+            paths,
+            &mut self.keys,
+            &mut self.queue,
+            &mut self.dirty,
+        ) {
+            Err(uncommitted) => Err(uncommitted),
+            Ok(()) => {
                 self.changes += 1;
                 Ok(())
             }
+        }
+    }
+}
+
+// Makes updates in the keys, and has them join the entries that wait; the nodes that they change become dirty.
+fn join(
+    alloc: Global,
+    updates: Updates,
+    size: EntrySize,
+    counted: bool,
+    paths: &Paths,
+    keys: &mut VolumeKeys,
+    queue: &mut EntryQueue,
+    dirty: &mut DirtyNodes,
+) -> Result<(), Uncommitted>
+    requires updates { All IsUpdate updates }
+    requires few { blocks_with queue.old.queue.mirrors updates ≤ 64 }
+    requires size { IsSizeOf queue.old.queue updates size }
+    requires numbers { HasNumbers updates counted queue.old.queue }
+    ensures keys { OnOk result (keys_in keys.new ≡ with_updates updates (keys_in keys.old)) }
+    ensures nodes { OnOk result (keys.new.nodes ≡ keys.old.nodes) }
+    ensures queue { OnOk result (queue.new.queue ≡ joined (changes_of updates (keys_in keys.old)) counted
+        queue.old.queue) }
+    ensures pins { OnOk result (dirty.new.pins.numbers ≡ with_pins ((readied updates
+        queue.old.queue).open_entry.after + 1) paths.now.changed.items dirty.old.pins.numbers) }
+    ensures marks { OnOk result (dirty.new.marks.numbers ≡ with_pins ((readied updates
+        queue.old.queue).open_entry.after + 1) paths.now.over.items dirty.old.marks.numbers) }
+    ensures later { OnOk result (dirty.new.later.numbers ≡ with_pins ((readied updates
+        queue.old.queue).open_entry.after + 1) paths.now.changed.items dirty.old.later.numbers) }
+    ensures keys_kept { OnErr result (keys.new ≡ keys.old) }
+    ensures queue_kept { OnErr result (queue.new.queue ≡ queue.old.queue) }
+    ensures pins_kept { OnErr result (dirty.new.pins.numbers ≡ dirty.old.pins.numbers) }
+    ensures marks_kept { OnErr result (dirty.new.marks.numbers ≡ dirty.old.marks.numbers) }
+    ensures later_kept { OnErr result (dirty.new.later.numbers ≡ dirty.old.later.numbers) }
+    ensures kept { IfErr result (λ un. un.updates ≡ updates) }
+    ensures why { IfErr result (λ un. un.why ≡ NoMemory) }
+{
+    // What stood before is in range.
+    let _ = keys.map().height(Btree::Extents);
+    commits_are_undone();
+    let seq = entry_of(queue, updates.as_slice(), size, counted);
+    if reserve(queue, dirty, updates.as_slice(), size, paths).is_err() {
+        return Err(unmade(updates));
+    }
+    match keys.apply(alloc, &updates) {
+        Err(_) => Err(unmade(updates)),
+        Ok(before) => {
+            queue.join(KeyChanges { updates, before }, size, counted);
+            dirty.dirty(paths, seq);
+            Ok(())
         }
     }
 }
@@ -123,10 +180,10 @@ fn reserve(
     queue: &mut EntryQueue,
     dirty: &mut DirtyNodes,
     updates: &[Update],
+    size: EntrySize,
     paths: &Paths,
 ) -> Result<(), AllocError>
-    requires updates { All IsUpdate updates.now }
-    requires few { blocks_with queue.old.queue.mirrors updates.now ≤ 64 }
+    requires { IsSizeOf queue.old.queue updates.now size }
     ensures queue { queue.new.queue ≡ queue.old.queue }
     ensures pins { dirty.new.pins.numbers ≡ dirty.old.pins.numbers }
     ensures marks { dirty.new.marks.numbers ≡ dirty.old.marks.numbers }
@@ -136,6 +193,6 @@ fn reserve(
     ensures mark_room { OnOk result (length paths.now.over.items ≤ dirty.new.marks.spare) }
     ensures later_room { OnOk result (length paths.now.changed.items ≤ dirty.new.later.spare) }
 {
-    queue.reserve(updates)?;
+    queue.reserve(updates, size)?;
     dirty.reserve(paths)
 }

@@ -194,11 +194,38 @@ fn dirty_nodes(
     // No node is marked where none is dirty.
     dirty_nodes_are_marked();
     let mut dirty = DirtyNodes::new(alloc)?;
-    for found in needed {
-        make_dirty(alloc, map, &mut dirty, found.entry.updates.as_slice(), seq)?;
+    match make_all_dirty(alloc, map, &mut dirty, needed, seq) {
+        Ok(()) => {
+            dirty.forget_later();
+            Ok(dirty)
+        }
+        Err(error) => {
+            drop(dirty);
+            Err(error)
+        }
     }
-    dirty.forget_later();
-    Ok(dirty)
+}
+
+// Makes the nodes dirty that the updates of entries change.
+fn make_all_dirty(
+    alloc: Global,
+    map: &KeyMap,
+    dirty: &mut DirtyNodes,
+    needed: &[FoundEntry],
+    seq: u64,
+) -> Result<(), AllocError>
+    requires marked { AreMarked map.now.nodes dirty.old.pins.numbers dirty.old.marks.numbers }
+    ensures marked { OnOk result (AreMarked map.now.nodes dirty.new.pins.numbers
+        dirty.new.marks.numbers) }
+    ensures pins { OnOk result (dirty.new.pins.numbers ≡ with_pins seq
+        (changed_nodes map.now.nodes (updates_in needed.now)) dirty.old.pins.numbers) }
+    ensures marks { OnOk result (dirty.new.marks.numbers ≡ with_pins seq
+        (paths_of map.now.nodes (updates_in needed.now)) dirty.old.marks.numbers) }
+{
+    for found in needed {
+        make_dirty(alloc, map, dirty, found.entry.updates.as_slice(), seq)?;
+    }
+    Ok(())
 }
 
 // Makes the nodes dirty that updates change.

@@ -12,7 +12,7 @@ ghost use Rattle.vol_types.specs.Standing.{IsUpdate};
 ghost use Rattle.vol_types.specs.Widths.{PosFits};
 
 use bucket_pool::Pool;
-use core_actors::{Halt, VolumeKeys, find_keys};
+use core_actors::{VolumeKeys, find_keys};
 use dirty_nodes::DirtyNodes;
 use journal_writer::{Durable, EntryQueue, EntryWriter, Pending, Stage};
 use node_writeback::NodeWriter;
@@ -20,7 +20,7 @@ use snap_tree::SnapTree;
 use std::alloc::{AllocError, Global};
 use std::marker::Model;
 use std::sync::Arc;
-use vol_types::{Btree, Keys, Layout, Query, Update, layouts_are_tested, wide};
+use vol_types::{Btree, Halt, Keys, Layout, Query, Update, layouts_are_tested, wide};
 
 /// What is kept of a volume in memory, but for what actors have under way.
 #[derive(Drop)]

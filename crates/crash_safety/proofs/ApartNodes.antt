@@ -4,11 +4,11 @@ use Rattle.std.proofs.lemmas.Bool.{ltb-true}
 use Rattle.std.proofs.lemmas.List.Elements.{All-append, All-cons, All-contains, All-head, All-nil, All-tail, All-weaker, Contains-append_left, Contains-append_right, Contains-get_or}
 use Rattle.std.specs.List.{flat_map}
 use Rattle.std.specs.Prelude.{All, Contains, nat_lt}
-use Rattle.bucket_pool.specs.NodeBuckets.{AreApart, AreFixed, MayHoldNode}
+use Rattle.bucket_pool.specs.NodeBuckets.{AreInOtherBuckets, AreFixed, MayHoldNode}
 use Rattle.bucket_pool.specs.NodeLaws.{emptied_apart, emptied_fixed}
 use Rattle.bucket_pool.specs.Space.{Space, emptied, emptied_all}
 use Rattle.key_meaning.specs.Checks.{IsNodePlaced}
-use Rattle.crash_safety.specs.Leaves.{AreApart as AreInOwnBuckets, AreNodesApart, IsFirstBlock}
+use Rattle.crash_safety.specs.Leaves.{AreInOwnBuckets, AreNodesApart, IsFirstBlock}
 use Rattle.vol_types.specs.Limits.{bucket_blocks}
 use Rattle.vol_types.specs.declared.layout.Layout.{Layout}
 use Rattle.vol_types.specs.declared.pointers.NodePtr.{NodePtr}
@@ -36,7 +36,7 @@ all_of_each P g (x ∷ xs) all = All-append P (g x) (flat_map g xs) (All-head (�
 
 -- ---- places and nodes
 
-pub apart_back : (one other : Place) → AreApart one other → AreApart other one
+pub apart_back : (one other : Place) → AreInOtherBuckets one other → AreInOtherBuckets other one
 apart_back one other = ⊎_elim (λ devices. inl (λ same. devices (sym same))) (λ blocks. inr (λ same. blocks (sym same)))
 
 pub lie_back : (one other : NodePtr) → LieApart one other → LieApart other one
@@ -50,7 +50,7 @@ may_lie layout place may = record { behind = behind (nat_lt place.dev layout.met
     behind true mirror = let past = may.past_journal (ltb-true place.dev layout.metadata_replicas mirror) in omega (arith, past)
     behind false other = let past = may.past_superblocks in omega (arith, past)
 
-pub own_buckets : (place another : Place) → AreApart place another → AreInOwnBuckets place another
+pub own_buckets : (place another : Place) → AreInOtherBuckets place another → AreInOwnBuckets place another
 own_buckets place another apart same = ⊎_elim (λ devices. absurd (devices same)) (λ blocks. blocks) apart
 
 -- Nodes that lie apart, where nodes may, have no bucket in common.
@@ -74,7 +74,7 @@ pub all_emptied_fixed : (layout : Layout) (seq : ℕ) (places : List Place) (spa
 all_emptied_fixed layout seq places space = emptied_each (AreFixed layout) seq places space (λ place made there. emptied_fixed layout place seq made)
 
 -- A node still holds its own where the buckets of places are emptied that lie apart.
-pub own_emptied : (seq : ℕ) (places : List Place) (space : Space) (node : NodePtr) → ((place another : Place) → Contains places place → Contains node.places another → AreApart place another) → HoldsOwn space node
+pub own_emptied : (seq : ℕ) (places : List Place) (space : Space) (node : NodePtr) → ((place another : Place) → Contains places place → Contains node.places another → AreInOtherBuckets place another) → HoldsOwn space node
     → HoldsOwn (emptied_all places seq space) node
 own_emptied seq places space node apart = emptied_each (λ made. HoldsOwn made node) seq places space
     (λ place made there own k d within. emptied_apart place seq made (get_or node.places k d) (apart place (get_or node.places k d) there (Contains-get_or node.places k d within)) (own k d within))

@@ -8,7 +8,7 @@ use Rattle.dev_model.specs.Crashes.{SameBut}
 use Rattle.dev_model.specs.Disk.{Image, block_at}
 use Rattle.image_view.specs.Bases.{AgreeAt, AgreeOnBase, AgreeOnNodes}
 use Rattle.image_view.specs.Found.{Found}
-use Rattle.crash_safety.specs.NodeWritings.{AgreeOnWriting}
+use Rattle.crash_safety.specs.Standing.{AgreeOnWriting}
 use Rattle.crash_safety.specs.Writings.{Writing, after}
 use Rattle.crash_safety.proofs.Images.{sizes}
 use Rattle.crash_safety.proofs.OtherBlock.{no_block, sizes_with_block, with_block, with_block_at, with_block_elsewhere}

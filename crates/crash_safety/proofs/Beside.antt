@@ -13,10 +13,11 @@ use Rattle.vol_types.specs.Limits.{bucket_blocks}
 use Rattle.vol_types.specs.declared.layout.Layout.{Layout}
 use Rattle.vol_types.specs.declared.pointers.NodePtr.{NodePtr}
 use Rattle.vol_types.specs.declared.pointers.Place.{Place}
-use Rattle.crash_safety.specs.Elsewhere.{IsAtOneOf, IsElsewhere, IsOneOf, KeepsSizes}
-use Rattle.crash_safety.specs.Parts.{AsksAt}
-use Rattle.crash_safety.specs.NodeWritings.{AgreeOnWriting, IsElsewhereOfBoth, IsSafeWithNodes}
+use Rattle.crash_safety.specs.Elsewhere.{IsAtOneOf, IsElsewhere, IsElsewhereOfBoth, IsOneOf, KeepsSizes}
+use Rattle.crash_safety.specs.Safety.{IsJournalSafe}
+use Rattle.crash_safety.specs.Standing.{AgreeOnWriting}
 use Rattle.crash_safety.specs.Writings.{HoldParts, Writing, after}
+use Rattle.crash_safety.specs.Parts.{AsksAt}
 use Rattle.crash_safety.proofs.Calls.{HasSizes, IsHarmless}
 use Rattle.crash_safety.proofs.Images.{places_of, sizes}
 use Rattle.crash_safety.proofs.Meanings.{ImageLaws}
@@ -33,7 +34,7 @@ is_elsewhere f places each dev block one =
     let place : Place = record { dev = dev; block = block } in
     subst (IsElsewhere f) one.2 (each one.0 place one.1)
 
-module _ (laws : ImageLaws) (f : Found) (image : Image) (writing : Option Writing) (asked written : ℕ) (bases : List Found) (durable : List ℕ) (first : ℕ) (old new : DevicesState) (places : List Place) (safe : IsSafeWithNodes f image writing asked written bases durable first old)
+module _ (laws : ImageLaws) (f : Found) (image : Image) (writing : Option Writing) (asked written : ℕ) (bases : List Found) (durable : List ℕ) (first : ℕ) (old new : DevicesState) (places : List Place) (safe : IsJournalSafe f image writing asked written bases durable first old)
     (both : All (IsElsewhereOfBoth f writing) places) (call : AsksAt (IsOneOf places) (IsAtOneOf places) old new) where
   each : All (IsElsewhere f) places
   each = All-weaker (IsElsewhereOfBoth f writing) (IsElsewhere f) (of_found f writing) places both
@@ -94,5 +95,5 @@ module _ (laws : ImageLaws) (f : Found) (image : Image) (writing : Option Writin
   sized : KeepsSizes old new → HasSizes f image writing asked written first old safe.stands new (IsOneOf places) (IsAtOneOf places) call asked harmless
   sized keeps m lo hi other may = (safe.stands.crashes (as_read (now old)) (as_read_may_be_left (now old) safe.stands.disks)).base.lengths ∙ keeps m lo hi other may
 
-  pub beside_on : KeepsSizes old new → All IsDisk (now new) → IsSafeWithNodes f image writing asked written bases durable first new
+  pub beside_on : KeepsSizes old new → All IsDisk (now new) → IsJournalSafe f image writing asked written bases durable first new
   beside_on keeps are = journal_safe_on laws f image writing asked written bases durable first old safe new (IsOneOf places) (IsAtOneOf places) call asked harmless (sized keeps) written are (stand_still f.layout refl writing written safe.stands.stand)

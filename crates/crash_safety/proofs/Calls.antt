@@ -11,8 +11,7 @@ use Rattle.image_view.specs.Bases.{AgreeOnBase}
 use Rattle.image_view.specs.CrashEntries.{opens}
 use Rattle.image_view.specs.Found.{Found}
 use Rattle.crash_safety.specs.Parts.{AsksAt}
-use Rattle.crash_safety.specs.Standing.{AgreesBut, AreReadsUntorn, AreSteady, HoldKnown}
-use Rattle.crash_safety.specs.NodeWritings.{AgreeOnWriting, StandsWithNodes}
+use Rattle.crash_safety.specs.Standing.{AgreeOnWriting, AgreesBut, AreReadsUntorn, AreSteady, HoldKnown, StandsOn}
 use Rattle.crash_safety.specs.Writings.{HoldParts, IsAsked, IsWritingBlock, Writing}
 use Rattle.crash_safety.proofs.BaseStays.{base_more, writing_more}
 use Rattle.crash_safety.proofs.Images.{as_many_left, sizes, sizes_stay}
@@ -33,7 +32,7 @@ pub record IsHarmless (f : Found) (image : Image) (writing : Option Writing) (as
   pub own : (dev place : ℕ) (bytes : List ℕ) → dev < f.layout.metadata_replicas → place < f.layout.journal → IsTrue (opens bytes) → asks_for dev (16 + place) bytes → IsWritingBlock f.layout writing dev (16 + place) bytes
   pub few : IfSome writing (λ w. count ≤ length w.blocks)
 
-module _ (f : Found) (image : Image) (writing : Option Writing) (asked written first : ℕ) (old : DevicesState) (stands : StandsWithNodes f image writing asked written first old) (new : DevicesState) (touched : ℕ → ℕ → Type 0) (asks_for : ℕ → ℕ → List ℕ → Type 0)
+module _ (f : Found) (image : Image) (writing : Option Writing) (asked written first : ℕ) (old : DevicesState) (stands : StandsOn f image writing asked written first old) (new : DevicesState) (touched : ℕ → ℕ → Type 0) (asks_for : ℕ → ℕ → List ℕ → Type 0)
     (call : AsksAt touched asks_for old new) (count : ℕ) (harmless : IsHarmless f image writing asked count touched asks_for) where
   -- Whatever is left meanwhile has the sizes that the image has.
   abbrev pub HasSizes : Type 0
@@ -66,7 +65,7 @@ module _ (f : Found) (image : Image) (writing : Option Writing) (asked written f
         (λ (asks : asks_for dev (16 + place) bytes). inr (harmless.own dev place bytes mirror within is_open asks))
         (call.asks opens m lo hi dev (16 + place) here bytes is_open held)
 
-    pub stands_on : (standing : ℕ) → All IsDisk (now new) → HoldParts f.layout writing standing (as_read (now new)) → StandsWithNodes f image writing count standing first new
+    pub stands_on : (standing : ℕ) → All IsDisk (now new) → HoldParts f.layout writing standing (as_read (now new)) → StandsOn f image writing count standing first new
     stands_on standing are stand =
         let later = call.crashes.later in
         let begun = stands.begun in

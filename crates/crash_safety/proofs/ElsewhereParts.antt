@@ -8,9 +8,9 @@ use Rattle.dev_model.specs.Devices.{DevicesState, now}
 use Rattle.dev_model.specs.Disk.{Image, IsDisk, as_read}
 use Rattle.image_view.specs.Found.{Found}
 use Rattle.crash_safety.specs.CallLaws.{asks_more}
-use Rattle.crash_safety.specs.Elsewhere.{IsAtOneOf, IsOneOf, KeepsSizes}
-use Rattle.crash_safety.specs.NodeWritings.{IsElsewhereOfBoth, IsSafeWithNodes}
-use Rattle.crash_safety.specs.Parts.{AsksAt}
+use Rattle.crash_safety.specs.Elsewhere.{IsAtOneOf, IsElsewhereOfBoth, IsOneOf, KeepsSizes}
+use Rattle.crash_safety.specs.JournalLaws.{JournalLaws}
+use Rattle.crash_safety.specs.Safety.{IsJournalSafe}
 use Rattle.crash_safety.specs.Writings.{Writing}
 use Rattle.node_store.specs.Plans.{part_bytes}
 use Rattle.node_store.specs.Writes.{IsCopyBlock, IsCopyOf}
@@ -35,23 +35,18 @@ copy_at_one places n dev block copy =
 
 -- What a crash leaves has the sizes that are read.
 sizes_kept : (f : Found) (image : Image) (writing : Option Writing) (asked written : ℕ) (bases : List Found) (durable : List ℕ) (first : ℕ) (old new : DevicesState) (blocked : Blocked) (part : ℕ) (failed : Option ℕ)
-    → IsSafeWithNodes f image writing asked written bases durable first old → IsNodePartWritten blocked part failed old new → KeepsSizes old new
+    → IsJournalSafe f image writing asked written bases durable first old → IsNodePartWritten blocked part failed old new → KeepsSizes old new
 sizes_kept f image writing asked written bases durable first old new blocked part failed safe is m lo hi other may =
     let before = is.lengths m lo hi other may in
     sym (safe.stands.crashes (as_read (now old)) (as_read_may_be_left (now old) safe.stands.disks)).base.lengths ∙ (safe.stands.crashes before.0 before.1).base.lengths ∙ before.2
 
--- The law of a journal that stays safe where nothing that counts is written.
-abbrev pub StaysSafe : Type 0
-StaysSafe = (f : Found) (image : Image) (writing : Option Writing) (asked written : ℕ) (bases : List Found) (durable : List ℕ) (first : ℕ) (old new : DevicesState) (places : List Place) → IsSafeWithNodes f image writing asked written bases durable first old
-    → All (IsElsewhereOfBoth f writing) places → AsksAt (IsOneOf places) (IsAtOneOf places) old new → KeepsSizes old new → All IsDisk (now new) → IsSafeWithNodes f image writing asked written bases durable first new
-
-pub part_elsewhere : StaysSafe → (f : Found) (image : Image) (writing : Option Writing) (asked written : ℕ) (bases : List Found) (durable : List ℕ) (first : ℕ) (old new : DevicesState) (blocked : Blocked) (part : ℕ) (failed : Option ℕ)
-    → IsSafeWithNodes f image writing asked written bases durable first old → AreElsewhere f writing blocked.places → blocked.block + part < bucket_blocks → IsNodePartWritten blocked part failed old new → All IsDisk (now new)
-    → IsSafeWithNodes f image writing asked written bases durable first new
-part_elsewhere stays f image writing asked written bases durable first old new blocked part failed safe far few is are =
+pub part_elsewhere : JournalLaws → (f : Found) (image : Image) (writing : Option Writing) (asked written : ℕ) (bases : List Found) (durable : List ℕ) (first : ℕ) (old new : DevicesState) (blocked : Blocked) (part : ℕ) (failed : Option ℕ)
+    → IsJournalSafe f image writing asked written bases durable first old → AreElsewhere f writing blocked.places → blocked.block + part < bucket_blocks → IsNodePartWritten blocked part failed old new → All IsDisk (now new)
+    → IsJournalSafe f image writing asked written bases durable first new
+part_elsewhere laws f image writing asked written bases durable first old new blocked part failed safe far few is are =
     let n = blocked.block + part in
     let places : List Place = map (block_behind n) blocked.places in
-    stays f image writing asked written bases durable first old new places safe
+    laws.elsewhere f image writing asked written bases durable first old new places safe
     (All-map (IsElsewhereOfBoth f writing) (block_behind n) blocked.places
     (All-weaker (Contains blocked.places) (λ (place : Place). IsElsewhereOfBoth f writing (block_behind n place)) (λ place there. far place there n few) blocked.places (All-contains_itself blocked.places)))
     (asks_more (IsCopyOf blocked.places n) (IsOneOf places) (IsCopyBlock blocked.places n (part_bytes blocked part)) (IsAtOneOf places) old new

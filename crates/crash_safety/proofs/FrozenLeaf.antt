@@ -5,7 +5,7 @@ use Rattle.std.proofs.lemmas.List.Elements.{All-contains, All-push, All-weaker}
 use Rattle.std.proofs.lemmas.List.Quantifiers.{all_pairs_push}
 use Rattle.std.specs.List.{flat_map}
 use Rattle.std.specs.Prelude.{All, IfSome}
-use Rattle.bucket_pool.specs.NodeBuckets.{AreApart, HoldsNode, IsHeldPast, KeepsNodes, MayHoldNode}
+use Rattle.bucket_pool.specs.NodeBuckets.{AreInOtherBuckets, HoldsNode, IsHeldPast, KeepsNodes, MayHoldNode}
 use Rattle.bucket_pool.specs.NodeLaws.{noded_keeps, taken_apart, taken_devices, taken_hold, taken_past_journal}
 use Rattle.bucket_pool.specs.Space.{Space, have_free, node_places, noded}
 use Rattle.dev_model.specs.Devices.{DevicesState}
@@ -60,7 +60,7 @@ module _ (f : Found) (writing : Option Writing) (state : DevicesState) (l : Leav
   -- It lies apart from all that is held.
   apart_held : (past : ℕ) (node : NodePtr) → All (IsHeldPast past l.space) node.places → LieApart fresh.node node
   apart_held past node held place another here there =
-      apart_back another place (All-contains (AreApart another) fresh.node.places place (at_places (AreApart another) (taken_apart past mirrors l.space another (All-contains (IsHeldPast past l.space) node.places another held there))) here)
+      apart_back another place (All-contains (AreInOtherBuckets another) fresh.node.places place (at_places (AreInOtherBuckets another) (taken_apart past mirrors l.space another (All-contains (IsHeldPast past l.space) node.places another held there))) here)
 
   apart_own : (node : NodePtr) → HoldsOwn l.space node → LieApart fresh.node node
   apart_own node own = apart_held 0 node (λ k d within. inl (own k d within))

@@ -3,7 +3,7 @@ use Rattle.std.proofs.Common.{◌≡◌, ℕ, ◌+◌, ◌≤◌, List, get_or, 
 use Rattle.std.proofs.lemmas.List.Elements.{All-contains, All-nil, Contains-get_or}
 use Rattle.std.specs.List.{flat_map}
 use Rattle.std.specs.Prelude.{All, Contains, IfSome}
-use Rattle.bucket_pool.specs.NodeBuckets.{AreApart, IsHeldPast, KeepsNodes}
+use Rattle.bucket_pool.specs.NodeBuckets.{AreInOtherBuckets, IsHeldPast, KeepsNodes}
 use Rattle.bucket_pool.specs.NodeLaws.{emptied_held_apart, settled_keeps}
 use Rattle.bucket_pool.specs.Space.{Space, emptied_all}
 use Rattle.dev_model.specs.Devices.{DevicesState}
@@ -35,10 +35,10 @@ module _ (f : Found) (writing : Option Writing) (state : DevicesState) (l : Leav
   kept past less = settled_keeps past durable made less
 
   -- What lies apart from each of the leaves lies apart from their places.
-  apart_places : (node : NodePtr) → All (λ (leaf : FreshLeaf). LieApart leaf.node node) l.fresh → (place another : Place) → Contains places place → Contains node.places another → AreApart place another
+  apart_places : (node : NodePtr) → All (λ (leaf : FreshLeaf). LieApart leaf.node node) l.fresh → (place another : Place) → Contains places place → Contains node.places another → AreInOtherBuckets place another
   apart_places node apart place another here there =
-      All-contains (λ (p : Place). AreApart p another) places place
-      (all_of_each (λ (p : Place). AreApart p another) (λ (leaf : FreshLeaf). leaf.node.places) l.fresh
+      All-contains (λ (p : Place). AreInOtherBuckets p another) places place
+      (all_of_each (λ (p : Place). AreInOtherBuckets p another) (λ (leaf : FreshLeaf). leaf.node.places) l.fresh
       (λ k d within j e low. apart k d within (get_or (get_or l.fresh k d).node.places j e) another (Contains-get_or (get_or l.fresh k d).node.places j e low) there))
       here
 

@@ -28,7 +28,6 @@ mod PlacedLeaves
 pub mod Places
 pub mod Safe
 mod SameLeaves
-pub mod SameNodes
 pub mod Settled
 mod SettledLeaves
 pub mod Shifting

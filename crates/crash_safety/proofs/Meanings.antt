@@ -19,9 +19,8 @@ use Rattle.journal_ring.specs.declared.found.FoundEntry.{FoundEntry}
 use Rattle.key_meaning.specs.Checks.{AreNodesPlaced}
 use Rattle.node_store.specs.Answers.{AreAlike}
 use Rattle.vol_types.specs.declared.layout.Layout.{Layout}
-use Rattle.crash_safety.specs.Standing.{AgreesBut, HoldKnown}
-use Rattle.crash_safety.specs.NodeWritings.{AgreeOnWriting, IsWritingWithNodes}
-use Rattle.crash_safety.specs.Writings.{IsAsked, Writing, after}
+use Rattle.crash_safety.specs.Standing.{AgreeOnWriting, AgreesBut, HoldKnown}
+use Rattle.crash_safety.specs.Writings.{IsAsked, IsWriting, Writing, after}
 use Rattle.crash_safety.proofs.Images.{places_of, sizes}
 
 -- What is said of images and of journals elsewhere.
@@ -38,8 +37,6 @@ pub record ImageLaws : Type 0 where
       → IsWritten f.layout next blocks one other → IsToldApart f (area_of one) blocks → trees_of (sets_in f.layout one) (updates_of (drop passed f.needed ++ next ∷ [])) next.entry.roots ≡ Ok trees → found other ≡ Ok (with_entry passed next trees f)
   pub in_order : (one other : Image) (f : Found) (passed : ℕ) (next : FoundEntry) (blocks : List (List ℕ)) (trees : TreesRead) → found one ≡ Ok f → IsInOrder f one → IsNext f passed next → AgreeOnBase f one other → AgreeOnNodes (with_entry passed next trees f) one other
       → AreNodesInOrder (with_entry passed next trees f) one → IsWritten f.layout next blocks one other → IsToldApart f (area_of one) blocks → IsInOrder (with_entry passed next trees f) other
-  pub old_nodes : (one other : Image) (f : Found) (passed : ℕ) (next : FoundEntry) (trees : TreesRead) → AgreeOnBase f one other → trees.nodes ≡ f.trees.nodes → AgreeOnNodes (with_entry passed next trees f) one other
-  pub old_order : (one : Image) (f : Found) (passed : ℕ) (next : FoundEntry) (trees : TreesRead) → IsInOrder f one → trees.nodes ≡ f.trees.nodes → trees.ends ≡ f.trees.ends → AreNodesInOrder (with_entry passed next trees f) one
   pub numbers : (one other : Image) (f : Found) (passed : ℕ) (next : FoundEntry) (blocks : List (List ℕ)) → found one ≡ Ok f → IsNext f passed next → IsWritten f.layout next blocks one other → AreNumberedBelow f.layout f.session f.last.end (area_of one)
       → AreNumberedBelow f.layout f.session next.end (area_of other)
   pub same_newest : (layout : Layout) (one other : Area) → AreSame layout one other → newest layout one ≡ newest layout other
@@ -92,7 +89,7 @@ module _ (laws : ImageLaws) (f : Found) (image : Image) (finds : found image ≡
       }
 
 -- An image means what was found, or that with the entry that is written, if one is.
-pub meaning : ImageLaws → (f : Found) (image : Image) (writing : Option Writing) → found image ≡ Ok f → IsInOrder f image → AreNumberedBelow f.layout f.session f.last.end (area_of image) → IfSome writing (IsWritingWithNodes f image)
+pub meaning : ImageLaws → (f : Found) (image : Image) (writing : Option Writing) → found image ≡ Ok f → IsInOrder f image → AreNumberedBelow f.layout f.session f.last.end (area_of image) → IfSome writing (IsWriting f image)
     → (count : ℕ) (other : Image) (disks : List Disk) → AgreesBut f (IsAsked f.layout writing count) image other → AgreeOnWriting f writing image other → HoldKnown f.layout image writing disks → OnlyHeldEntriesOpen f.layout disks other → IsMeantBy f writing other
 meaning laws f image None finds order numbered is count other disks agrees nodes hold only = meant_again laws f image finds order other agrees
 meaning laws f image (Some w) finds order numbered is count other disks agrees nodes hold only = ⊎_elim

@@ -12,7 +12,7 @@ use Rattle.image_view.specs.NextEntries.{IsNext}
 use Rattle.image_view.specs.UpdatedTrees.{IsOfLeaf}
 use Rattle.journal_ring.specs.EntryBlocks.{AreEntryBlocks}
 use Rattle.journal_ring.specs.declared.found.FoundEntry.{FoundEntry}
-use Rattle.crash_safety.specs.NodeWritings.{IsSafeWithNodes}
+use Rattle.crash_safety.specs.Safety.{IsJournalSafe}
 use Rattle.crash_safety.specs.Writings.{Writing, after}
 use Rattle.crash_safety.specs.Contents.{HoldsUpTo, IsFrom}
 use Rattle.crash_safety.specs.Leaves.{StandAsLeaves, StandsAsLeaf, leaf_keys}
@@ -38,9 +38,9 @@ LacksLaw = (needed : List FoundEntry) (before : KeyMap) (oldest passed : ℕ) (b
 -- An entry may be put in flight that names roots which stand as leaves.
 abbrev pub NamedLaw : Type 0
 NamedLaw = (f : Found) (image : Image) (bases : List Found) (durable : List ℕ) (first : ℕ) (state : DevicesState) (roots : List NodePtr) (content : Btree → NodeContent) (passed : ℕ) (next : FoundEntry) (blocks : List (List ℕ))
-    → IsSafeWithNodes f image None 0 0 bases durable first state → StandAsLeaves f.layout f.session roots content state → IsNext f passed next → AreEntryBlocks f.layout.id next.number next.entry blocks → next.entry.roots ≡ roots
+    → IsJournalSafe f image None 0 0 bases durable first state → StandAsLeaves f.layout f.session roots content state → IsNext f passed next → AreEntryBlocks f.layout.id next.number next.entry blocks → next.entry.roots ≡ roots
     → All IsOfLeaf (updates_of f.needed) → All IsOfLeaf next.entry.updates → ((btree : Btree) → entries_of (with_updates (updates_of (drop passed f.needed)) (leaf_keys content)) btree ≡ entries_of f.trees.keys btree)
-    → IsSafeWithNodes f (as_read (now state)) (Some (leaf_writing f roots content passed next blocks)) 0 0 (bases ++ after (leaf_writing f roots content passed next blocks) f ∷ []) durable first state
+    → IsJournalSafe f (as_read (now state)) (Some (leaf_writing f roots content passed next blocks)) 0 0 (bases ++ after (leaf_writing f roots content passed next blocks) f ∷ []) durable first state
 
 module _ (f : Found) (state : DevicesState) (l : Leaves) (keeps : KeepsLeaves f None state l) where
   abbrev roots : List NodePtr
@@ -106,9 +106,9 @@ module _ (f : Found) (state : DevicesState) (l : Leaves) (keeps : KeepsLeaves f 
 
 -- An entry that is put in flight over the leaves: it has the durable keys, with its updates.
 pub sealed_kept : LacksLaw → NamedLaw → (f : Found) (image : Image) (bases : List Found) (durable : List ℕ) (first : ℕ) (state : DevicesState) (passed : ℕ) (next : FoundEntry) (blocks : List (List ℕ)) (l : Leaves)
-    → IsSafeWithNodes f image None 0 0 bases durable first state → KeepsLeaves f None state l → IsNamed f passed next blocks l
+    → IsJournalSafe f image None 0 0 bases durable first state → KeepsLeaves f None state l → IsNamed f passed next blocks l
     → (w : Writing) × (w.passed ≡ passed) × (w.next ≡ next) × (w.blocks ≡ blocks) × (w.trees.keys ≡ with_updates next.entry.updates f.trees.keys)
-    × IsSafeWithNodes f (as_read (now state)) (Some w) 0 0 (bases ++ after w f ∷ []) durable first state × KeepsLeaves f (Some w) state l
+    × IsJournalSafe f (as_read (now state)) (Some w) 0 0 (bases ++ after w f ∷ []) durable first state × KeepsLeaves f (Some w) state l
 sealed_kept lacks names f image bases durable first state passed next blocks l safe keeps named = (
   w f state l keeps passed next blocks,
   refl,

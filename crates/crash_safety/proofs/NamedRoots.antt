@@ -16,8 +16,10 @@ use Rattle.image_view.specs.Trees.{TreesRead, trees_of, with_roots}
 use Rattle.image_view.specs.UpdatedTrees.{IsOfLeaf, with_key_updates}
 use Rattle.journal_ring.specs.EntryBlocks.{AreEntryBlocks}
 use Rattle.journal_ring.specs.declared.found.FoundEntry.{FoundEntry}
-use Rattle.crash_safety.specs.NodeWritings.{AreNodesLeft, IsSafeWithNodes, IsWritingWithNodes}
-use Rattle.crash_safety.specs.Writings.{Writing, after}
+use Rattle.crash_safety.specs.JournalLaws.{JournalLaws}
+use Rattle.crash_safety.specs.Safety.{IsJournalSafe}
+use Rattle.crash_safety.specs.Standing.{AreNodesLeft}
+use Rattle.crash_safety.specs.Writings.{IsWriting, Writing, after}
 use Rattle.key_meaning.specs.Checks.{AreNodesPlaced}
 use Rattle.node_store.specs.Answers.{AreAlike}
 use Rattle.node_store.specs.Copies.{copies_at}
@@ -34,16 +36,11 @@ use Rattle.crash_safety.specs.Leaves.{StandAsLeaves, leaf_keys, leaf_nodes}
 use Rattle.crash_safety.specs.Naming.{leaf_writing}
 use Rattle.crash_safety.proofs.NineRoots.{all_right, each_pair, each_root, root_nodes}
 
--- What is known of trees of leaves, and of journals.
+-- What is known of trees of leaves.
 pub record LeafTreeLaws : Type 0 where
   pub leaves : (layout : Layout) (image : Image) (roots : List NodePtr) (content : Btree → NodeContent) → AreLeafRoots (sets_in layout image) roots content → trees_of (sets_in layout image) [] roots ≡ Ok (leaf_trees roots content)
   pub joined : (layout : Layout) (image : Image) (updates more : List Update) (roots : List NodePtr) (read : TreesRead) → trees_of (sets_in layout image) updates roots ≡ Ok read → length roots ≡ 9 → All IsOfLeaf more
       → trees_of (sets_in layout image) (updates ++ more) roots ≡ Ok (with_key_updates more read)
-
-pub record JournalLaws : Type 0 where
-  pub again : (f : Found) (image : Image) (bases : List Found) (durable : List ℕ) (first : ℕ) (state : DevicesState) → IsSafeWithNodes f image None 0 0 bases durable first state → IsSafeWithNodes f (as_read (now state)) None 0 0 bases durable first state
-  pub seals : (f : Found) (image : Image) (bases : List Found) (durable : List ℕ) (first : ℕ) (state : DevicesState) (w : Writing) → IsSafeWithNodes f image None 0 0 bases durable first state → IsWritingWithNodes f image w → AreNodesLeft f image (Some w) state
-      → IsSafeWithNodes f image (Some w) 0 0 (bases ++ after w f ∷ []) durable first state
 
 -- Roots that stand as leaves are leaves of what is read.
 pub leaf_roots : (layout : Layout) (session : ℕ) (roots : List NodePtr) (content : Btree → NodeContent) (state : DevicesState) → StandAsLeaves layout session roots content state → AreLeafRoots (sets_in layout (as_read (now state))) roots content
@@ -107,7 +104,7 @@ module _ (f : Found) (state : DevicesState) (roots : List NodePtr) (content : Bt
   }
 
   pub writing_is : LeafTreeLaws → IsNext f passed next → AreEntryBlocks f.layout.id next.number next.entry blocks → next.entry.roots ≡ roots → All IsOfLeaf (updates_of f.needed) → All IsOfLeaf next.entry.updates
-      → ((btree : Btree) → entries_of (with_updates (updates_of (drop passed f.needed)) (leaf_keys content)) btree ≡ entries_of f.trees.keys btree) → IsWritingWithNodes f image w
+      → ((btree : Btree) → entries_of (with_updates (updates_of (drop passed f.needed)) (leaf_keys content)) btree ≡ entries_of f.trees.keys btree) → IsWriting f image w
   writing_is laws is sealed named leaves more same = record {
     next = is;
     sealed = sealed;
@@ -117,7 +114,7 @@ module _ (f : Found) (state : DevicesState) (roots : List NodePtr) (content : Bt
   }
 
   -- A crash leaves them.
-  pub roots_left : (bases : List Found) (durable : List ℕ) (first : ℕ) → IsSafeWithNodes f image None 0 0 bases durable first state → AreNodesLeft f image (Some w) state
+  pub roots_left : (bases : List Found) (durable : List ℕ) (first : ℕ) → IsJournalSafe f image None 0 0 bases durable first state → AreNodesLeft f image (Some w) state
   roots_left bases durable first safe other may =
       let base = (safe.stands.crashes other may).base in
       record {
@@ -129,9 +126,9 @@ module _ (f : Found) (state : DevicesState) (roots : List NodePtr) (content : Bt
 
 -- So the entry is put in flight.
 pub roots_named : LeafTreeLaws → JournalLaws → (f : Found) (image : Image) (bases : List Found) (durable : List ℕ) (first : ℕ) (state : DevicesState) (roots : List NodePtr) (content : Btree → NodeContent) (passed : ℕ) (next : FoundEntry) (blocks : List (List ℕ))
-    → IsSafeWithNodes f image None 0 0 bases durable first state → StandAsLeaves f.layout f.session roots content state → IsNext f passed next → AreEntryBlocks f.layout.id next.number next.entry blocks → next.entry.roots ≡ roots
+    → IsJournalSafe f image None 0 0 bases durable first state → StandAsLeaves f.layout f.session roots content state → IsNext f passed next → AreEntryBlocks f.layout.id next.number next.entry blocks → next.entry.roots ≡ roots
     → All IsOfLeaf (updates_of f.needed) → All IsOfLeaf next.entry.updates → ((btree : Btree) → entries_of (with_updates (updates_of (drop passed f.needed)) (leaf_keys content)) btree ≡ entries_of f.trees.keys btree)
-    → IsSafeWithNodes f (as_read (now state)) (Some (leaf_writing f roots content passed next blocks)) 0 0 (bases ++ after (leaf_writing f roots content passed next blocks) f ∷ []) durable first state
+    → IsJournalSafe f (as_read (now state)) (Some (leaf_writing f roots content passed next blocks)) 0 0 (bases ++ after (leaf_writing f roots content passed next blocks) f ∷ []) durable first state
 roots_named trees journals f image bases durable first state roots content passed next blocks safe stand is sealed named leaves more same =
     let here = journals.again f image bases durable first state safe in
     journals.seals f (as_read (now state)) bases durable first state (leaf_writing f roots content passed next blocks) here

@@ -11,7 +11,8 @@ use Rattle.vol_types.specs.declared.layout.Layout.{Layout}
 use Rattle.vol_types.specs.declared.pointers.NodePtr.{NodePtr}
 use Rattle.vol_types.specs.declared.pointers.Place.{Place}
 use Rattle.crash_safety.specs.Flushes.{AreSettled}
-use Rattle.crash_safety.specs.NodeWritings.{AreNodesLeft, IsSafeWithNodes}
+use Rattle.crash_safety.specs.Safety.{IsJournalSafe}
+use Rattle.crash_safety.specs.Standing.{AreNodesLeft}
 use Rattle.crash_safety.specs.Writings.{Writing, after}
 
 -- Each place of a node that stands on every metadata device is on one of these.
@@ -24,7 +25,7 @@ on_mirrors layout node mirrored j e low =
     omega (arith, at, low, count)
 
 -- So where all metadata devices are settled, a crash leaves the nodes that stand on what is read.
-pub nodes_settled : (f : Found) (bases : List Found) (durable : List ℕ) (first : ℕ) (state : DevicesState) (w : Writing) → IsSafeWithNodes f (as_read (now state)) None 0 0 bases durable first state → AreNodesInOrder (after w f) (as_read (now state))
+pub nodes_settled : (f : Found) (bases : List Found) (durable : List ℕ) (first : ℕ) (state : DevicesState) (w : Writing) → IsJournalSafe f (as_read (now state)) None 0 0 bases durable first state → AreNodesInOrder (after w f) (as_read (now state))
     → AreSettled f.layout.metadata_replicas (now state) → AreNodesLeft f (as_read (now state)) (Some w) state
 nodes_settled f bases durable first state w safe order settled other may =
     let base = (safe.stands.crashes other may).base in

@@ -10,18 +10,18 @@ use Rattle.image_view.specs.BaseLaws.{found-layout}
 use Rattle.image_view.specs.Found.{Found, found}
 use Rattle.journal_ring.specs.Rings.{IsPartPlace, RingState, part_number}
 use Rattle.crash_safety.specs.Elsewhere.{IsOutside}
-use Rattle.crash_safety.specs.Parts.{IsRingOf}
 use Rattle.crash_safety.specs.Writings.{Writing}
+use Rattle.crash_safety.specs.Parts.{IsRingOf}
 use Rattle.key_meaning.specs.Checks.{IsNodePlaced, kept_buckets}
 use Rattle.node_store.specs.Writes.{IsCopyOf}
 use Rattle.vol_types.specs.Limits.{bucket_blocks}
 use Rattle.vol_types.specs.declared.layout.Layout.{Layout}
 use Rattle.vol_types.specs.declared.pointers.NodePtr.{NodePtr}
 use Rattle.vol_types.specs.declared.pointers.Place.{Place}
-use Rattle.crash_safety.specs.Leaves.{AreApart, AreNodesApart, IsFirstBlock, IsOfNode, KeepsOff}
+use Rattle.crash_safety.specs.Leaves.{AreInOwnBuckets, AreNodesApart, IsFirstBlock, IsOfNode, KeepsOff}
 
 -- Each block of a bucket lies outside another one.
-pub bucket_outside : (place bucket : Place) (n : ℕ) → IsFirstBlock place → IsFirstBlock bucket → AreApart place bucket → n < bucket_blocks → IsOutside (record { dev = place.dev; block = place.block + n }) bucket
+pub bucket_outside : (place bucket : Place) (n : ℕ) → IsFirstBlock place → IsFirstBlock bucket → AreInOwnBuckets place bucket → n < bucket_blocks → IsOutside (record { dev = place.dev; block = place.block + n }) bucket
 bucket_outside place bucket n first second apart few same = ⊎_elim
     (λ (one : place.block / bucket_blocks ≡ bucket.block / bucket_blocks). absurd (apart same one))
     (λ order. ⊎_elim
@@ -41,7 +41,7 @@ nodes_off one other are dev block of_other of_one =
     let second : bucket.block % bucket_blocks ≡ 0 = All-contains IsFirstBlock other.places bucket are.second of_other.2 in
     let few = of_one.3 in
     let few_others = of_other.3 in
-    All-contains (AreApart place) other.places bucket (All-contains (λ (p : Place). All (AreApart p) other.places) one.places place are.apart of_one.2) of_other.2 same
+    All-contains (AreInOwnBuckets place) other.places bucket (All-contains (λ (p : Place). All (AreInOwnBuckets p) other.places) one.places place are.apart of_one.2) of_other.2 same
     (omega (arith, blocks, first, second, few, few_others))
 
 -- So does one block of each of its buckets.

@@ -8,8 +8,8 @@ use Rattle.dev_model.specs.Disk.{Disk, Image, IsCrashImage, IsDisk, as_read}
 use Rattle.image_view.specs.CrashEntries.{OnlyHeldEntriesOpen}
 use Rattle.image_view.specs.Found.{Found}
 use Rattle.crash_safety.specs.Parts.{AsksAt}
-use Rattle.crash_safety.specs.NodeWritings.{IsSafeWithNodes, StandsWithNodes}
-use Rattle.crash_safety.specs.Safety.{AreBases, IsSafe, MeansOneOf}
+use Rattle.crash_safety.specs.Safety.{AreBases, IsJournalSafe, IsSafe, MeansOneOf}
+use Rattle.crash_safety.specs.Standing.{StandsOn}
 use Rattle.crash_safety.specs.Writings.{HoldParts, Writing, after}
 use Rattle.crash_safety.proofs.Calls.{HasSizes, IsHarmless, held_at, left_agrees, nodes_left, stands_on, untorn_before}
 use Rattle.crash_safety.proofs.Meanings.{ImageLaws, IsMeantBy, meaning}
@@ -49,10 +49,10 @@ one_of f (Some w) bases durable are moment image (inr meant) = record {
   none_before = λ k m there by_then. let within = slice_get_within durable k m there in omega (arith, within);
 }
 
-module _ (laws : ImageLaws) (f : Found) (image : Image) (writing : Option Writing) (asked written : ℕ) (bases : List Found) (durable : List ℕ) (first : ℕ) (old : DevicesState) (safe : IsSafeWithNodes f image writing asked written bases durable first old) (new : DevicesState)
+module _ (laws : ImageLaws) (f : Found) (image : Image) (writing : Option Writing) (asked written : ℕ) (bases : List Found) (durable : List ℕ) (first : ℕ) (old : DevicesState) (safe : IsJournalSafe f image writing asked written bases durable first old) (new : DevicesState)
     (touched : ℕ → ℕ → Type 0) (asks_for : ℕ → ℕ → List ℕ → Type 0) (call : AsksAt touched asks_for old new) (count : ℕ) (harmless : IsHarmless f image writing asked count touched asks_for)
     (sized : HasSizes f image writing asked written first old safe.stands new touched asks_for call count harmless) where
-  abbrev stands : StandsWithNodes f image writing asked written first old
+  abbrev stands : StandsOn f image writing asked written first old
   stands = safe.stands
 
   safe_more : IsSafe f.layout bases durable first new
@@ -74,7 +74,7 @@ module _ (laws : ImageLaws) (f : Found) (image : Image) (writing : Option Writin
         (cases_lt old.moment moment);
   }
 
-  pub journal_safe_on : (standing : ℕ) → All IsDisk (now new) → HoldParts f.layout writing standing (as_read (now new)) → IsSafeWithNodes f image writing count standing bases durable first new
+  pub journal_safe_on : (standing : ℕ) → All IsDisk (now new) → HoldParts f.layout writing standing (as_read (now new)) → IsJournalSafe f image writing count standing bases durable first new
   journal_safe_on standing are stand = record {
     stands = stands_on f image writing asked written first old stands new touched asks_for call count harmless sized standing are stand;
     bases_are = safe.bases_are;

@@ -23,10 +23,9 @@ use Rattle.replay.specs.Mending.{HasMended, IsInOrderOn, IsUntorn, StandsOnAll}
 use Rattle.vol_types.specs.declared.layout.Layout.{Layout}
 use Rattle.crash_safety.specs.Flushes.{AreSettled, Flushes}
 use Rattle.crash_safety.specs.Parts.{AsksAt, IsRingOf, IsPartWritten, standing_by}
-use Rattle.crash_safety.specs.NodeWritings.{AgreeOnWriting, AreNodesLeft, IsSafeWithNodes, IsWritingWithNodes, StandsWithNodes}
-use Rattle.crash_safety.specs.Safety.{AreBases, IsSafe, MeansOneOf}
-use Rattle.crash_safety.specs.Standing.{AgreesBut, AreSteady, HoldKnown}
-use Rattle.crash_safety.specs.Writings.{HoldParts, IsAsked, Writing, after, meant_by}
+use Rattle.crash_safety.specs.Safety.{AreBases, IsJournalSafe, IsSafe, MeansOneOf}
+use Rattle.crash_safety.specs.Standing.{AgreeOnWriting, AgreesBut, AreNodesLeft, AreSteady, HoldKnown, StandsOn}
+use Rattle.crash_safety.specs.Writings.{HoldParts, IsAsked, IsWriting, Writing, after, meant_by}
 use Rattle.crash_safety.proofs.Calls.{IsHarmless, sizes_kept, untorn_before}
 use Rattle.crash_safety.proofs.Flushing.{NoPlace, flush_asks}
 use Rattle.crash_safety.proofs.Images.{journal_within, places_of, sizes}
@@ -67,7 +66,7 @@ base_from f image one other first second = record {
 -- ---- the beginning
 
 pub begun : ImageLaws → (f : Found) (state : DevicesState) → HasMended f (length f.needed) (now state) → AreNumberedBelow f.layout f.session f.last.end (area_of (as_read (now state))) → All IsDisk (now state)
-    → IsSafeWithNodes f (as_read (now state)) None 0 0 (f ∷ []) [] state.moment state
+    → IsJournalSafe f (as_read (now state)) None 0 0 (f ∷ []) [] state.moment state
 begun laws f state mended numbered are = record { stands = stands; bases_are = bases_are; safe = safe }
   where
     on : IsInOrderOn f (now state)
@@ -87,7 +86,7 @@ begun laws f state mended numbered are = record { stands = stands; bases_are = b
     known : HoldKnown f.layout (as_read (now state)) None (now state)
     known dev place bytes mirror within is_open held = inl (settled_held (now state) dev (16 + place) bytes are (settled_quiet (now state) on.on.quiet dev) (journal_within (as_read (now state)) f on.on.finds dev place mirror within) held)
 
-    stands : StandsWithNodes f (as_read (now state)) None 0 0 state.moment state
+    stands : StandsOn f (as_read (now state)) None 0 0 state.moment state
     stands = record {
       finds = on.on.finds;
       in_order = on.order;
@@ -115,8 +114,8 @@ begun laws f state mended numbered are = record { stands = stands; bases_are = b
 
 -- ---- an entry is put in flight
 
-pub sealed : (f : Found) (image : Image) (bases : List Found) (durable : List ℕ) (first : ℕ) (state : DevicesState) (w : Writing) → IsSafeWithNodes f image None 0 0 bases durable first state → IsWritingWithNodes f image w
-    → AreNodesLeft f image (Some w) state → IsSafeWithNodes f image (Some w) 0 0 (bases ++ after w f ∷ []) durable first state
+pub sealed : (f : Found) (image : Image) (bases : List Found) (durable : List ℕ) (first : ℕ) (state : DevicesState) (w : Writing) → IsJournalSafe f image None 0 0 bases durable first state → IsWriting f image w
+    → AreNodesLeft f image (Some w) state → IsJournalSafe f image (Some w) 0 0 (bases ++ after w f ∷ []) durable first state
 sealed f image bases durable first state w safe is left = record {
   stands = record {
     finds = safe.stands.finds;
@@ -156,8 +155,8 @@ stand_still : (layout : Layout) (writing : Option Writing) (count : ℕ) (one ot
 stand_still layout None count one other same stand = stand
 stand_still layout (Some w) count one other same stand = λ dev p mirror low. sym (same dev (ring_block layout.journal (w.next.number + p)) (λ none. none)) ∙ stand dev p mirror low
 
-pub flushed_on : ImageLaws → (f : Found) (image : Image) (writing : Option Writing) (asked written : ℕ) (bases : List Found) (durable : List ℕ) (first : ℕ) (old new : DevicesState) (dev : ℕ) (done : Bool) → IsSafeWithNodes f image writing asked written bases durable first old
-    → Flushes dev done old new → All IsDisk (now new) → AreSteady new → IsSafeWithNodes f image writing asked written bases durable first new
+pub flushed_on : ImageLaws → (f : Found) (image : Image) (writing : Option Writing) (asked written : ℕ) (bases : List Found) (durable : List ℕ) (first : ℕ) (old new : DevicesState) (dev : ℕ) (done : Bool) → IsJournalSafe f image writing asked written bases durable first old
+    → Flushes dev done old new → All IsDisk (now new) → AreSteady new → IsJournalSafe f image writing asked written bases durable first new
 flushed_on laws f image writing asked written bases durable first old new dev done safe flush are steady =
     let call : AsksAt NoPlace NoBlock old new = flush_asks dev done old new safe.stands.disks flush in
     let harmless : IsHarmless f image writing asked asked NoPlace NoBlock = record {
@@ -174,8 +173,8 @@ flushed_on laws f image writing asked written bases durable first old new dev do
 
 -- ---- devices are read
 
-pub read_on : ImageLaws → (f : Found) (image : Image) (writing : Option Writing) (asked written : ℕ) (bases : List Found) (durable : List ℕ) (first : ℕ) (old new : DevicesState) → IsSafeWithNodes f image writing asked written bases durable first old → DisksStay old new
-    → IsSafeWithNodes f image writing asked written bases durable first new
+pub read_on : ImageLaws → (f : Found) (image : Image) (writing : Option Writing) (asked written : ℕ) (bases : List Found) (durable : List ℕ) (first : ℕ) (old new : DevicesState) → IsJournalSafe f image writing asked written bases durable first old → DisksStay old new
+    → IsJournalSafe f image writing asked written bases durable first new
 read_on laws f image writing asked written bases durable first old new safe stay = record {
   stands = record {
     finds = safe.stands.finds;
@@ -238,9 +237,9 @@ module _ (layout : Layout) (w : Writing) (n : ℕ) (ring : RingState) (r : IsRin
   from_ring count image stand dev p mirror low =
       ap (block_at image dev) (sym (placed_so p)) ∙ stand dev p (let m = r.mirrors in omega (arith, mirror, m)) low ∙ ap (λ (bs : List (List ℕ)). Some (get_or bs p [])) r.blocks
 
-module _ (laws : ImageLaws) (f : Found) (image : Image) (w : Writing) (asked n : ℕ) (bases : List Found) (durable : List ℕ) (first : ℕ) (old new : DevicesState) (safe : IsSafeWithNodes f image (Some w) asked n bases durable first old) (again : asked ≤ n + 1) (low : n < length w.blocks)
+module _ (laws : ImageLaws) (f : Found) (image : Image) (w : Writing) (asked n : ℕ) (bases : List Found) (durable : List ℕ) (first : ℕ) (old new : DevicesState) (safe : IsJournalSafe f image (Some w) asked n bases durable first old) (again : asked ≤ n + 1) (low : n < length w.blocks)
     (ring : RingState) (r : IsRingOf f.layout w n ring) (failed : Option ℕ) (writes : IsPartWritten ring failed old new) where
-  abbrev is : IsWritingWithNodes f image w
+  abbrev is : IsWriting f image w
   is = safe.stands.is
 
   wide : 256 ≤ f.layout.journal
@@ -291,7 +290,7 @@ module _ (laws : ImageLaws) (f : Found) (image : Image) (w : Writing) (asked n :
       (held (subst (λ m. HoldsParts ring m (as_read (now old))) (sym r.written_is) (of_ring f.layout w n ring r n (as_read (now old)) safe.stands.stand)) refl))
   stand_by (Some dev) held = others_stay
 
-  pub written_on : All IsDisk (now new) → AreSteady new → IsSafeWithNodes f image (Some w) (n + 1) (standing_by failed n) bases durable first new
+  pub written_on : All IsDisk (now new) → AreSteady new → IsJournalSafe f image (Some w) (n + 1) (standing_by failed n) bases durable first new
   written_on are steady = journal_safe_on laws f image (Some w) asked n bases durable first old safe new (IsPartPlace ring) (IsPartAsked ring) writes.at (n + 1) harmless
       (sizes_kept f image (Some w) asked n first old safe.stands new (IsPartPlace ring) (IsPartAsked ring) writes.at (n + 1) harmless steady (λ dev block hit. let at = hit.1 in let same = place_is f.layout w n ring r in omega (arith, at, same, wide)))
       (standing_by failed n) are (stand_by failed writes.held)
@@ -305,9 +304,9 @@ last_or_before [] y (suc k) m there = absurd (none-some m there)
 last_or_before (x ∷ xs) y zero m there = inl there
 last_or_before (x ∷ xs) y (suc k) m there = last_or_before xs y k m there
 
-module _ (laws : ImageLaws) (f : Found) (image : Image) (w : Writing) (asked n : ℕ) (bases : List Found) (durable : List ℕ) (first : ℕ) (state : DevicesState) (safe : IsSafeWithNodes f image (Some w) asked n bases durable first state) (all : n ≡ length w.blocks)
+module _ (laws : ImageLaws) (f : Found) (image : Image) (w : Writing) (asked n : ℕ) (bases : List Found) (durable : List ℕ) (first : ℕ) (state : DevicesState) (safe : IsJournalSafe f image (Some w) asked n bases durable first state) (all : n ≡ length w.blocks)
     (settled : AreSettled f.layout.metadata_replicas (now state)) where
-  abbrev it : IsWritingWithNodes f image w
+  abbrev it : IsWriting f image w
   it = safe.stands.is
 
   abbrev reads : Image
@@ -372,7 +371,7 @@ module _ (laws : ImageLaws) (f : Found) (image : Image) (w : Writing) (asked n :
     count = length_push safe.bases_are.before f ∙ ap (λ c. c + 1) safe.bases_are.count ∙ sym (length_push durable state.moment);
   }
 
-  pub settled_on : IsSafeWithNodes (after w f) reads None 0 0 bases (durable ++ state.moment ∷ []) first state
+  pub settled_on : IsJournalSafe (after w f) reads None 0 0 bases (durable ++ state.moment ∷ []) first state
   settled_on = record {
     stands = record {
       finds = finds_it;
@@ -417,11 +416,11 @@ module _ (laws : ImageLaws) (f : Found) (image : Image) (w : Writing) (asked n :
 -- ---- the image is taken as it is read
 
 -- While no entry is written, what was found stands on what is read now as on the image.
-module _ (laws : ImageLaws) (f : Found) (image : Image) (bases : List Found) (durable : List ℕ) (first : ℕ) (state : DevicesState) (safe : IsSafeWithNodes f image None 0 0 bases durable first state) where
+module _ (laws : ImageLaws) (f : Found) (image : Image) (bases : List Found) (durable : List ℕ) (first : ℕ) (state : DevicesState) (safe : IsJournalSafe f image None 0 0 bases durable first state) where
   agrees_read : AgreesBut f (IsAsked f.layout None 0) image (as_read (now state))
   agrees_read = safe.stands.crashes (as_read (now state)) (as_read_may_be_left (now state) safe.stands.disks)
 
-  pub rebased : IsSafeWithNodes f (as_read (now state)) None 0 0 bases durable first state
+  pub rebased : IsJournalSafe f (as_read (now state)) None 0 0 bases durable first state
   rebased =
       let meant = meant_again laws f image safe.stands.finds safe.stands.in_order (as_read (now state)) agrees_read in
       let area = same_area laws f image safe.stands.finds safe.stands.in_order (as_read (now state)) agrees_read in
@@ -455,12 +454,12 @@ module _ (laws : ImageLaws) (f : Found) (image : Image) (bases : List Found) (du
 
 -- ---- what a crash leaves now
 
-pub means_now : ImageLaws → (f : Found) (image : Image) (writing : Option Writing) (asked written : ℕ) (bases : List Found) (durable : List ℕ) (first : ℕ) (state : DevicesState) → IsSafeWithNodes f image writing asked written bases durable first state
+pub means_now : ImageLaws → (f : Found) (image : Image) (writing : Option Writing) (asked written : ℕ) (bases : List Found) (durable : List ℕ) (first : ℕ) (state : DevicesState) → IsJournalSafe f image writing asked written bases durable first state
     → (other : Image) → IsCrashImage (now state) other → IsUntorn f.layout first state.moment state other → MeansOneOf (meant_by f writing) [] state.moment other
 means_now laws f image writing asked written bases durable first state safe other may untorn =
     one_of f writing (meant_by f writing) [] (record { before = []; are = refl; count = refl }) state.moment other
     (meaning laws f image writing safe.stands.finds safe.stands.in_order safe.stands.numbered safe.stands.is asked other (now state) (safe.stands.crashes other may) (safe.stands.nodes other may) (safe.stands.held untorn.reads) untorn.left)
 
-pub whole_now : ImageLaws → (f : Found) (image : Image) (writing : Option Writing) (asked written : ℕ) (bases : List Found) (durable : List ℕ) (first : ℕ) (state : DevicesState) → IsSafeWithNodes f image writing asked written bases durable first state
+pub whole_now : ImageLaws → (f : Found) (image : Image) (writing : Option Writing) (asked written : ℕ) (bases : List Found) (durable : List ℕ) (first : ℕ) (state : DevicesState) → IsJournalSafe f image writing asked written bases durable first state
     → (other : Image) → IsCrashImage (now state) other → (index : ℕ) → index < length f.needed → StandsOnAll f.layout other (get_or f.needed index f.last)
 whole_now laws f image writing asked written bases durable first state safe other may = whole_again laws image other f safe.stands.finds (safe.stands.crashes other may).base safe.stands.whole

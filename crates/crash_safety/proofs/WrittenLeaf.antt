@@ -10,11 +10,11 @@ use Rattle.dev_model.specs.Devices.{DevicesState, now}
 use Rattle.dev_model.specs.Disk.{Image, IsDisk}
 use Rattle.image_view.specs.Found.{Found, IsMirrored, node_places}
 use Rattle.image_view.specs.Trees.{nodes_of}
-use Rattle.crash_safety.specs.Elsewhere.{IsElsewhere, IsOutside}
-use Rattle.crash_safety.specs.NodeWritings.{IsElsewhereOfBoth, IsSafeWithNodes}
-use Rattle.crash_safety.specs.Parts.{standing_by}
+use Rattle.crash_safety.specs.Elsewhere.{IsElsewhere, IsElsewhereOfBoth, IsOutside}
+use Rattle.crash_safety.specs.Safety.{IsJournalSafe}
 use Rattle.crash_safety.specs.Writings.{Writing, after}
-use Rattle.crash_safety.specs.Leaves.{AreApart as AreInOwnBuckets, AreNodesApart, IsFirstBlock, KeepsOff, StandsAsLeaf}
+use Rattle.crash_safety.specs.Parts.{standing_by}
+use Rattle.crash_safety.specs.Leaves.{AreInOwnBuckets, AreNodesApart, IsFirstBlock, KeepsOff, StandsAsLeaf}
 use Rattle.crash_safety.specs.NodeParts.{AreElsewhere, IsNodePartWritten, StandParts}
 use Rattle.node_store.specs.NodeContents.{NodeContent}
 use Rattle.node_store.specs.Writes.{IsCopyOf}
@@ -42,8 +42,8 @@ pub record PartLaws : Type 0 where
   pub failed : (layout : Layout) (fresh : NodePtr) (blocked : Blocked) (part : ℕ) (failed : Option ℕ) (old new : DevicesState) → IsMirrored layout fresh → blocked.places ≡ fresh.places → IsNodePartWritten blocked part failed old new
       → StandParts blocked part old → StandParts blocked part new
   pub safe : (f : Found) (image : Image) (writing : Option Writing) (asked written : ℕ) (bases : List Found) (durable : List ℕ) (first : ℕ) (old new : DevicesState) (blocked : Blocked) (part : ℕ) (failed : Option ℕ)
-      → IsSafeWithNodes f image writing asked written bases durable first old → AreElsewhere f writing blocked.places → blocked.block + part < bucket_blocks → IsNodePartWritten blocked part failed old new → All IsDisk (now new)
-      → IsSafeWithNodes f image writing asked written bases durable first new
+      → IsJournalSafe f image writing asked written bases durable first old → AreElsewhere f writing blocked.places → blocked.block + part < bucket_blocks → IsNodePartWritten blocked part failed old new → All IsDisk (now new)
+      → IsJournalSafe f image writing asked written bases durable first new
 
 -- The blocks of a leaf that lies apart from all nodes that were found lie elsewhere.
 lies_elsewhere : PartLaws → (f : Found) (node : NodePtr) → All (MayHoldNode f.layout) node.places → All (MayHoldNode f.layout) (node_places f) → All (LieApart node) (nodes_of f.trees.nodes)
@@ -199,6 +199,6 @@ module _ (laws : PartLaws) (f : Found) (writing : Option Writing) (old new : Dev
     lie = lie;
   }
 
-  pub written_safely : (image : Image) (asked count : ℕ) (bases : List Found) (durable : List ℕ) (first : ℕ) → IsSafeWithNodes f image writing asked count bases durable first old → All IsDisk (now new)
-      → IsSafeWithNodes f image writing asked count bases durable first new
+  pub written_safely : (image : Image) (asked count : ℕ) (bases : List Found) (durable : List ℕ) (first : ℕ) → IsJournalSafe f image writing asked count bases durable first old → All IsDisk (now new)
+      → IsJournalSafe f image writing asked count bases durable first new
   written_safely image asked count bases durable first safe are = laws.safe f image writing asked count bases durable first old new fresh.blocked fresh.written failed safe elsewhere low is are

@@ -1,7 +1,7 @@
 -- A volume each of whose btrees is one leaf, while leaves are written into new buckets.
 use Rattle.std.specs.Prelude.{ℕ, ◌==◌, if◌then◌else◌, Option, List, [], ◌∷◌, Contains}
 use Rattle.std.specs.List.{flat_map}
-use Rattle.bucket_pool.specs.NodeBuckets.{AreApart}
+use Rattle.bucket_pool.specs.NodeBuckets.{AreInOtherBuckets}
 use Rattle.bucket_pool.specs.Space.{Space}
 use Rattle.node_store.specs.declared.planning.Blocked.{Blocked}
 use Rattle.vol_types.specs.Btrees.{btree_code}
@@ -27,7 +27,7 @@ pub record Leaves : Type 0 where
 
 -- Each place of the one node lies in another bucket than each of the other.
 abbrev pub LieApart : NodePtr → NodePtr → Type 0
-LieApart one other = (place another : Place) → Contains one.places place → Contains other.places another → AreApart place another
+LieApart one other = (place another : Place) → Contains one.places place → Contains other.places another → AreInOtherBuckets place another
 
 -- what is known of a btree, where it is this one, and else what was known
 abbrev pub with_btree : {A : Type 0} → Btree → A → (Btree → A) → Btree → A

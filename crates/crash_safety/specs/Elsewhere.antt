@@ -1,11 +1,12 @@
--- Writes of nodes and of files while entries of the journal are written: none of their places counts for what was found.
-use Rattle.std.specs.Prelude.{◌≡◌, ◌⊎◌, ℕ, ◌+◌, ◌<◌, ◌≤◌, List, length, map, All, Contains}
+-- Writes of nodes and of files while entries of the journal are written: none of their places counts for what was found, nor for the entry.
+use Rattle.std.specs.Prelude.{◌≡◌, ◌⊎◌, ℕ, ◌+◌, ◌<◌, ◌≤◌, List, length, map, All, Contains, Option, Some, None}
 use Rattle.dev_model.specs.Devices.{DevicesState, now}
 use Rattle.dev_model.specs.Disk.{Image, IsCrashImage, as_read}
 use Rattle.image_view.specs.Found.{Found}
 use Rattle.image_view.specs.Trees.{nodes_of}
 use Rattle.vol_types.specs.Limits.{bucket_blocks}
 use Rattle.vol_types.specs.declared.pointers.Place.{Place}
+use Rattle.crash_safety.specs.Writings.{Writing, after}
 
 -- It is one of these places.
 abbrev pub IsOneOf : List Place → ℕ → ℕ → Type 0
@@ -25,6 +26,11 @@ pub record IsElsewhere (f : Found) (place : Place) : Type 0 where
   pub behind : 16 ≤ place.block
   pub journal : place.dev < f.layout.metadata_replicas → 16 + f.layout.journal ≤ place.block
   pub nodes : All (λ pointer. All (IsOutside place) pointer.places) (nodes_of f.trees.nodes)
+
+-- The place counts neither for what was found nor for the nodes of the entry that is written.
+abbrev pub IsElsewhereOfBoth : Found → Option Writing → Place → Type 0
+IsElsewhereOfBoth f None place = IsElsewhere f place
+IsElsewhereOfBoth f (Some w) place = IsElsewhere f place × IsElsewhere (after w f) place
 
 -- A crash leaves devices of the sizes that are read at first.
 abbrev pub KeepsSizes : DevicesState → DevicesState → Type 0

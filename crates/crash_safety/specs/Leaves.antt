@@ -33,14 +33,14 @@ abbrev pub IsFirstBlock : Place → Type 0
 IsFirstBlock place = place.block % bucket_blocks ≡ 0
 
 -- Two places are in buckets of their own.
-abbrev pub AreApart : Place → Place → Type 0
-AreApart place other = place.dev ≡ other.dev → place.block / bucket_blocks ≢ other.block / bucket_blocks
+abbrev pub AreInOwnBuckets : Place → Place → Type 0
+AreInOwnBuckets place other = place.dev ≡ other.dev → place.block / bucket_blocks ≢ other.block / bucket_blocks
 
 -- No bucket of the one node is a bucket of the other one.
 pub record AreNodesApart (one other : NodePtr) : Type 0 where
   pub first : All IsFirstBlock one.places
   pub second : All IsFirstBlock other.places
-  pub apart : All (λ place. All (AreApart place) other.places) one.places
+  pub apart : All (λ place. All (AreInOwnBuckets place) other.places) one.places
 
 -- The root is a leaf that stands on every metadata device: there its sets come to this content, and its copies are alike up to their end;
 -- it was born in a session up to this one, and lies where nodes may; and a crash leaves its buckets as they are read.

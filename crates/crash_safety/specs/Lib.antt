@@ -1,15 +1,16 @@
 pub mod CallLaws
+pub mod CheckpointLaws
 pub mod CheckpointLeaves
 pub mod Contents
 pub mod Elsewhere
 pub mod Flushes
+pub mod JournalLaws
 pub mod KeptLeaves
 pub mod LeafLaws
 pub mod LeafSteps
 pub mod Leaves
 pub mod Naming
 pub mod NodeParts
-pub mod NodeWritings
 pub mod Parts
 pub mod Safety
 pub mod Standing

@@ -3,9 +3,9 @@ use Rattle.std.specs.Prelude.{◌≡◌, ℕ, ◌+◌, ◌*◌, ◌<◌, ◌^◌
 use Rattle.dev_model.specs.Devices.{DevicesState, now}
 use Rattle.dev_model.specs.Disk.{as_read}
 use Rattle.image_view.specs.Found.{Found, IsMirrored}
-use Rattle.crash_safety.specs.NodeWritings.{IsElsewhereOfBoth}
-use Rattle.crash_safety.specs.Parts.{AsksAt}
+use Rattle.crash_safety.specs.Elsewhere.{IsElsewhereOfBoth}
 use Rattle.crash_safety.specs.Writings.{Writing}
+use Rattle.crash_safety.specs.Parts.{AsksAt}
 use Rattle.key_meaning.specs.Checks.{IsNodePlaced}
 use Rattle.node_mem.specs.Nodes.{with_keys}
 use Rattle.node_store.specs.NodeContents.{NodeContent}

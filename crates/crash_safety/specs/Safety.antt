@@ -29,7 +29,8 @@ pub record AreBases (f : Found) (writing : Option Writing) (bases : List Found) 
   pub are : bases ≡ before ++ meant_by f writing
   pub count : length before ≡ length durable
 
--- A journal is safe: so much of it stands on the devices, and whatever a crash has left meant one of these.
+-- A journal is safe while an entry is written, which may lead to new nodes: so much of it stands on the devices, and whatever a crash has
+-- left meant one of these.
 pub record IsJournalSafe (f : Found) (image : Image) (writing : Option Writing) (asked written : ℕ) (bases : List Found) (durable : List ℕ) (first : ℕ) (state : DevicesState) : Type 0 where
   pub stands : StandsOn f image writing asked written first state
   pub bases_are : AreBases f writing bases durable

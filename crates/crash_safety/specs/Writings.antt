@@ -1,13 +1,15 @@
--- The next entry of the journal while it is written.
+-- The next entry of the journal while it is written. It may lead to new nodes: these were written whole into buckets of their own.
 use Rattle.std.specs.Prelude.{◌≡◌, ℕ, List, [], ◌∷◌, ◌++◌, drop, Option, Some, None, Ok, ⊤}
 use Rattle.dev_model.specs.Disk.{Image}
-use Rattle.image_view.specs.Found.{Found, sets_in, updates_of}
+use Rattle.image_view.specs.Found.{Found, node_places, sets_in, updates_of}
 use Rattle.image_view.specs.Mends.{IsPlaceOf}
+use Rattle.image_view.specs.NewNodes.{AreNodesInOrder}
 use Rattle.image_view.specs.NextEntries.{IsNext, with_entry}
 use Rattle.image_view.specs.Trees.{TreesRead, trees_of}
 use Rattle.journal_ring.specs.EntryBlocks.{AreEntryBlocks, HoldBlocks}
 use Rattle.journal_ring.specs.Mending.{IsEntryBlock}
 use Rattle.journal_ring.specs.declared.found.FoundEntry.{FoundEntry}
+use Rattle.key_meaning.specs.Checks.{AreNodesPlaced}
 use Rattle.vol_types.specs.declared.layout.Layout.{Layout}
 
 -- an entry that is written: how many needed entries it passes, what it is, the btrees with it, and its blocks
@@ -22,13 +24,14 @@ abbrev pub after : Writing → Found → Found
 after w f = with_entry w.passed w.next w.trees f
 
 -- The entry may be written behind what was found in the image: it is a next one, these are its blocks, and the btrees with it are what
--- the entries that it needs, and it, mean over the image's sets. It has the nodes that were found, with the same ends.
+-- the entries that it needs, and it, mean over the image's sets. Its nodes, of which any may be new, are in order in the image, and lie
+-- where nodes may.
 pub record IsWriting (f : Found) (image : Image) (w : Writing) : Type 0 where
   pub next : IsNext f w.passed w.next
   pub sealed : AreEntryBlocks f.layout.id w.next.number w.next.entry w.blocks
   pub trees : trees_of (sets_in f.layout image) (updates_of (drop w.passed f.needed ++ w.next ∷ [])) w.next.entry.roots ≡ Ok w.trees
-  pub nodes : w.trees.nodes ≡ f.trees.nodes
-  pub ends : w.trees.ends ≡ f.trees.ends
+  pub in_order : AreNodesInOrder (after w f) image
+  pub placed : AreNodesPlaced (node_places (after w f)) f.layout
 
 -- It is the place of one of the first so many parts of the entry that is written, if one is.
 abbrev pub IsAsked : Layout → Option Writing → ℕ → ℕ → ℕ → Type 0

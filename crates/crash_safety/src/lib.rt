@@ -9,23 +9,19 @@
 #![tactic(auto)]
 
 mod apart;
-mod checkpoint_entries;
 mod checkpoints;
 mod entry_laws;
 mod laws;
 mod leaves;
 mod naming;
-mod node_laws;
 mod parts;
 mod safety;
 
 pub use apart::nodes_lie_apart;
-pub use checkpoint_entries::entries_of_leaves_are_safe;
-pub use checkpoints::leaves_are_written_safely;
+pub use checkpoints::{entries_of_leaves_are_safe, leaves_are_written_safely};
 pub use entry_laws::{entries_are_written_safely, flushed_devices_are_settled};
 pub use laws::nodes_hold_keys_up_to_an_entry;
 pub use leaves::leaves_stand;
 pub use naming::{found_roots_are_leaves, leaf_roots_are_named};
-pub use node_laws::entries_with_new_nodes_are_written_safely;
 pub use parts::node_parts_stand;
 pub use safety::node_parts_are_written_safely;

@@ -6,7 +6,7 @@ ghost use Rattle.image_view.specs.NextEntries.{IsNext};
 ghost use Rattle.image_view.specs.UpdatedTrees.{IsOfLeaf};
 ghost use Rattle.journal_ring.specs.EntryBlocks.{AreEntryBlocks};
 ghost use Rattle.journal_ring.specs.declared.found.FoundEntry.{FoundEntry as AFound};
-ghost use Rattle.crash_safety.specs.NodeWritings.{IsSafeWithNodes};
+ghost use Rattle.crash_safety.specs.Safety.{IsJournalSafe};
 ghost use Rattle.crash_safety.specs.Writings.{after};
 ghost use Rattle.node_store.specs.NodeContents.{NodeContent};
 ghost use Rattle.replay.specs.Mending.{HasMended};
@@ -17,7 +17,7 @@ ghost use Rattle.vol_types.specs.declared.positions.Btree.{Btree as ABtree};
 ghost use Rattle.crash_safety.specs.Leaves.{StandAsLeaves, leaf_keys};
 ghost use Rattle.crash_safety.specs.Naming.{LeadsToLeaves, leaf_writing};
 
-use crate::entries_with_new_nodes_are_written_safely;
+use crate::entries_are_written_safely;
 use image_view::{new_nodes_hold_the_keys, updates_of_leaves_join_the_keys};
 use replay::found_btrees_are_a_key_map;
 
@@ -39,18 +39,18 @@ pub fn leaf_roots_are_named()
     ensures { (f : Found) (image : Image) (bases : List Found) (durable : List ℕ) (first : ℕ)
         (state : DevicesState) (roots : List ANode) (content : ABtree → NodeContent) (passed : ℕ)
         (next : AFound) (blocks : List (List ℕ))
-        → IsSafeWithNodes f image None 0 0 bases durable first state
+        → IsJournalSafe f image None 0 0 bases durable first state
         → StandAsLeaves f.layout f.session roots content state → IsNext f passed next
         → AreEntryBlocks f.layout.id next.number next.entry blocks → next.entry.roots ≡ roots
         → All IsOfLeaf (updates_of f.needed) → All IsOfLeaf next.entry.updates
         → ((btree : ABtree)
         → entries_of (with_updates (updates_of (drop passed f.needed)) (leaf_keys content)) btree
         ≡ entries_of f.trees.keys btree)
-        → IsSafeWithNodes f (as_read (now state))
+        → IsJournalSafe f (as_read (now state))
         (Some (leaf_writing f roots content passed next blocks)) 0 0
         (bases ++ after (leaf_writing f roots content passed next blocks) f ∷ []) durable first state }
 {
     new_nodes_hold_the_keys();
     updates_of_leaves_join_the_keys();
-    entries_with_new_nodes_are_written_safely();
+    entries_are_written_safely();
 }

@@ -107,6 +107,18 @@ fn put_count(into: &mut Bytes, count: usize) -> Result<(), AllocError> {
     into.extend_from_slice(&count.to_le_bytes())
 }
 
+fn put_set(into: &mut Bytes, btree: u8, set: &SetOf<'_>, devices: u8) -> Result<(), AllocError> {
+    into.extend_from_slice(&BIRTH.wrapping_add(set.count).to_le_bytes())?;
+    into.extend_from_slice(&[btree, set.level, 0, 0])?;
+    put_pos(into, set.least)?;
+    put_pos(into, set.greatest)?;
+    put_count(into, set.keys.len())?;
+    for key in set.keys {
+        put_key(into, *key, devices)?;
+    }
+    Ok(())
+}
+
 /// The payload of a set of a node of this btree.
 pub fn set_payload(
     alloc: Global,
@@ -115,14 +127,7 @@ pub fn set_payload(
     devices: u8,
 ) -> Result<Bytes, AllocError> {
     let mut payload = Bytes::new(alloc);
-    payload.extend_from_slice(&BIRTH.wrapping_add(set.count).to_le_bytes())?;
-    payload.extend_from_slice(&[btree, set.level, 0, 0])?;
-    put_pos(&mut payload, set.least)?;
-    put_pos(&mut payload, set.greatest)?;
-    put_count(&mut payload, set.keys.len())?;
-    for key in set.keys {
-        put_key(&mut payload, *key, devices)?;
-    }
+    put_set(&mut payload, btree, set, devices)?;
     Ok(payload)
 }
 
@@ -143,22 +148,31 @@ fn put_more(into: &mut Bytes, sequence: u64, devices: u8) -> Result<(), AllocErr
     Ok(())
 }
 
+fn put_numbers(into: &mut Bytes, entry: &EntryOf<'_>) -> Result<(), AllocError> {
+    into.extend_from_slice(&entry.sequence.to_le_bytes())?;
+    into.extend_from_slice(&entry.oldest.to_le_bytes())?;
+    into.extend_from_slice(&entry.session.to_le_bytes())?;
+    into.extend_from_slice(&entry.commits.to_le_bytes())
+}
+
+fn put_entry(into: &mut Bytes, entry: &EntryOf<'_>, devices: u8) -> Result<(), AllocError> {
+    put_numbers(into, entry)?;
+    put_roots(into, entry.level, devices)?;
+    let more = if entry.is_long { 130 } else { 0 };
+    put_count(into, entry.updates.len().saturating_add(more))?;
+    for (level, change) in entry.updates {
+        into.extend_from_slice(&[COUNTERS, *level])?;
+        put_key(into, *change, devices)?;
+    }
+    if entry.is_long {
+        put_more(into, entry.sequence, devices)?;
+    }
+    Ok(())
+}
+
 /// The payload of an entry.
 pub fn entry_payload(alloc: Global, entry: &EntryOf<'_>, devices: u8) -> Result<Bytes, AllocError> {
     let mut payload = Bytes::new(alloc);
-    payload.extend_from_slice(&entry.sequence.to_le_bytes())?;
-    payload.extend_from_slice(&entry.oldest.to_le_bytes())?;
-    payload.extend_from_slice(&entry.session.to_le_bytes())?;
-    payload.extend_from_slice(&entry.commits.to_le_bytes())?;
-    put_roots(&mut payload, entry.level, devices)?;
-    let more = if entry.is_long { 130 } else { 0 };
-    put_count(&mut payload, entry.updates.len().saturating_add(more))?;
-    for (level, change) in entry.updates {
-        payload.extend_from_slice(&[COUNTERS, *level])?;
-        put_key(&mut payload, *change, devices)?;
-    }
-    if entry.is_long {
-        put_more(&mut payload, entry.sequence, devices)?;
-    }
+    put_entry(&mut payload, entry, devices)?;
     Ok(payload)
 }

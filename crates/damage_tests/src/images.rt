@@ -210,15 +210,45 @@ pub fn put_entry(
     stands: Stands,
 ) -> Result<(), Fail> {
     let payload = entry_payload(alloc, entry, devices.count())?;
-    let Ok(entry) = get_entry(alloc, payload.as_slice()) else {
-        return Err(Fail::from("it is no entry"));
-    };
-    let (mut written, parts) = with_entry(alloc, number, &entry)?;
+    match get_entry(alloc, payload.as_slice()) {
+        Ok(entry) => {
+            let put = put_read_entry(alloc, devices, number, &entry, stands);
+            drop(entry);
+            put
+        }
+        Err(_) => Err(Fail::from("it is no entry")),
+    }
+}
+
+fn put_read_entry(
+    alloc: Global,
+    devices: &mut MemDevices,
+    number: u64,
+    entry: &EntryRecord,
+    stands: Stands,
+) -> Result<(), Fail>
+    requires { IsEntryInRange entry.now }
+{
+    let (mut written, parts) = with_entry(alloc, number, entry)?;
+    let copied = copy_parts(alloc, &mut written, devices, number, parts, stands);
+    drop(written);
+    copied
+}
+
+// Copies the parts that stand there from the first device of those on which a ring has written them.
+fn copy_parts(
+    alloc: Global,
+    written: &mut MemDevices,
+    devices: &mut MemDevices,
+    number: u64,
+    parts: u64,
+    stands: Stands,
+) -> Result<(), Fail> {
     for dev in 0..devices.count() {
         for part in 0..parts.min(8) as u8 {
             if has_bit(stands.devices, dev) && has_bit(stands.parts, part) {
                 let block = ring_block(number.wrapping_add(u64::from(part)));
-                copy_block(alloc, &mut written, block, devices, dev)?;
+                copy_block(alloc, written, block, devices, dev)?;
             }
         }
     }
@@ -247,52 +277,64 @@ pub const FIRST: EntryOf<'static> = EntryOf {
     updates: &[],
 };
 
+fn put_volume(alloc: Global, made: &mut MemDevices) -> Result<(), Fail> {
+    for btree in 0..9 {
+        let bucket = 272 + 16 * u32::from(btree);
+        let root = empty_root(u64::from(btree));
+        put_btree(alloc, made, btree, bucket, 0, &root)?;
+    }
+    put_entry(alloc, made, 0, &FIRST, EVERYWHERE)?;
+    put_session(alloc, made)?;
+    put_supers(alloc, made)
+}
+
 /// A volume as a format makes it, but without a key: nine empty roots, the first entry under number 0, session 1, and the
 /// superblocks.
 pub fn formatted(alloc: Global, devices: u8) -> Result<MemDevices, Fail> {
     let sizes: &[u32] = if devices == 2 { &[1024, 1024] } else { &[1024] };
     let mut made = MemDevices::blank(alloc, sizes)?;
-    for btree in 0..9 {
-        let bucket = 272 + 16 * u32::from(btree);
-        put_btree(
-            alloc,
-            &mut made,
-            btree,
-            bucket,
-            0,
-            &empty_root(u64::from(btree)),
-        )?;
+    match put_volume(alloc, &mut made) {
+        Ok(()) => Ok(made),
+        Err(fail) => {
+            drop(made);
+            Err(fail)
+        }
     }
-    put_entry(alloc, &mut made, 0, &FIRST, EVERYWHERE)?;
-    put_session(alloc, &mut made)?;
-    put_supers(alloc, &mut made)?;
-    Ok(made)
 }
 
-// The bytes of all blocks of the first device.
-fn image_of(alloc: Global, devices: &mut MemDevices) -> Result<Vec<u8>, Fail> {
+// Appends a block of the first device.
+fn add_block(
+    alloc: Global,
+    devices: &mut MemDevices,
+    block: u32,
+    image: &mut Vec<u8>,
+) -> Result<(), Fail> {
+    let bytes = block_of(alloc, devices, 0, block)?;
+    image.extend_from_slice(&bytes)?;
+    Ok(())
+}
+
+// The digest of all blocks of the first device.
+fn image_digest(alloc: Global, devices: &mut MemDevices) -> Result<[u8; 32], Fail> {
     let mut image = Vec::new(alloc);
     for block in 0..1024 {
-        let bytes = block_of(alloc, devices, 0, block)?;
-        image.extend_from_slice(&bytes)?;
+        add_block(alloc, devices, block, &mut image)?;
     }
-    Ok(image)
+    Ok(digest(&image))
 }
 
 // The digest was computed by Python's hashlib over the 4 MiB that its struct module packed by the tables of the format: the
 // superblock in blocks 0 and 8, the session in block 5, the first entry in block 16, and the root of btree c in block 272 + 16 c.
+static KNOWN_DIGEST: [u8; 32] = [
+    0x56, 0xbd, 0xf9, 0x8f, 0x20, 0x47, 0x61, 0xbd, 0xd5, 0x12, 0x6d, 0xaa, 0x74, 0x35, 0xd1, 0x4d,
+    0xe3, 0x7f, 0x54, 0x85, 0xab, 0x3a, 0x34, 0xef, 0xbe, 0xf9, 0xe4, 0x7f, 0x5f, 0xd9, 0x62, 0x82,
+];
+
 #[test]
 fn known_image(rt: HostRuntime) -> Result<(), Fail> {
-    let alloc = rt.alloc();
-    let mut devices = formatted(alloc, 1)?;
-    let image = image_of(alloc, &mut devices)?;
-    assert!(rt;
-        digest(&image)
-            == [
-                0x56, 0xbd, 0xf9, 0x8f, 0x20, 0x47, 0x61, 0xbd, 0xd5, 0x12, 0x6d, 0xaa, 0x74, 0x35,
-                0xd1, 0x4d, 0xe3, 0x7f, 0x54, 0x85, 0xab, 0x3a, 0x34, 0xef, 0xbe, 0xf9, 0xe4, 0x7f,
-                0x5f, 0xd9, 0x62, 0x82,
-            ]
-    );
+    let mut devices = formatted(rt.alloc(), 1)?;
+    let found = image_digest(rt.alloc(), &mut devices);
+    drop(devices);
+    assert!(rt; found? == KNOWN_DIGEST);
     Ok(())
 }

@@ -31,14 +31,20 @@ fn head_of(kind: u8, owner: u64, number: u64, sequence: u64) -> Head {
 // The payload of a device's superblock, with so many bytes behind it.
 fn super_payload(alloc: Global, dev: u8, more: usize) -> Result<Bytes, AllocError> {
     let mut payload = Bytes::new(alloc);
-    payload.extend_from_slice(&[2, dev, 2, 1])?;
-    for number in [256u32, 1024, 1024] {
-        payload.extend_from_slice(&number.to_le_bytes())?;
-    }
-    for _ in 0..more {
-        payload.push(0)?;
-    }
+    put_super_payload(&mut payload, dev, more)?;
     Ok(payload)
+}
+
+// Two devices, the number of this one, metadata on both and one copy of data; the journal area, and the blocks of each device.
+static LAYOUT: [u8; 12] = [0, 1, 0, 0, 0, 4, 0, 0, 0, 4, 0, 0];
+
+fn put_super_payload(into: &mut Bytes, dev: u8, more: usize) -> Result<(), AllocError> {
+    into.extend_from_slice(&[2, dev, 2, 1])?;
+    into.extend_from_slice(&LAYOUT)?;
+    for _ in 0..more {
+        into.push(0)?;
+    }
+    Ok(())
 }
 
 // Puts a copy of the superblock of a device into a block, with so many bytes behind its payload.

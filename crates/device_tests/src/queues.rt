@@ -1,10 +1,10 @@
 //! Entries that are filled to the last byte, and random commits beside a plain table, with updates taken back.
 
-ghost use Rattle.std.specs.Prelude.{◌≡◌, ◌↔◌, ◌+◌, ◌<◌, ◌^◌, All, IsTrue, true};
+ghost use Rattle.std.specs.Prelude.{◌≡◌, ◌↔◌, ◌+◌, ◌<◌, ◌≤◌, ◌^◌, All, IsTrue, true};
 ghost use Rattle.vol_types.specs.Positions.{is_within};
 ghost use Rattle.vol_types.specs.Ranges.{IsKeyValue};
 ghost use Rattle.vol_types.specs.Standing.{IsUpdate};
-ghost use Rattle.journal_writer.specs.Queues.{AreChanges, HasNumbers};
+ghost use Rattle.journal_writer.specs.Queues.{AreChanges, HasNumbers, blocks_with};
 
 use journal_writer::{EntryQueue, KeyChanges};
 use node_mem::NodeMem;
@@ -104,7 +104,17 @@ fn may_be_made(queue: &EntryQueue, changes: &KeyChanges, counted: bool) -> bool
     if !queue.fits(updates) {
         return false;
     }
-    queue.has_numbers(updates, counted)
+    has_numbers_for(queue, updates, counted)
+}
+
+// Whether the numbers are left that the entries take with these updates.
+fn has_numbers_for(queue: &EntryQueue, updates: &[Update], counted: bool) -> bool
+    requires updates { All IsUpdate updates.now }
+    requires few { blocks_with queue.now.queue.mirrors updates.now ≤ 64 }
+    ensures { IsTrue result ↔ HasNumbers updates.now counted queue.now.queue }
+{
+    let size = queue.size_of(updates);
+    queue.has_numbers(size, counted)
 }
 
 // Makes a commit, and gives by how many blocks the entries grow; or none where it may not be made.
@@ -116,10 +126,10 @@ fn commit(
     if !may_be_made(queue, &changes, counted) {
         return Ok(None);
     }
-    let growth = queue.growth(changes.updates.as_slice());
-    queue.reserve(changes.updates.as_slice())?;
-    queue.join(changes, counted);
-    Ok(Some(growth))
+    let size = queue.size_of(changes.updates.as_slice());
+    queue.reserve(changes.updates.as_slice(), size)?;
+    queue.join(changes, size, counted);
+    Ok(Some(size.blocks))
 }
 
 // A commit, and what is there after it.

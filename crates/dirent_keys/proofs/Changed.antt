@@ -13,8 +13,8 @@ use Rattle.key_steps.specs.Names.{AddsName, TakesName}
 use Rattle.vol_types.specs.Ranges.{name_cmp}
 use Rattle.vol_types.specs.declared.values.Link.{Link}
 
--- each member of a list is one of it
-all_in_it : (xs : List Link) → All (λ (x : Link). IsIn x xs) xs
+-- Each member of a list is one of it.
+pub all_in_it : (xs : List Link) → All (λ (x : Link). IsIn x xs) xs
 all_in_it [] = All-nil (λ (x : Link). IsIn x [])
 all_in_it (x ∷ xs) = All-cons (λ (y : Link). IsIn y (x ∷ xs)) x xs (inl refl) (All-weaker (λ (y : Link). IsIn y xs) (λ (y : Link). IsIn y (x ∷ xs)) (λ (y : Link) (is : IsIn y xs). inr is) xs (all_in_it xs))
 

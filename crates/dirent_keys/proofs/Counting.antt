@@ -52,7 +52,8 @@ found_numbered name (link ∷ links) = by (is_eq (name_cmp name link.name)) (fou
     by true later = refl
     by false later = later
 
-keys_filtered : (p : List ℕ → Bool) (names : Names) → keys_of (filter (λ entry. p entry.0) names) ≡ filter p (keys_of names)
+-- The names of the entries that pass are those that pass.
+pub keys_filtered : (p : List ℕ → Bool) (names : Names) → keys_of (filter (λ entry. p entry.0) names) ≡ filter p (keys_of names)
 keys_filtered p [] = refl
 keys_filtered p (entry ∷ names) = by (p entry.0) (keys_filtered p names)
   where
@@ -61,47 +62,46 @@ keys_filtered p (entry ∷ names) = by (p entry.0) (keys_filtered p names)
     by true later = ap (λ rest. entry.0 ∷ rest) later
     by false later = later
 
--- a name of another slot isn't among those that stand under theirs
-none_of_slot : (slot : ℕ) (name : List ℕ) (links : List Link) → All (λ link. slot_of link.name ≡ slot) links → (slot_of name == slot) ≡ false → link_named name links ≡ None
+-- A name of another slot isn't among those that stand under theirs.
+pub none_of_slot : (slot : ℕ) (name : List ℕ) (links : List Link) → All (λ link. slot_of link.name ≡ slot) links → (slot_of name == slot) ≡ false → link_named name links ≡ None
 none_of_slot slot name [] all apart = refl
 none_of_slot slot name (link ∷ links) all apart =
     ap (λ b. cond b (Some link) (link_named name links)) (other_name name link.name (λ same. true≢false (sym (eq-eqb (slot_of name) slot (ap slot_of same ∙ All-head (λ (l : Link). slot_of l.name ≡ slot) link links all)) ∙ apart)))
     ∙ none_of_slot slot name links (All-tail (λ (l : Link). slot_of l.name ≡ slot) link links all) apart
 
-module _ (keys : KeyMap) (id directory slot : ℕ) (rise : Rise name_cmp (map (λ link. link.name) (links_in keys id directory slot))) (under : All (λ link. slot_of link.name ≡ slot) (links_in keys id directory slot)) where
-  abbrev of_slot : Names
-  of_slot = filter (λ entry. slot_of entry.0 == slot) (names_in keys id directory)
+-- Names are as many under a slot as links whose names rise, where each name of the slot leads where it does among the links, and no
+-- other name is among them.
+pub counted_as : (names : Names) (links : List Link) (slot : ℕ) → IsMap name_cmp names → Rise name_cmp (map (λ link. link.name) links)
+    → ((name : List ℕ) → cond (slot_of name == slot) (value_at name_cmp name names) None ≡ option_map (λ (link : Link). link.number) (link_named name links)) → count_in_slot slot names ≡ length links
+counted_as names links slot rises rise led =
+    sym (length-filter (λ (entry : List ℕ × ℕ). slot_of entry.0 == slot) names)
+    ∙ ap length (same_maps nat_list_cmp_total exact_bytes (filter (λ (entry : List ℕ × ℕ). slot_of entry.0 == slot) names) (numbered links)
+    (subst (IsStrictlySortedBy name_cmp) (sym (keys_filtered (λ n. slot_of n == slot) names)) (IsStrictlySortedBy-filter name_cmp (λ n. slot_of n == slot) (keys_of names) rises))
+    (subst (IsStrictlySortedBy name_cmp) (sym (keys_numbered links)) (sorted-from_Rise name_cmp nat_list_cmp_total (map (λ (link : Link). link.name) links) rise))
+    (λ name. lookup-filter-keys (is_at (name_cmp name)) (λ n. slot_of n == slot) (slot_of name == slot) (λ k found. ap (λ n. slot_of n == slot) (sym (one_name name k found))) names ∙ led name ∙ sym (found_numbered name links)))
+    ∙ length_numbered links
 
-  of_slot_rise : IsMap name_cmp of_slot
-  of_slot_rise = subst (IsStrictlySortedBy name_cmp) (sym (keys_filtered (λ n. slot_of n == slot) (names_in keys id directory))) (IsStrictlySortedBy-filter name_cmp (λ n. slot_of n == slot) (keys_of (names_in keys id directory)) (names_rise keys id directory))
-
-  links_rise : IsMap name_cmp (numbered (links_in keys id directory slot))
-  links_rise = subst (IsStrictlySortedBy name_cmp) (sym (keys_numbered (links_in keys id directory slot))) (sorted-from_Rise name_cmp nat_list_cmp_total (map (λ (link : Link). link.name) (links_in keys id directory slot)) rise)
-
-  same_number : (name : List ℕ) → value_at name_cmp name of_slot ≡ value_at name_cmp name (numbered (links_in keys id directory slot))
-  same_number name =
-      lookup-filter-keys (is_at (name_cmp name)) (λ n. slot_of n == slot) (slot_of name == slot) (λ k found. ap (λ n. slot_of n == slot) (sym (one_name name k found))) (names_in keys id directory)
-      ∙ ap (λ o. cond (slot_of name == slot) o None) (name_at keys id directory name)
-      ∙ by (slot_of name == slot) refl
-      ∙ sym (found_numbered name (links_in keys id directory slot))
+module _ (keys : KeyMap) (id directory slot : ℕ) (under : All (λ link. slot_of link.name ≡ slot) (links_in keys id directory slot)) where
+  -- A name of the slot leads where it does among those that show under it.
+  pub led_in_slot : (name : List ℕ) → cond (slot_of name == slot) (value_at name_cmp name (names_in keys id directory)) None ≡ option_map (λ (link : Link). link.number) (link_named name (links_in keys id directory slot))
+  led_in_slot name = ap (λ o. cond (slot_of name == slot) o None) (name_at keys id directory name) ∙ by (slot_of name == slot) refl
     where
       by : (b : Bool) → (slot_of name == slot) ≡ b → cond b (number_in keys id directory name) None ≡ option_map (λ (link : Link). link.number) (link_named name (links_in keys id directory slot))
       by true at = ap (λ s. option_map (λ (link : Link). link.number) (link_named name (links_in keys id directory s))) (eqb-true (slot_of name) slot at)
       by false at = sym (ap (option_map (λ (link : Link). link.number)) (none_of_slot slot name (links_in keys id directory slot) under at))
 
-  -- The names of a slot are those that show under it.
-  pub counted : count_in_slot slot (names_in keys id directory) ≡ length (links_in keys id directory slot)
-  counted =
-      sym (length-filter (λ (entry : List ℕ × ℕ). slot_of entry.0 == slot) (names_in keys id directory))
-      ∙ ap length (same_maps nat_list_cmp_total exact_bytes of_slot (numbered (links_in keys id directory slot)) of_slot_rise links_rise same_number)
-      ∙ length_numbered (links_in keys id directory slot)
+-- The names of a slot are those that show under it.
+pub counted : (keys : KeyMap) (id directory slot : ℕ) → Rise name_cmp (map (λ link. link.name) (links_in keys id directory slot)) → All (λ link. slot_of link.name ≡ slot) (links_in keys id directory slot)
+    → count_in_slot slot (names_in keys id directory) ≡ length (links_in keys id directory slot)
+counted keys id directory slot rise under = counted_as (names_in keys id directory) (links_in keys id directory slot) slot (names_rise keys id directory) rise (led_in_slot keys id directory slot under)
 
-mapped : {A B : Type 0} (f : A → B) (o : Option A) → is_some (option_map f o) ≡ is_some o
+-- A choice is as much there after it was mapped.
+pub mapped : {A B : Type 0} (f : A → B) (o : Option A) → is_some (option_map f o) ≡ is_some o
 mapped f None = refl
 mapped f (Some x) = refl
 
 -- the refusals in their order
-abbrev chain : Bool → Bool → Result (Unit {0}) Cause
+abbrev pub chain : Bool → Bool → Result (Unit {0}) Cause
 chain there many = do
   _ ← refused_if there causes.Exists
   refused_if many causes.Crowded

@@ -1,9 +1,15 @@
+pub mod Behind
+pub mod Bounds
 pub mod Changed
 pub mod Counting
 pub mod Listed
 pub mod Looks
+pub mod MoveRefusals
+pub mod MoveSteps
+pub mod Moved
 pub mod Ordered
 pub mod Seeing
 pub mod Sounding
 pub mod Stepping
 pub mod Taking
+pub mod Walked

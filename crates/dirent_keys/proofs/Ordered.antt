@@ -65,6 +65,38 @@ sorted_without name (link ∷ links) sorted = by (is_eq (name_cmp name link.name
     by true later = later
     by false later = (names_without (λ y. name_cmp link.name y ≡ Less) name links sorted.0, later)
 
+-- A name below all others stands in front of them.
+in_front : (link : Link) (links : List Link) → AllByRecursion (λ y. name_cmp link.name y ≡ Less) (names_of links) → with_link link links ≡ link ∷ links
+in_front link [] all = refl
+in_front link (other ∷ links) all = ap (λ o. cond (is_lt o) (link ∷ other ∷ links) (other ∷ with_link link links)) all.0
+
+-- Of names that rise, one more and another one less come to the same in either order.
+commuting : (link : Link) (name : List ℕ) → is_eq (name_cmp name link.name) ≡ false → (links : List Link) → IsStrictlySortedBy name_cmp (names_of links) → without_name name (with_link link links) ≡ with_link link (without_name name links)
+unfolding IsStrictlySortedBy
+commuting link name apart [] sorted = ap (λ b. cond (not b) (link ∷ []) []) apart
+commuting link name apart (other ∷ links) sorted = by (name_cmp link.name other.name) refl (is_eq (name_cmp name other.name)) refl (commuting link name apart links sorted.1)
+  where
+    rest : List Link
+    rest = without_name name links
+
+    by : (r : Ordering) → name_cmp link.name other.name ≡ r → (same : Bool) → is_eq (name_cmp name other.name) ≡ same → without_name name (with_link link links) ≡ with_link link rest
+        → without_name name (cond (is_lt r) (link ∷ other ∷ links) (other ∷ with_link link links)) ≡ with_link link (cond (not same) (other ∷ rest) rest)
+    by Less is false at later =
+        (λ i. cond (not (apart i)) (link ∷ cond (not (at i)) (other ∷ rest) rest) (cond (not (at i)) (other ∷ rest) rest))
+        ∙ sym (ap (λ o. cond (is_lt o) (link ∷ other ∷ rest) (other ∷ with_link link rest)) is)
+    by Less is true at later =
+        (λ i. cond (not (apart i)) (link ∷ cond (not (at i)) (other ∷ rest) rest) (cond (not (at i)) (other ∷ rest) rest))
+        ∙ sym (in_front link rest (names_without (λ y. name_cmp link.name y ≡ Less) name links (above_lower link.name other.name (names_of links) is sorted.0)))
+    by Equal is false at later = ap (λ b. cond (not b) (other ∷ without_name name (with_link link links)) (without_name name (with_link link links))) at ∙ ap (λ ls. other ∷ ls) later
+        ∙ sym (ap (λ o. cond (is_lt o) (link ∷ other ∷ rest) (other ∷ with_link link rest)) is)
+    by Equal is true at later = ap (λ b. cond (not b) (other ∷ without_name name (with_link link links)) (without_name name (with_link link links))) at ∙ later
+    by Greater is false at later = ap (λ b. cond (not b) (other ∷ without_name name (with_link link links)) (without_name name (with_link link links))) at ∙ ap (λ ls. other ∷ ls) later
+        ∙ sym (ap (λ o. cond (is_lt o) (link ∷ other ∷ rest) (other ∷ with_link link rest)) is)
+    by Greater is true at later = ap (λ b. cond (not b) (other ∷ without_name name (with_link link links)) (without_name name (with_link link links))) at ∙ later
+
+pub added_then_taken : (link : Link) (name : List ℕ) (links : List Link) → is_eq (name_cmp name link.name) ≡ false → Rise name_cmp (map (λ l. l.name) links) → without_name name (with_link link links) ≡ with_link link (without_name name links)
+added_then_taken link name links apart rise = commuting link name apart links (sorted-from_Rise name_cmp nat_list_cmp_total (names_of links) rise)
+
 -- There is one name more,
 pub count_with : (link : Link) (links : List Link) → length (with_link link links) ≡ 1 + length links
 count_with link [] = refl
@@ -100,6 +132,10 @@ all_without P name (link ∷ links) all = by (is_eq (name_cmp name link.name)) (
     by true later = later
     by false later = All-cons P link (without_name name links) (All-head P link links all) later
 
+-- The names that are left rise.
+pub rise_without : (name : List ℕ) (links : List Link) → Rise name_cmp (map (λ link. link.name) links) → Rise name_cmp (map (λ link. link.name) (without_name name links))
+rise_without name links rise = Rise-from_sorted name_cmp (names_of (without_name name links)) (sorted_without name links (sorted-from_Rise name_cmp nat_list_cmp_total (names_of links) rise))
+
 -- The names of a slot may stand there, or there are none.
 pub record MayShare (links : List Link) : Type 0 where
   pub count : length links ≤ 8
@@ -119,5 +155,5 @@ pub are_links_without : (name : List ℕ) (links : List Link) → MayShare links
 are_links_without name links may some = record {
   count = (some, omega (arith, count_without name links, may.count));
   each = all_without (λ (l : Link). IsName l.name) name links may.each;
-  rise = Rise-from_sorted name_cmp (names_of (without_name name links)) (sorted_without name links (sorted-from_Rise name_cmp nat_list_cmp_total (names_of links) may.rise));
+  rise = rise_without name links may.rise;
 }

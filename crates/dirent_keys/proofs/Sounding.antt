@@ -56,7 +56,8 @@ module _ (keys : KeyMap) (drawn : AreKeysDrawn keys) (btree : Btree) (inode offs
       by (Some values.White) fits = tt
       by (Some value) fits = fits value refl
 
-under_slot : (keys : KeyMap) (id directory slot : ℕ) (links : List Link) → All (IsNameJoined keys id directory slot) links → All (λ link. slot_of link.name ≡ slot) links
+-- Names that are joined stand under their slot.
+pub under_slot : (keys : KeyMap) (id directory slot : ℕ) (links : List Link) → All (IsNameJoined keys id directory slot) links → All (λ link. slot_of link.name ≡ slot) links
 under_slot keys id directory slot [] joined = All-nil (λ (link : Link). slot_of link.name ≡ slot)
 under_slot keys id directory slot (link ∷ links) joined =
     All-cons (λ (l : Link). slot_of l.name ≡ slot) link links (All-head (IsNameJoined keys id directory slot) link links joined).under_slot (under_slot keys id directory slot links (All-tail (IsNameJoined keys id directory slot) link links joined))

@@ -1,10 +1,11 @@
 -- Which step adding a name comes to, and which removing it, by the names that an id sees under its slot.
-use Rattle.std.proofs.Common.{◌≡◌, ℕ, Bool, true, false, cond, Option, Some, None, List, refl, sym, ap, ◌∙◌, subst, arith, length}
+use Rattle.std.proofs.Common.{◌≡◌, ℕ, Bool, true, false, cond, Option, Some, None, List, sym, ap, ◌∙◌, subst, arith, length}
 use Rattle.std.specs.Ordering.{nat_cmp}
-use Rattle.std.specs.Prelude.{IsSome, is_some, nat_le, option_map}
+use Rattle.std.specs.Prelude.{IsSome, is_some, nat_le}
 use Rattle.std.specs.List.{list_any}
 use Rattle.std.specs.Ordering.{is_eq}
 use Rattle.std.proofs.lemmas.Bool.{leb-false}
+use Rattle.dirent_keys.proofs.Counting.{mapped}
 use Rattle.dirent_keys.proofs.Listed.{found_any, nothing}
 use Rattle.dirent_keys.proofs.Ordered.{MayShare, are_links_with, are_links_without}
 use Rattle.dirent_keys.proofs.Seeing.{AreSeen, added_sees, may_share, removed_sees, rest_fits}
@@ -44,10 +45,6 @@ module _ (own : Pos) (id directory : ℕ) (name : List ℕ) (stands : own ≡ re
 
   pub fits_placed : (value rest : Option Value) → value ≡ rest → IsUpdate (own_update Dirents directory (slot_of name) id rest) → IsUpdate (own_update Dirents own.inode own.offset own.snapshot value)
   fits_placed value rest same fits = subst IsUpdate (sym (λ i. own_update Dirents (stands i).inode (stands i).offset (stands i).snapshot (same i))) fits
-
-mapped : {A B : Type 0} (f : A → B) (o : Option A) → is_some (option_map f o) ≡ is_some o
-mapped f None = refl
-mapped f (Some x) = refl
 
 module _ (keys : KeyMap) (id directory : ℕ) (name : List ℕ) (links : List Link) (are : links ≡ links_in keys id directory (slot_of name)) where
   -- whether the name shows

@@ -1,2 +1,4 @@
 pub mod Links
 pub mod Names
+pub mod Slots
+pub mod Moves

@@ -5,14 +5,23 @@
 //! value would show.
 #![tactic(auto)]
 
+mod counts;
+mod finding;
 mod laws;
 mod links;
+mod moving;
 mod names;
+mod slots;
 mod step;
 
+pub use counts::{count, is_bare};
+pub use finding::find;
 pub use laws::{
-    directories_take_names, links_are_added_and_taken, names_are_refused_alike,
-    sound_names_are_refused_alike,
+    bare_directories_have_no_names, directories_take_names, links_are_added_and_taken,
+    moved_names_are_taken_and_added, moves_are_refused_alike, moves_are_steps,
+    names_are_refused_alike, sound_names_are_refused_alike,
 };
+pub use moving::move_name;
 pub use names::{add, remove};
+pub use slots::next_slot;
 pub use step::NameStep;

@@ -91,7 +91,8 @@ fn first_above(name: &[u8], links: &[Link]) -> Option<usize>
     links.iter().position(|link| is_below(name, link))
 }
 
-fn is_named(link: &Link, name: &[u8]) -> bool
+/// Whether a name is this one.
+pub fn is_named(link: &Link, name: &[u8]) -> bool
     ensures { result ≡ is_eq (name_cmp name.now link.now.name) }
 {
     name.cmp(link.name.as_slice()).is_eq()

@@ -100,7 +100,7 @@ pub fn remove<V: View>(
 }
 
 // Where an id has its own key of the names that share the slot of this one.
-fn place_of(id: u32, dir: u64, name: &Bytes) -> Pos
+pub(crate) fn place_of(id: u32, dir: u64, name: &Bytes) -> Pos
     ensures { result ≡ record { inode = dir; offset = slot_of name.now; snapshot = id } }
 {
     Pos {
@@ -111,7 +111,7 @@ fn place_of(id: u32, dir: u64, name: &Bytes) -> Pos
 }
 
 // The names that an id sees at the place of a key of its own.
-fn links_at<V: View>(
+pub(crate) fn links_at<V: View>(
     alloc: Global,
     view: &mut V,
     tree: &SnapTree,
@@ -133,7 +133,7 @@ fn links_at<V: View>(
 }
 
 // The updates after which an id sees these names at the place of a key of its own, and nothing where there are none.
-fn updates_to_show<V: View>(
+pub(crate) fn updates_to_show<V: View>(
     alloc: Global,
     view: &mut V,
     tree: &SnapTree,

@@ -20,3 +20,4 @@ pub mod Using
 pub mod Placing
 pub mod Keeping
 pub mod Longest
+pub mod Few

@@ -49,7 +49,7 @@ all_behind low end from (s ∷ ss) rise ended = by (nat_le end s.first) (all_beh
     by false later = (λ i. between-none low s.first (omega (arith, rise.1, here)) i ++ outside (same i) end ss) ∙ later
 
 -- Where all is left nothing changes.
-whole_kept : (low end : ℕ) → is_kept low end (between low end) ≡ true
+pub whole_kept : (low end : ℕ) → is_kept low end (between low end) ≡ true
 whole_kept low end = by (nat_lt low end) refl
   where
     or_true : (b : Bool) → (b || true) ≡ true
@@ -60,7 +60,7 @@ whole_kept low end = by (nat_lt low end) refl
     by true is = ap (λ b. nat_le end low || (b || false)) (λ i. eq-eqb low low refl i && eq-eqb end end refl i) ∙ or_true (nat_le end low)
     by false is = ap (λ b. b || false) (le-leb end low (ltb-false low end is))
 
-kept_none : (low end : ℕ) (value : Value) (parts : List Stretch) (change : Change) → is_kept low end parts ≡ true → Has change (left_parts low end value parts) → ⊥
+pub kept_none : (low end : ℕ) (value : Value) (parts : List Stretch) (change : Change) → is_kept low end parts ≡ true → Has change (left_parts low end value parts) → ⊥
 kept_none low end value parts change kept has = elim (subst (λ (b : Bool). Has change (cond b [] (map (put_part low value) parts ++ removed end parts))) kept has) [ ]
 
 -- Each part of what is left ends where the stretches begin, or behind that.

@@ -5,3 +5,4 @@ pub mod Nearest
 pub mod Above
 pub mod Looking
 pub mod Placing
+pub mod Bounds

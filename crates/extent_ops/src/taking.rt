@@ -1,6 +1,7 @@
-ghost use Rattle.std.specs.Prelude.{◌≡◌, ◌++◌, ◌-◌, ◌^◌, ◌<◌, ◌&&◌, ℕ, All, IfOk, List, is_some, nat_le, option_map, slice_get};
+ghost use Rattle.std.specs.Prelude.{◌≡◌, ◌++◌, ◌+◌, ◌-◌, ◌*◌, ◌^◌, ◌<◌, ◌≤◌, ◌&&◌, ℕ, All, IfOk, List, is_some, length, nat_le, option_map, slice_get};
 ghost use Rattle.extent_ops.specs.Content.{AreFreshWithin, AreLookedAt, AreOfContent, HavePlaces, IsContent, IsNear, TakesBlocks, given_by, hidden_if, is_covered_above};
 ghost use Rattle.extent_ops.specs.Above.{holes_to_hide};
+ghost use Rattle.extent_ops.specs.Bounds.{blocks_in_all};
 ghost use Rattle.extent_ops.specs.Cutting.{cut_all, updates_of};
 ghost use Rattle.extent_ops.specs.Looking.{IsUpTo};
 ghost use Rattle.extent_ops.specs.Placing.{MayBePlaced};
@@ -23,8 +24,9 @@ use vol_types::{Key, Keys, Updates};
 /// The updates after which an id has fresh extents in a file, and nothing else is seen to change. The keys are those of the file
 /// that cover a block from the first fresh one to the last, and maybe others of the file. Where they and the fresh ones are in
 /// range the updates may be made. They stand at most as many blocks behind the last fresh one as the longest of the keys has.
-/// Where each block had a place of its own, and the fresh ones have, each has one afterwards. Keys of other ids cost a step each,
-/// those of the id and the fresh ones some logarithms.
+/// There are no more of them than keys and two for each fresh one; where the id's own extents don't overlap, no more than fresh
+/// blocks and two for each fresh extent. Where each block had a place of its own, and the fresh ones have, each has one
+/// afterwards. Keys of other ids cost a step each, those of the id and the fresh ones some logarithms.
 pub fn overwrite(alloc: Global, keys: &Keys, id: u32, fresh: &Keys) -> Result<Updates, AllocError>
     ensures taken { IfOk result (λ updates. (map : KeyMap) (file first last : ℕ) → IsKeyMap map
         → IsCoveredOnce map file id → All (λ entry. HavePlaces entry.1) map.extents
@@ -44,6 +46,13 @@ pub fn overwrite(alloc: Global, keys: &Keys, id: u32, fresh: &Keys) -> Result<Up
         → AreFreshWithin file id first last fresh.now → AreLookedAt map file first last keys.now
         → AreBlocksPlaced map nodes layout → MayBePlaced map nodes layout fresh.now
         → AreBlocksPlaced (with_updates updates map) nodes layout) }
+    ensures few { IfOk result (λ updates. (file first last : ℕ)
+        → AreFreshWithin file id first last fresh.now
+        → length updates ≤ length keys.now + 2 * length fresh.now) }
+    ensures few_by_blocks { IfOk result (λ updates. (map : KeyMap) (file first last : ℕ) → IsKeyMap map
+        → IsCoveredOnce map file id → AreFreshWithin file id first last fresh.now
+        → AreLookedAt map file first last keys.now
+        → length updates ≤ blocks_in_all fresh.now + 2 * length fresh.now) }
 {
     let Some(file) = file_of(fresh.as_slice()) else {
         return Ok(Updates::new(alloc));
@@ -63,8 +72,9 @@ pub fn overwrite(alloc: Global, keys: &Keys, id: u32, fresh: &Keys) -> Result<Up
 /// The updates after which an id of the tree shows nothing of some blocks of a file, from the first to the last one: it has holes
 /// where an ancestor has an extent, and else nothing of its own. The keys are those of the file that cover one of the blocks, and
 /// maybe others of the file. Where they are in range the updates may be made. They stand at most as many blocks behind the last
-/// block as the longest of the keys has. Where each block had a place of its own, each has one afterwards. Each key costs a search
-/// in the tree and some logarithms.
+/// block as the longest of the keys has. There is at most one more of them than there are keys; where the id's own extents don't
+/// overlap, at most two more than blocks. Where each block had a place of its own, each has one afterwards. Each key costs a
+/// search in the tree and some logarithms.
 pub fn punch(
     alloc: Global,
     keys: &Keys,
@@ -89,7 +99,12 @@ pub fn punch(
         (layout : Layout) → IsKeyMap map → All (λ entry. HavePlaces entry.1) map.extents
         → AreLookedAt map file first last keys.now → AreBlocksPlaced map nodes layout
         → AreBlocksPlaced (with_updates updates map) nodes layout) }
+    ensures few { IfOk result (λ updates. length updates ≤ length keys.now + 1) }
+    ensures few_by_blocks { IfOk result (λ updates. (map : KeyMap) (file : ℕ) → IsKeyMap map
+        → IsCoveredOnce map file id → last < 2 ^ 64 - 1 → AreLookedAt map file first last keys.now
+        → length updates ≤ (last + 1 - first) + 2) }
 {
+    tree.ids_fit();
     if last < first {
         return Ok(Updates::new(alloc));
     }

@@ -11,3 +11,4 @@ pub mod Sound
 pub mod Overlaying
 pub mod Ending
 pub mod Longest
+pub mod Few

@@ -5,3 +5,4 @@ pub mod Ends
 pub mod Content
 pub mod Writes
 pub mod Seen
+pub mod Bounds

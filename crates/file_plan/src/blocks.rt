@@ -1,7 +1,8 @@
-ghost use Rattle.std.specs.Prelude.{◌≡◌, length, is_some, IfErr, IfOk, IfSome};
+ghost use Rattle.std.specs.Prelude.{◌≡◌, ◌+◌, length, is_some, IfErr, IfOk, IfSome};
 ghost use Rattle.extent_ops.specs.Content.{AreLookedAt};
 ghost use Rattle.extent_ops.specs.Looking.{reach};
 ghost use Rattle.file_plan.specs.BlockIo.{Holds, OnlyReads, ReadsBlock};
+ghost use Rattle.file_plan.specs.Bounds.{keys_seen};
 ghost use Rattle.file_plan.specs.Content.{AreExtentsInRange};
 ghost use Rattle.file_plan.specs.Seen.{IsSeenUpTo, MayLook};
 ghost use Rattle.key_meaning.specs.Blocks.{block_in};
@@ -66,6 +67,8 @@ pub(crate) fn covering_keys<V: Contents>(
     ensures found { IfOk result (λ found. (keys : KeyMap) (tree : Snaps)
         → IsSeenUpTo keys (V.made view.new) tree (V.most view.new) → AreExtentsInRange keys
         → AreLookedAt keys number first last found) }
+    ensures seen { IfOk result (λ found.
+        keys_seen (V.made view.new) ≡ keys_seen (V.made view.old) + length found) }
     ensures look { MayLook (reach number first last (V.most view.old)) (V.made view.old)
         (V.made view.new) }
     ensures looks { GoesOn (V.made view.old) (V.made view.new) }

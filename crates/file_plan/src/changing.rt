@@ -1,7 +1,8 @@
-ghost use Rattle.std.specs.Prelude.{◌≡◌, ◌≤◌, ◌+◌, All, IfErr, IfNone, IfOk, IfSome, List, ℕ, []};
+ghost use Rattle.std.specs.Prelude.{◌≡◌, ◌≤◌, ◌+◌, All, IfErr, IfNone, IfOk, IfSome, List, ℕ, [], length};
 ghost use Rattle.extent_ops.specs.Content.{AreFresh, AreOfContent, IsContent};
 ghost use Rattle.extent_ops.specs.Looking.{AreExtentsUpTo, reach};
 ghost use Rattle.extent_ops.specs.Placing.{MayBePlaced};
+ghost use Rattle.file_plan.specs.Bounds.{keys_seen, most_beside, most_updates};
 ghost use Rattle.file_plan.specs.Content.{AreExtentsInRange, AreNear, HasFile, IsChanged, PutsFresh, TakesChange, extents_of};
 ghost use Rattle.file_plan.specs.Seen.{IsSeenUpTo, MayLook, MayLookFor, last_block};
 ghost use Rattle.file_plan.specs.declared.change.Change.TheVariants.{Cut, Put};
@@ -34,6 +35,9 @@ use vol_types::{Key, Keys, Updates};
 /// shows and that isn't put, the caller puts the key of `write_end` in front of the others, or what `end_block` gives among its
 /// blocks, so that zeros stand behind the old end.
 ///
+/// There is at most one update for each block that is put or cut, two more for each extent that is put, and two for a cut; and at
+/// most one for each key that is looked at, two more for each extent that is put, and one for a cut.
+///
 /// It makes at most one look, at the keys of the file that end between the first block which is put or cut and `Contents::longest`
 /// blocks behind the last one; the updates stand there too. Keys of other ids cost a search in the tree each, those of the id and
 /// the extents some logarithms.
@@ -65,6 +69,12 @@ pub fn content<V: Contents>(
         → PutsFresh change.now number id → AreBlocksPlaced keys nodes layout
         → MayBePlaced keys nodes layout (extents_of change.now)
         → AreBlocksPlaced (with_updates updates keys) nodes layout) }
+    ensures few { IfOk result (λ updates. (keys : KeyMap)
+        → IsSeenUpTo keys (V.made view.new) tree.now (V.most view.new) → HasFile keys id number size
+        → PutsFresh change.now number id → length updates ≤ most_updates size change.now) }
+    ensures few_by_keys { IfOk result (λ updates. PutsFresh change.now number id
+        → length updates + keys_seen (V.made view.old)
+        ≤ keys_seen (V.made view.new) + most_beside change.now) }
     ensures look { MayLookFor change.now number size (V.most view.old) (V.made view.old)
         (V.made view.new) }
     ensures looks { GoesOn (V.made view.old) (V.made view.new) }
@@ -108,6 +118,13 @@ fn put<V: Contents>(
         → PutsFresh (Put first extents.now) number id → AreBlocksPlaced keys nodes layout
         → MayBePlaced keys nodes layout (extents_of (Put first extents.now))
         → AreBlocksPlaced (with_updates updates keys) nodes layout) }
+    ensures few { IfOk result (λ updates. (keys : KeyMap) (size : ℕ)
+        → IsSeenUpTo keys (V.made view.new) tree.now (V.most view.new) → HasFile keys id number size
+        → PutsFresh (Put first extents.now) number id
+        → length updates ≤ most_updates size (Put first extents.now)) }
+    ensures few_by_keys { IfOk result (λ updates. PutsFresh (Put first extents.now) number id
+        → length updates + keys_seen (V.made view.old)
+        ≤ keys_seen (V.made view.new) + most_beside (Put first extents.now)) }
     ensures look { MayLook (reach number first (last_block extents.now) (V.most view.old))
         (V.made view.old) (V.made view.new) }
     ensures looks { GoesOn (V.made view.old) (V.made view.new) }
@@ -168,6 +185,11 @@ fn cut<V: Contents>(
         → PutsFresh (Cut new) number id → AreBlocksPlaced keys nodes layout
         → MayBePlaced keys nodes layout (extents_of (Cut new))
         → AreBlocksPlaced (with_updates updates keys) nodes layout) }
+    ensures few { IfOk result (λ updates. (keys : KeyMap)
+        → IsSeenUpTo keys (V.made view.new) tree.now (V.most view.new) → HasFile keys id number size
+        → length updates ≤ most_updates size (Cut new)) }
+    ensures few_by_keys { IfOk result (λ updates. length updates + keys_seen (V.made view.old)
+        ≤ keys_seen (V.made view.new) + most_beside (Cut new)) }
     ensures look { MayLookFor (Cut new) number size (V.most view.old) (V.made view.old)
         (V.made view.new) }
     ensures looks { GoesOn (V.made view.old) (V.made view.new) }

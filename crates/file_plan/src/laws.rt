@@ -1,8 +1,11 @@
-ghost use Rattle.std.specs.Prelude.{◌≡◌, ◌+◌, ◌/◌, ◌<◌, ◌≤◌, ◌++◌, ℕ, All, List, Some, is_some, length, max, option_and_then};
+ghost use Rattle.std.specs.Prelude.{◌≡◌, ◌+◌, ◌-◌, ◌/◌, ◌<◌, ◌≤◌, ◌++◌, ℕ, All, List, Some, is_some, length, max, option_and_then};
 ghost use Rattle.extent_ops.specs.Content.{AreFresh, IsContent, given_by};
 ghost use Rattle.file_plan.specs.Content.{HasFile, MayReach, written_over};
 ghost use Rattle.file_plan.specs.Ends.{IsEndWritten, end_bytes, has_end};
-ghost use Rattle.file_plan.specs.Runs.{IsRun, bytes_of};
+ghost use Rattle.file_plan.specs.Bounds.{most_updates};
+ghost use Rattle.file_plan.specs.Runs.{IsRun, IsWritten, bytes_of};
+ghost use Rattle.file_plan.specs.Sizes.{blocks_up_to};
+ghost use Rattle.file_plan.specs.declared.change.Change.TheVariants.{Cut, Put};
 ghost use Rattle.file_plan.specs.Writes.{GiveAfter, written};
 ghost use Rattle.key_meaning.specs.Blocks.{block_in};
 ghost use Rattle.key_meaning.specs.Checks.{IsLiveLeaf, IsSound};
@@ -79,4 +82,20 @@ pub fn ends_go_first()
         → AreFresh number id first extents
         → written_over read (end ++ extents) (content_of keys read id number size) new_size
         ≡ written_over read extents (content_of keys read id number size) new_size }
+{}
+
+/// A write of at most 65,536 bytes lies over at most 17 blocks. To put these makes at most 21 updates, and 24 where the block of
+/// the file's old end is put in front of them. One truncation makes at most 258.
+pub fn changes_are_few()
+    ensures over { (offset count : ℕ) → 0 < count → count ≤ 65536
+        → blocks_up_to (offset + count) - offset / block_size ≤ 17 }
+    ensures put { (number id size first : ℕ) (blocks : List (List ℕ)) (extents : List Key)
+        (old new : BlockIo) → IsWritten number id first blocks extents old new → length blocks ≤ 17
+        → most_updates size (Put first extents) ≤ 21 }
+    ensures with_end { (number id size first : ℕ) (end : List Key) (before after : BlockIo)
+        (blocks : List (List ℕ)) (extents : List Key) (old new : BlockIo)
+        → IsEndWritten number id size end before after
+        → IsWritten number id first blocks extents old new → length blocks ≤ 17
+        → most_updates size (Put (size / block_size) (end ++ extents)) ≤ 24 }
+    ensures cut { (size new : ℕ) → most_updates size (Cut new) ≤ 258 }
 {}

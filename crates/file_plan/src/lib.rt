@@ -27,7 +27,8 @@ pub use changing::content;
 pub use contents::Contents;
 pub use ends::{end_block, write_end};
 pub use laws::{
-    ends_go_first, files_take_content, runs_are_fresh, sound_files_have_content, writes_are_put,
+    changes_are_few, ends_go_first, files_take_content, runs_are_fresh, sound_files_have_content,
+    writes_are_put,
 };
 pub use overlays::block_after;
 pub use plain_contents::PlainContents;

@@ -10,7 +10,7 @@ use Rattle.forest_ops.specs.declared.operation.Op.TheVariants.{Sync}
 use Rattle.forest_ops.specs.declared.operation.Reply.{Reply}
 use Rattle.forest_ops.specs.declared.operation.Reply.TheVariants.{DeviceFault, Halted}
 use Rattle.forest_ops.specs.declared.operation.Entry.{Entry}
-use Rattle.forest_ops.specs.declared.halt.Halt.{Halt}
+use Rattle.vol_types.specs.declared.failure.Halt.{Halt}
 
 -- the reply says that a device failed
 abbrev pub is_device_fault : Reply → Bool

@@ -1,4 +1,6 @@
 pub mod Acknowledged
+pub mod Along
+pub mod AlongLaws
 pub mod Classes
 pub mod Content
 pub mod Failures
@@ -10,6 +12,7 @@ pub mod Laws
 pub mod Names
 pub mod Parts
 pub mod Places
+pub mod RefusalLaws
 pub mod Refusals
 pub mod Steps
 pub mod Subvolumes

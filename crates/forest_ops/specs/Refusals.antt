@@ -1,5 +1,5 @@
 -- Tests and looks one after another, up to the first refusal.
-use Rattle.std.specs.Prelude.{Bool, true, false, Result, Ok, Err}
+use Rattle.std.specs.Prelude.{◌≡◌, Bool, true, false, Result, Ok, Err}
 use Rattle.forest_ops.specs.declared.operation.Cause.{Cause}
 
 infixl 10 ◌>>=◌
@@ -17,3 +17,9 @@ result_map see (Err cause) = Err cause
 abbrev pub refused_if : Bool → Cause → Result (Unit {0}) Cause
 refused_if true cause = Err cause
 refused_if false cause = Ok tt
+
+-- Both are done and it holds of the two values, or both are refused for one cause.
+abbrev pub Agrees : {A B : Type 0} → (A → B → Type 0) → Result A Cause → Result B Cause → Type 0
+Agrees P (Ok x) (Ok y) = P x y
+Agrees P (Err cause) (Err other) = cause ≡ other
+Agrees P planned forest = ⊥

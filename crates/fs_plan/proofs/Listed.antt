@@ -7,6 +7,7 @@ use Rattle.std.specs.Ordering.{nat_cmp, is_eq}
 use Rattle.std.proofs.lemmas.Cmp.{nat_list_cmp_total}
 use Rattle.std.proofs.lemmas.Map.Lookups.{exact_bytes}
 use Rattle.std.proofs.lemmas.Map.Made.{keys_of-map_values, lookup-map_values}
+use Rattle.forest_ops.specs.Along.{directory_along}
 use Rattle.forest_ops.specs.Refusals.{◌>>=◌}
 use Rattle.forest_ops.specs.Steps.{flagged, listed, next_of, reply_or}
 use Rattle.forest_ops.specs.Walking.{Directory, Inode, directory_at, names_in, tree_of, walk}
@@ -15,7 +16,6 @@ use Rattle.forest_ops.specs.declared.operation.Reply.{Reply}
 use Rattle.forest_ops.specs.declared.operation.Reply.TheVariants.{List as ListIs, Refused}
 use Rattle.fs_plan.proofs.Gathered.{flag_among}
 use Rattle.fs_plan.specs.Listing.{flagged_name}
-use Rattle.fs_plan.specs.Looking.{directory_along}
 use Rattle.key_meaning.specs.Checks.{AreNamesJoined, IsLiveLeaf, IsNameJoined}
 use Rattle.key_meaning.specs.Forest.{Read, directories_in, is_directory, kind_in, link_named, links_in}
 use Rattle.key_meaning.specs.Forest as keys_mean
@@ -82,19 +82,19 @@ module _ (keys : KeyMap) (read : Read) (sub : Sub) (directory : ℕ) (joined : A
 along_is : (path : Path) (forest : Forest) → directory_at path forest ≡ directory_along path path.names forest
 along_is path forest = by (tree_of path forest)
   where
-    end : (tree : Tree) → Result ℕ Cause → Result Directory Cause
-    end tree to = to >>= (λ number. names_in tree number >>= (λ names. Ok (record { tree = tree; number = number; names = names })))
+    end : (t : Tree) → Result ℕ Cause → Result Directory Cause
+    end t to = to >>= (λ number. names_in t number >>= (λ names. Ok (record { tree = t; number = number; names = names })))
 
     at_inode : Inode → Result Directory Cause
     at_inode inode = names_in inode.tree inode.number >>= (λ names. Ok (record { tree = inode.tree; number = inode.number; names = names }))
 
-    inner : (tree : Tree) (to : Result ℕ Cause) → ((to >>= (λ number. Ok (record { tree = tree; number = number }))) >>= at_inode) ≡ end tree to
-    inner tree (Ok number) = refl
-    inner tree (Err cause) = refl
+    inner : (t : Tree) (to : Result ℕ Cause) → ((to >>= (λ number. Ok (record { tree = t; number = number }))) >>= at_inode) ≡ end t to
+    inner t (Ok number) = refl
+    inner t (Err cause) = refl
 
-    by : (found : Result Tree Cause) → ((found >>= (λ (tree : Tree). walk tree path.names tree.root >>= (λ number. Ok (record { tree = tree; number = number })))) >>= at_inode)
-        ≡ (found >>= (λ (tree : Tree). end tree (walk tree path.names tree.root)))
-    by (Ok tree) = inner tree (walk tree path.names tree.root)
+    by : (found : Result Tree Cause) → ((found >>= (λ (t : Tree). walk t path.names t.root >>= (λ number. Ok (record { tree = t; number = number })))) >>= at_inode)
+        ≡ (found >>= (λ (t : Tree). end t (walk t path.names t.root)))
+    by (Ok t) = inner t (walk t path.names t.root)
     by (Err cause) = refl
 
 abbrev list_reply : Forest → Result Directory Cause → Reply

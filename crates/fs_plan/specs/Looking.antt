@@ -1,12 +1,14 @@
 -- What a plan finds by looks: values of keys, and the directory at which names of a path end.
-use Rattle.std.specs.Prelude.{◌≡◌, Bool, true, ℕ, Option, Some, List, option_and_then, option_map, Result, Ok, Err}
-use Rattle.forest_ops.specs.Refusals.{◌>>=◌}
-use Rattle.forest_ops.specs.Walking.{Directory, names_in, tree_of, walk}
+use Rattle.std.specs.Prelude.{Bool, not, ℕ, Option, List, [], ◌∷◌, option_and_then, option_map, Result, Ok}
+use Rattle.std.specs.Option.{ok_or}
+use Rattle.forest_ops.specs.Refusals.{◌>>=◌, refused_if}
+use Rattle.forest_ops.specs.Walking.{Directory}
 use Rattle.forest_ops.specs.declared.operation.Cause.{Cause}
+use Rattle.forest_ops.specs.declared.operation.Cause.TheVariants.{BadPath, NoSubvolume, NotDir, NotFound}
 use Rattle.fs_plan.specs.declared.walking.Spot.{Spot}
-use Rattle.key_meaning.specs.Forest.{Read, forest_in, inode_of, is_directory, sub_named}
+use Rattle.key_meaning.specs.Forest.{Read, inode_of, is_directory, kind_in, number_in, sub_named}
 use Rattle.key_meaning.specs.Forest as keys_mean
-use Rattle.plain_forest.specs.Forest.{Forest}
+use Rattle.plain_forest.specs.Names.{is_good_path}
 use Rattle.plain_forest.specs.declared.path.Path.{Path}
 use Rattle.vol_types.specs.KeyMaps.{KeyMap}
 use Rattle.vol_types.specs.declared.keys.Key.{Key}
@@ -20,21 +22,28 @@ value_in_key key = option_and_then (λ (k : Key). k.value) key
 abbrev pub is_directory_value : Option Value → Bool
 is_directory_value value = is_directory (option_map (λ inode. inode.kind) (inode_of value))
 
+-- where a name of a number leads in an id
+abbrev pub leads_to : KeyMap → ℕ → ℕ → List ℕ → Result ℕ Cause
+leads_to keys id number name = do
+  _ ← refused_if (not (is_directory (kind_in keys id number))) NotDir
+  ok_or (number_in keys id number name) NotFound
+
+-- where the names lead from a number in an id
+abbrev pub lead_to : KeyMap → ℕ → List (List ℕ) → ℕ → Result ℕ Cause
+lead_to keys id [] number = Ok number
+lead_to keys id (name ∷ names) number = do
+  next ← leads_to keys id number name
+  lead_to keys id names next
+
 -- the directory to which some names lead from the root of a path's subvolume
-abbrev pub directory_along : Path → List (List ℕ) → Forest → Result Directory Cause
-directory_along path names forest = do
-  tree ← tree_of path forest
-  number ← walk tree names tree.root
-  held ← names_in tree number
-  Ok (record { tree = tree; number = number; names = held })
+abbrev pub spot_along : KeyMap → Path → List (List ℕ) → Result Spot Cause
+spot_along keys path names = do
+  _ ← refused_if (not (is_good_path path)) BadPath
+  sub ← ok_or (sub_named keys path.sub) NoSubvolume
+  number ← lead_to keys sub.id names sub.root
+  _ ← refused_if (not (is_directory (kind_in keys sub.id number))) NotDir
+  Ok (record { sub = sub; number = number })
 
--- The directory is the one to which the names lead in the forest, and its subvolume the one of the path.
-pub record IsSpot (keys : KeyMap) (read : Read) (path : Path) (names : List (List ℕ)) (spot : Spot) : Type 0 where
-  pub sub : sub_named keys path.sub ≡ Some spot.sub
-  pub directory : keys_mean.is_directory (keys_mean.kind_in keys spot.sub.id spot.number) ≡ true
-  pub leads : directory_along path names (forest_in keys read) ≡ Ok (record { tree = keys_mean.tree_of keys read spot.sub; number = spot.number; names = keys_mean.names_in keys spot.sub.id spot.number })
-
--- The names lead to the directory in the forest, or nowhere for this cause.
-abbrev pub IsDirectoryAt : KeyMap → Read → Path → List (List ℕ) → Result Spot Cause → Type 0
-IsDirectoryAt keys read path names (Ok spot) = IsSpot keys read path names spot
-IsDirectoryAt keys read path names (Err cause) = directory_along path names (forest_in keys read) ≡ Err cause
+-- the directory in the forest that is this one in the keys
+abbrev pub directory_of : KeyMap → Read → Spot → Directory
+directory_of keys read spot = record { tree = keys_mean.tree_of keys read spot.sub; number = spot.number; names = keys_mean.names_in keys spot.sub.id spot.number }

@@ -1,8 +1,8 @@
-ghost use Rattle.std.specs.Prelude.{◌≡◌, [], IfErr, IfOk, IfSome, Some, map};
+ghost use Rattle.std.specs.Prelude.{◌≡◌, IfErr, IfOk, IfSome, None, Some, false, map};
+ghost use Rattle.forest_ops.specs.Acknowledged.{synced_count};
 ghost use Rattle.forest_ops.specs.Steps.{flagged, listed, reply_or};
-ghost use Rattle.forest_ops.specs.declared.operation.Op.TheVariants.{Ls};
 ghost use Rattle.fs_plan.specs.Listing.{flagged_name};
-ghost use Rattle.fs_plan.specs.Plans.{IsGiven, MayReply};
+ghost use Rattle.fs_plan.specs.Plans.{IsGiven, is_failure};
 ghost use Rattle.key_meaning.specs.Checks.{AreNamesJoined, DoLeavesMatch, IsLiveLeaf};
 ghost use Rattle.key_meaning.specs.Forest.{Read, forest_in, names_in, tree_of};
 ghost use Rattle.key_view.specs.Holds.{IsCause};
@@ -28,7 +28,8 @@ pub(crate) fn list<V: View>(alloc: Global, view: &mut V, path: &Path) -> Result<
     ensures reply { IfOk result (λ reply. (keys : KeyMap) (read : Read)
         → IsGiven keys (V.made view.new) (V.told view.new) → DoLeavesMatch keys
         → AreNamesJoined keys → reply ≡ reply_or (listed path.now (forest_in keys read))) }
-    ensures may { IfOk result (λ reply. MayReply (Ls path.now) reply []) }
+    ensures unfailed { IfOk result (λ reply. is_failure reply ≡ false) }
+    ensures unsynced { IfOk result (λ reply. synced_count reply ≡ None) }
     ensures looks { GoesOn (V.made view.old) (V.made view.new) }
     ensures ids { IfSome (V.told view.old) (λ tree. V.told view.new ≡ Some tree) }
     ensures cause { IfErr result (IsCause (V.held view.new)) }
@@ -47,7 +48,8 @@ fn list_in<V: View>(
     ensures reply { IfOk result (λ reply. (keys : KeyMap) (read : Read)
         → IsSeen keys (V.made view.new) tree.now → DoLeavesMatch keys → AreNamesJoined keys
         → reply ≡ reply_or (listed path.now (forest_in keys read))) }
-    ensures may { IfOk result (λ reply. MayReply (Ls path.now) reply []) }
+    ensures unfailed { IfOk result (λ reply. is_failure reply ≡ false) }
+    ensures unsynced { IfOk result (λ reply. synced_count reply ≡ None) }
     ensures looks { GoesOn (V.made view.old) (V.made view.new) }
     ensures ids { V.told view.new ≡ V.told view.old }
     ensures cause { IfErr result (IsCause (V.held view.new)) }

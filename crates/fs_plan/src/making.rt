@@ -1,6 +1,9 @@
 ghost use Rattle.std.specs.Prelude.{◌≡◌, ◌<◌, ◌++◌, All, List, Some, IfErr, IfOk, IfSome};
-ghost use Rattle.fs_plan.specs.Making.{IfMade, IsMadeAt, file_made, new_inode, numbered_file, spent_file};
+ghost use Rattle.forest_ops.specs.Steps.{made};
+ghost use Rattle.forest_ops.specs.Trees.{with_file};
+ghost use Rattle.fs_plan.specs.Making.{IfMade, IsStepMade};
 ghost use Rattle.fs_plan.specs.Plans.{IsGiven};
+ghost use Rattle.fs_plan.specs.Updating.{file_at, file_made, numbered_file, spent_file};
 ghost use Rattle.key_meaning.specs.Checks.{IsSound};
 ghost use Rattle.key_meaning.specs.Tidy.{IsTidy};
 ghost use Rattle.key_meaning.specs.Visible.{visible};
@@ -17,7 +20,7 @@ ghost use Rattle.vol_types.specs.declared.positions.Btree.TheVariants.{Dirents};
 use crate::walking::directory_along;
 use dirent_keys::{NameStep, add, links_are_added_and_taken, sound_names_are_refused_alike};
 use forest_ops::Cause;
-use inode_keys::{Draw, draws_are_counted, draws_are_new, next_number, set};
+use inode_keys::{Draw, draws_are_counted, draws_are_new, new_inode, next_number, set};
 use key_steps::{
     counters_are_steps, inodes_are_steps, names_are_steps, steps_end_in_good_trees,
     steps_follow_each_other,
@@ -27,7 +30,7 @@ use plain_forest::Path;
 use shown_changes::{good_trees_are_changed, places_stand_in_trees, subvolumes_begin_good};
 use snap_tree::SnapTree;
 use std::alloc::{AllocError, Global};
-use vol_types::{Bytes, FileKind, Inode, Updates};
+use vol_types::{Bytes, FileKind, Updates};
 
 /// The updates after which there is an empty file at a path, or why the forest refuses it.
 pub(crate) fn make_file<V: View>(
@@ -37,32 +40,13 @@ pub(crate) fn make_file<V: View>(
     path: &Path,
 ) -> Result<Result<Updates, Cause>, Hold>
     requires { client < 16 }
-    ensures made { IfOk result (λ made. (keys : KeyMap) (nodes : List Place) (layout : Layout)
+    ensures is { IfOk result (λ planned. (keys : KeyMap)
+        → IsGiven keys (V.made view.new) (V.told view.new) → planned ≡ file_at keys client path.now) }
+    ensures made { IfOk result (λ planned. (keys : KeyMap) (nodes : List Place) (layout : Layout)
         → IsGiven keys (V.made view.new) (V.told view.new) → IsSound keys nodes layout → IsTidy keys
-        → IsMadeAt keys nodes layout client path.now made) }
+        → IsStepMade keys nodes layout (made with_file client path.now) planned) }
     ensures looks { GoesOn (V.made view.old) (V.made view.new) }
     ensures ids { IfSome (V.told view.old) (λ tree. V.told view.new ≡ Some tree) }
-    ensures cause { IfErr result (IsCause (V.held view.new)) }
-{
-    let tree = view.tree()?;
-    make_in(alloc, view, &tree, client, path)
-}
-
-// The updates after which there is an empty file at a path, where the ids are those of this tree.
-#[tactic(auto, using(crate::proofs::Looks::looks_then))]
-fn make_in<V: View>(
-    alloc: Global,
-    view: &mut V,
-    tree: &SnapTree,
-    client: u8,
-    path: &Path,
-) -> Result<Result<Updates, Cause>, Hold>
-    requires { client < 16 }
-    ensures made { IfOk result (λ made. (keys : KeyMap) (nodes : List Place) (layout : Layout)
-        → IsSeen keys (V.made view.new) tree.now → IsSound keys nodes layout → IsTidy keys
-        → IsMadeAt keys nodes layout client path.now made) }
-    ensures looks { GoesOn (V.made view.old) (V.made view.new) }
-    ensures ids { V.told view.new ≡ V.told view.old }
     ensures cause { IfErr result (IsCause (V.held view.new)) }
 {
     sound_names_are_refused_alike();
@@ -77,6 +61,29 @@ fn make_in<V: View>(
     steps_follow_each_other();
     good_trees_are_changed();
     steps_end_in_good_trees();
+    let tree = view.tree()?;
+    make_in(alloc, view, &tree, client, path)
+}
+
+// The updates after which there is an empty file at a path, where the ids are those of this tree.
+#[tactic(auto, using(crate::proofs::Looks::looks_then))]
+fn make_in<V: View>(
+    alloc: Global,
+    view: &mut V,
+    tree: &SnapTree,
+    client: u8,
+    path: &Path,
+) -> Result<Result<Updates, Cause>, Hold>
+    requires { client < 16 }
+    ensures made { IfOk result (λ made. (keys : KeyMap) → IsSeen keys (V.made view.new) tree.now
+        → made ≡ file_at keys client path.now) }
+    ensures fits { IfOk result (λ made. IfMade made (λ updates. (keys : KeyMap)
+        → IsSeen keys (V.made view.new) tree.now → IsTidy keys → All IsUpdate updates)) }
+    ensures looks { GoesOn (V.made view.old) (V.made view.new) }
+    ensures ids { V.told view.new ≡ V.told view.old }
+    ensures cause { IfErr result (IsCause (V.held view.new)) }
+{
+    sound_names_are_refused_alike();
     let spot = match directory_along(view, tree, path, path.parents())? {
         Ok(spot) => spot,
         Err(cause) => return Ok(Err(cause)),
@@ -156,22 +163,18 @@ fn numbered_file<V: View>(
         FileKind::File,
     )? {
         NameStep::Done(named) => {
-            let inode = set(alloc, view, tree, id, number, Some(new_inode()))?;
+            let inode = set(
+                alloc,
+                view,
+                tree,
+                id,
+                number,
+                Some(new_inode(FileKind::File)),
+            )?;
             Ok(Ok(joined(counted, inode, named)?))
         }
         NameStep::Exists => Ok(Err(Cause::Exists)),
         NameStep::Crowded => Ok(Err(Cause::Crowded)),
-    }
-}
-
-// The inode of an empty file that has one name.
-fn new_inode() -> Inode
-    ensures { result ≡ new_inode }
-{
-    Inode {
-        kind: FileKind::File,
-        links: 1,
-        size: 0,
     }
 }
 

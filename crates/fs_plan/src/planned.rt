@@ -9,4 +9,6 @@ pub struct Plan {
     pub updates: Updates,
     /// 0 stands for the number of a sync, which no forest knows.
     pub reply: Reply,
+    /// Whether the operation is a commit: it changes the forest, and was done.
+    pub commits: bool,
 }

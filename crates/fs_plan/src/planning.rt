@@ -1,6 +1,6 @@
 ghost use Rattle.std.specs.Prelude.{◌≡◌, ◌<◌, List, Some, true, IfErr, IfOk, IfSome};
 ghost use Rattle.forest_ops.specs.declared.operation.Op.TheVariants.{Ls, Mkfile};
-ghost use Rattle.fs_plan.specs.Plans.{IsGiven, IsPlanOf, MayReply, is_planned};
+ghost use Rattle.fs_plan.specs.Plans.{IsBounded, IsGiven, IsOfItsClass, IsPlanOf, is_planned};
 ghost use Rattle.key_meaning.specs.Checks.{IsSound};
 ghost use Rattle.key_meaning.specs.Tidy.{IsTidy};
 ghost use Rattle.key_view.specs.Holds.{IsCause};
@@ -36,11 +36,12 @@ pub fn is_planned(op: &Op) -> bool
 pub fn plan<V: View>(alloc: Global, view: &mut V, client: u8, op: Op) -> Result<Plan, Hold>
     requires client { client < 16 }
     requires planned { is_planned op ≡ true }
+    requires bounded { IsBounded op }
     ensures op { IfOk result (λ plan. plan.op ≡ op) }
     ensures plan { IfOk result (λ plan. (keys : KeyMap) (nodes : List Place) (layout : Layout)
         → IsGiven keys (V.made view.new) (V.told view.new) → IsSound keys nodes layout → IsTidy keys
         → IsPlanOf keys nodes layout client plan) }
-    ensures reply { IfOk result (λ plan. MayReply plan.op plan.reply plan.updates) }
+    ensures class { IfOk result IsOfItsClass }
     ensures looks { GoesOn (V.made view.old) (V.made view.new) }
     ensures ids { IfSome (V.told view.old) (λ tree. V.told view.new ≡ Some tree) }
     ensures cause { IfErr result (IsCause (V.held view.new)) }
@@ -52,6 +53,7 @@ pub fn plan<V: View>(alloc: Global, view: &mut V, client: u8, op: Op) -> Result<
             op: Op::Sync,
             updates: Updates::new(alloc),
             reply: Reply::Synced(0),
+            commits: false,
         }),
         _ => unreachable!(),
     }
@@ -64,7 +66,7 @@ fn plan_file<V: View>(alloc: Global, view: &mut V, client: u8, path: Path) -> Re
     ensures plan { IfOk result (λ plan. (keys : KeyMap) (nodes : List Place) (layout : Layout)
         → IsGiven keys (V.made view.new) (V.told view.new) → IsSound keys nodes layout → IsTidy keys
         → IsPlanOf keys nodes layout client plan) }
-    ensures reply { IfOk result (λ plan. MayReply plan.op plan.reply plan.updates) }
+    ensures class { IfOk result IsOfItsClass }
     ensures looks { GoesOn (V.made view.old) (V.made view.new) }
     ensures ids { IfSome (V.told view.old) (λ tree. V.told view.new ≡ Some tree) }
     ensures cause { IfErr result (IsCause (V.held view.new)) }
@@ -74,11 +76,13 @@ fn plan_file<V: View>(alloc: Global, view: &mut V, client: u8, path: Path) -> Re
             op: Op::Mkfile { path },
             updates,
             reply: Reply::Okay,
+            commits: true,
         }),
         Err(cause) => Ok(Plan {
             op: Op::Mkfile { path },
             updates: Updates::new(alloc),
             reply: Reply::Refused(cause),
+            commits: false,
         }),
     }
 }
@@ -89,7 +93,7 @@ fn plan_listing<V: View>(alloc: Global, view: &mut V, client: u8, path: Path) ->
     ensures plan { IfOk result (λ plan. (keys : KeyMap) (nodes : List Place) (layout : Layout)
         → IsGiven keys (V.made view.new) (V.told view.new) → IsSound keys nodes layout → IsTidy keys
         → IsPlanOf keys nodes layout client plan) }
-    ensures reply { IfOk result (λ plan. MayReply plan.op plan.reply plan.updates) }
+    ensures class { IfOk result IsOfItsClass }
     ensures looks { GoesOn (V.made view.old) (V.made view.new) }
     ensures ids { IfSome (V.told view.old) (λ tree. V.told view.new ≡ Some tree) }
     ensures cause { IfErr result (IsCause (V.held view.new)) }
@@ -99,5 +103,6 @@ fn plan_listing<V: View>(alloc: Global, view: &mut V, client: u8, path: Path) ->
         op: Op::Ls { path },
         updates: Updates::new(alloc),
         reply,
+        commits: false,
     })
 }

@@ -1,5 +1,5 @@
 ghost use Rattle.std.specs.Prelude.{◌≡◌, ◌≤◌, ◌∷◌, [], ℕ, List, OnOk, IfErr, IfOk, IfSome, option_map};
-ghost use Rattle.fs_plan.specs.Listing.{HasNoSlot, slot_of_key, with_links};
+ghost use Rattle.fs_plan.specs.Listing.{with_links};
 ghost use Rattle.key_meaning.specs.Checks.{AreNamesJoined, IsLiveLeaf};
 ghost use Rattle.key_meaning.specs.Forest.{link_named, links_in, links_of};
 ghost use Rattle.key_view.specs.Holds.{IsCause};
@@ -11,6 +11,7 @@ ghost use Rattle.vol_types.specs.Ranges.{name_cmp};
 ghost use Rattle.vol_types.specs.Values.{file_kind_code};
 ghost use Rattle.vol_types.specs.declared.values.Link.{Link as ALink};
 
+use dirent_keys::next_slot;
 use key_view::{Hold, View, nearest};
 use snap_tree::SnapTree;
 use std::alloc::{AllocError, Global};
@@ -48,40 +49,6 @@ pub(crate) fn flags_in<V: View>(
         }
         from = slot + 1;
     }
-}
-
-// The first slot of a directory from a number on at which some id has a key.
-fn next_slot<V: View>(view: &mut V, directory: u64, from: u64) -> Result<Option<u64>, Hold>
-    ensures next { IfOk result (λ next. (keys : KeyMap) → IsKeyMap keys
-        → GivesLooks keys (V.made view.new) → HasNoSlot keys directory from next) }
-    ensures above { IfOk result (λ next. IfSome next (λ slot. from ≤ slot)) }
-    ensures looks { GoesOn (V.made view.old) (V.made view.new) }
-    ensures ids { V.told view.new ≡ V.told view.old }
-    ensures cause { IfErr result (V.held view.new) }
-{
-    let pos = Pos {
-        inode: directory,
-        offset: from,
-        snapshot: 0,
-    };
-    let mut answer = view.look(&Query::Starting {
-        btree: Btree::Dirents,
-        pos,
-    })?;
-    Ok(slot_of_key(answer.pop(), directory, from))
-}
-
-// The slot of a key, where it is one of this directory from a slot on.
-fn slot_of_key(key: Option<Key>, directory: u64, from: u64) -> Option<u64>
-    ensures { result ≡ slot_of_key key directory from }
-{
-    let Some(Key { pos, value: _ }) = key else {
-        return None;
-    };
-    if pos.inode != directory || pos.offset < from {
-        return None;
-    }
-    Some(pos.offset)
 }
 
 // The names that a value holds.

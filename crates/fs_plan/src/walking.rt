@@ -1,15 +1,13 @@
 ghost use Rattle.std.specs.Prelude.{◌≡◌, IfErr, IfOk, find, option_map};
 ghost use Rattle.std.specs.Ordering.{is_eq};
-ghost use Rattle.forest_ops.specs.Walking.{named_in, walk};
-ghost use Rattle.fs_plan.specs.Looking.{IsDirectoryAt, is_directory_value};
-ghost use Rattle.key_meaning.specs.Forest.{Read, is_directory, kind_in, links_of, number_in, tree_of};
+ghost use Rattle.fs_plan.specs.Looking.{is_directory_value, lead_to, leads_to, spot_along};
+ghost use Rattle.key_meaning.specs.Forest.{is_directory, kind_in, links_of, number_in};
 ghost use Rattle.key_view.specs.Seen.{GoesOn, IsSeen};
 ghost use Rattle.vol_types.specs.KeyMaps.{KeyMap};
 ghost use Rattle.vol_types.specs.Ranges.{name_cmp};
 
 use crate::subvolumes::subvolume;
 use forest_ops::Cause;
-use key_meaning::forests_are_looked_up;
 use key_view::{Hold, View, nearest};
 use plain_forest::Path;
 use snap_tree::SnapTree;
@@ -31,14 +29,13 @@ pub(crate) fn directory_along<V: View>(
     path: &Path,
     names: &[Bytes],
 ) -> Result<Result<Spot, Cause>, Hold>
-    ensures found { IfOk result (λ found. (keys : KeyMap) (read : Read)
+    ensures found { IfOk result (λ found. (keys : KeyMap)
         → IsSeen keys (V.made view.new) tree.now
-        → IsDirectoryAt keys read path.now names.now found) }
+        → found ≡ spot_along keys path.now names.now) }
     ensures looks { GoesOn (V.made view.old) (V.made view.new) }
     ensures ids { V.told view.new ≡ V.told view.old }
     ensures cause { IfErr result (V.held view.new) }
 {
-    forests_are_looked_up();
     if !path.is_good() {
         return Ok(Err(Cause::BadPath));
     }
@@ -62,16 +59,16 @@ fn walk<V: View>(
     sub: &Sub,
     names: &[Bytes],
 ) -> Result<Result<u64, Cause>, Hold>
-    ensures found { IfOk result (λ found. (keys : KeyMap) (read : Read)
+    ensures found { IfOk result (λ found. (keys : KeyMap)
         → IsSeen keys (V.made view.new) tree.now
-        → found ≡ walk (tree_of keys read sub.now) names.now sub.now.root) }
+        → found ≡ lead_to keys sub.now.id names.now sub.now.root) }
     ensures looks { GoesOn (V.made view.old) (V.made view.new) }
     ensures ids { V.told view.new ≡ V.told view.old }
     ensures cause { IfErr result (V.held view.new) }
 {
     let mut number = sub.root;
     for name in names {
-        match named(view, tree, sub, number, name)? {
+        match named(view, tree, sub.id, number, name)? {
             Ok(next) => number = next,
             Err(cause) => return Ok(Err(cause)),
         }
@@ -83,22 +80,21 @@ fn walk<V: View>(
 fn named<V: View>(
     view: &mut V,
     tree: &SnapTree,
-    sub: &Sub,
+    id: u32,
     number: u64,
     name: &Bytes,
 ) -> Result<Result<u64, Cause>, Hold>
-    ensures found { IfOk result (λ found. (keys : KeyMap) (read : Read)
+    ensures found { IfOk result (λ found. (keys : KeyMap)
         → IsSeen keys (V.made view.new) tree.now
-        → found ≡ named_in (tree_of keys read sub.now) number name.now) }
+        → found ≡ leads_to keys id number name.now) }
     ensures looks { GoesOn (V.made view.old) (V.made view.new) }
     ensures ids { V.told view.new ≡ V.told view.old }
     ensures cause { IfErr result (V.held view.new) }
 {
-    forests_are_looked_up();
-    if !is_directory(view, tree, sub.id, number)? {
+    if !is_directory(view, tree, id, number)? {
         return Ok(Err(Cause::NotDir));
     }
-    let leads = number_of(view, tree, sub.id, number, name)?;
+    let leads = number_of(view, tree, id, number, name)?;
     Ok(leads.ok_or(Cause::NotFound))
 }
 

@@ -20,7 +20,7 @@ use Rattle.journal_ring.specs.Entries.{IsMadeOf, IsWhole, IsWholeOn}
 use Rattle.journal_ring.specs.EntryBlocks.{AreEntryBlocks, part_head, part_payload, parts_of}
 use Rattle.journal_ring.specs.EntryLaws.{entry_head_is}
 use Rattle.journal_ring.specs.Leading.{IsBehind, Leads}
-use Rattle.journal_ring.specs.Mending.{AreApart, HasPart, IsMended}
+use Rattle.journal_ring.specs.Mending.{DoNotOverlap, HasPart, IsMended}
 use Rattle.journal_ring.specs.Parts.{Area, area_of, numbered}
 use Rattle.vol_types.specs.Limits.{bucket_blocks}
 use Rattle.vol_types.specs.declared.layout.Layout.{Layout}
@@ -59,7 +59,7 @@ pub record JournalLaws : Type 0 where
   pub sealed : (layout : Layout) (area : Area) (found : FoundEntry) (blocks : List (List ℕ)) → IsMadeOf layout area found blocks → AreEntryBlocks layout.id found.number found.entry blocks
   pub same : (id : List ℕ) (number : ℕ) (entry : EntryRecord) (one other : List (List ℕ)) → AreEntryBlocks id number entry one → AreEntryBlocks id number entry other → one ≡ other
   pub stays : (layout : Layout) (one other : Area) (dev : ℕ) (found : FoundEntry) (blocks : List (List ℕ)) → IsWholeOn layout one dev found → AreEntryBlocks layout.id found.number found.entry blocks → IsMended layout found.number blocks one other → IsWholeOn layout other dev found
-  pub others : (layout : Layout) (one other : Area) (dev : ℕ) (found another : FoundEntry) (blocks : List (List ℕ)) → IsWholeOn layout one dev another → 0 < layout.journal → found.end ≡ found.number + length blocks → AreApart layout.journal found another → IsMended layout found.number blocks one other → IsWholeOn layout other dev another
+  pub others : (layout : Layout) (one other : Area) (dev : ℕ) (found another : FoundEntry) (blocks : List (List ℕ)) → IsWholeOn layout one dev another → 0 < layout.journal → found.end ≡ found.number + length blocks → DoNotOverlap layout.journal found another → IsMended layout found.number blocks one other → IsWholeOn layout other dev another
   pub opens : (block : List ℕ) (h : Head) (payload : List ℕ) → Opens block h payload → opened block ≡ Some h
 
 -- Needed entries that stand in order are apart.
@@ -85,7 +85,7 @@ module _ (laws : JournalLaws) (one : Image) (f : Found) (is : found one ≡ Ok f
         All-get_or (λ (x : FoundEntry). x.end ≤ (get_or f.needed i f.last).number + f.layout.journal) f.needed j f.last there
         (All-get_or (λ (x : FoundEntry). All (λ (y : FoundEntry). y.end ≤ x.number + f.layout.journal) f.needed) f.needed i f.last within order.fits)
 
-    pub needed_apart : (i k : ℕ) → i < length f.needed → k < length f.needed → ¬ (k ≡ i) → AreApart f.layout.journal (get_or f.needed i f.last) (get_or f.needed k f.last)
+    pub needed_apart : (i k : ℕ) → i < length f.needed → k < length f.needed → ¬ (k ≡ i) → DoNotOverlap f.layout.journal (get_or f.needed i f.last) (get_or f.needed k f.last)
     needed_apart i k lower within elsewhere = ⊎_elim
         (λ (before : k < i). inr (ordered f.last f.needed order.entries all_long k i before lower, near k i within lower))
         (λ (after : i ≤ k). inl (ordered f.last f.needed order.entries all_long i k (omega (arith, after, elsewhere)) within, near i k lower within))
@@ -144,7 +144,7 @@ module _ (laws : JournalLaws) (one other : Image) (f : Found) (is : found one �
       ))
       (λ (elsewhere : ¬ (k ≡ index)).
       let w = whole k within in
-      let away : AreApart f.layout.journal entry (get_or f.needed k f.last) = subst (λ (x : FoundEntry). AreApart f.layout.journal x (get_or f.needed k f.last)) entry_is (needed_apart laws one f is order index k lower within elsewhere) in
+      let away : DoNotOverlap f.layout.journal entry (get_or f.needed k f.last) = subst (λ (x : FoundEntry). DoNotOverlap f.layout.journal x (get_or f.needed k f.last)) entry_is (needed_apart laws one f is order index k lower within elsewhere) in
       (w.0, laws.others f.layout (area_of one) (area_of other) w.0 entry (get_or f.needed k f.last) blocks w.1 some made.end away area_mended))
       (cases_eq k index)
 

@@ -5,7 +5,7 @@ ghost use Rattle.dev_model.specs.HeldBlocks.{HasNoCollision, WasHeld};
 ghost use Rattle.geometry.specs.Sessions.{session_in};
 ghost use Rattle.key_meaning.specs.Checks.{AreNodesPlaced};
 ghost use Rattle.journal_ring.specs.Entries.{IsMadeOf, IsWhole, IsWholeOn};
-ghost use Rattle.journal_ring.specs.Mending.{AreApart};
+ghost use Rattle.journal_ring.specs.Mending.{DoNotOverlap};
 ghost use Rattle.journal_ring.specs.Parts.{Area, area_of};
 ghost use Rattle.journal_ring.specs.declared.found.FoundEntry.{FoundEntry as AFound};
 ghost use Rattle.vol_types.specs.declared.layout.Layout.{Layout as ALayout};
@@ -109,7 +109,7 @@ pub fn mending_changes_nothing()
         → IsWhole f.layout (area_of one) (slice_index_or f.needed index f.last) }
     ensures apart { (one : Image) (f : Found) → found one ≡ Ok f → IsInOrder f one
         → (index other : ℕ) → index < length f.needed → other < length f.needed
-        → ¬ (other ≡ index) → AreApart f.layout.journal (slice_index_or f.needed index f.last)
+        → ¬ (other ≡ index) → DoNotOverlap f.layout.journal (slice_index_or f.needed index f.last)
         (slice_index_or f.needed other f.last) }
 {
     leading_entries_are_needed();

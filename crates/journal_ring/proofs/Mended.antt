@@ -18,7 +18,7 @@ use Rattle.journal_ring.proofs.Takes.{parts_continue}
 use Rattle.journal_ring.proofs.Written.{SealedOpen}
 use Rattle.journal_ring.specs.EntryLaws.{Begins, begins, begun, entry_head_is, opens_some_parts}
 use Rattle.journal_ring.specs.MadeOf.{IsMadeWith, made_with}
-use Rattle.journal_ring.specs.Mending.{AreApart, HasPart, IsMended}
+use Rattle.journal_ring.specs.Mending.{DoNotOverlap, HasPart, IsMended}
 use Rattle.journal_ring.proofs.Places.{apart}
 use Rattle.journal_ring.proofs.Sealed.{AreSealed, AreSoLong, IsExactFormat, made_sealed, one_sealed}
 
@@ -214,7 +214,7 @@ module _ (seals : SealedOpen) (sealed : AreSealed) (exact : IsExactFormat) (so_l
   }
 
 -- The places of an entry that is apart from the one that is mended stay.
-pub places_stay : (layout : Layout) (one other : Area) (found another : FoundEntry) (blocks : List (List ℕ)) → 0 < layout.journal → found.end ≡ found.number + length blocks → AreApart layout.journal found another
+pub places_stay : (layout : Layout) (one other : Area) (found another : FoundEntry) (blocks : List (List ℕ)) → 0 < layout.journal → found.end ≡ found.number + length blocks → DoNotOverlap layout.journal found another
     → IsMended layout found.number blocks one other → AgreeFrom layout one other another.number another.end
 places_stay layout one other found another blocks some ends are_apart mended dev number mirror from before =
     mended.elsewhere dev (number % layout.journal) mirror (omega (arith, some)) (λ p lower same. ⊎_elim

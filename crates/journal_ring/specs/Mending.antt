@@ -27,8 +27,8 @@ pub record IsMended (layout : Layout) (number : ℕ) (blocks : List (List ℕ)) 
   pub elsewhere : (dev place : ℕ) → dev < layout.metadata_replicas → place < layout.journal → ((p : ℕ) → p < length blocks → place ≢ (number + p) % layout.journal) → one dev place ≡ other dev place
 
 -- One entry ends before the other begins, and from the beginning of the first to the end of the second no place comes twice.
-abbrev pub AreApart : ℕ → FoundEntry → FoundEntry → Type 0
-AreApart journal one other =
+abbrev pub DoNotOverlap : ℕ → FoundEntry → FoundEntry → Type 0
+DoNotOverlap journal one other =
     ((one.end ≤ other.number) × (other.end ≤ one.number + journal)) ⊎ ((other.end ≤ one.number) × (one.end ≤ other.number + journal))
 
 -- The image lacks bytes that are wanted at this place.

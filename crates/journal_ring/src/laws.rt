@@ -9,7 +9,7 @@ ghost use Rattle.journal_ring.specs.Counting.{Counts, counting, journal_in, need
 ghost use Rattle.journal_ring.specs.Entries.{AgreeFrom, IsMadeOf, IsWhole, IsWholeOn, entry_on};
 ghost use Rattle.journal_ring.specs.EntryBlocks.{AreEntryBlocks, HoldBlocks, parts_of, ring_block};
 ghost use Rattle.journal_ring.specs.Leading.{AreFrom, IsGreatest, Leads};
-ghost use Rattle.journal_ring.specs.Mending.{AreApart, IsMended};
+ghost use Rattle.journal_ring.specs.Mending.{DoNotOverlap, IsMended};
 ghost use Rattle.journal_ring.specs.Parts.{Area, AreSame, area_of};
 ghost use Rattle.journal_ring.specs.Rings.{HaveArea};
 
@@ -107,11 +107,11 @@ pub fn mended_entries_stay_whole()
     // Other entries of the ring have other places.
     ensures places { (layout : ALayout) (one other : Area) (found another : AFound)
         (blocks : List (List ℕ)) → 0 < layout.journal → found.end ≡ found.number + length blocks
-        → AreApart layout.journal found another → IsMended layout found.number blocks one other
+        → DoNotOverlap layout.journal found another → IsMended layout found.number blocks one other
         → AgreeFrom layout one other another.number another.end }
     ensures others { (layout : ALayout) (one other : Area) (dev : ℕ) (found another : AFound)
         (blocks : List (List ℕ)) → IsWholeOn layout one dev another → 0 < layout.journal
-        → found.end ≡ found.number + length blocks → AreApart layout.journal found another
+        → found.end ≡ found.number + length blocks → DoNotOverlap layout.journal found another
         → IsMended layout found.number blocks one other → IsWholeOn layout other dev another }
 {
     sealed_blocks_open();

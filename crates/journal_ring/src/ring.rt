@@ -99,6 +99,14 @@ impl Ring {
         self.written == self.blocks.len()
     }
 
+    /// How many blocks of the journal area hold nothing that is kept.
+    pub fn left(&self) -> u32
+        ensures { result ≡ self.now.journal - used self.now }
+    {
+        let used = self.next - self.first;
+        u64::from(self.journal).saturating_sub(used) as u32
+    }
+
     /// Whether so many blocks more fit beside those that are kept.
     pub fn fits(&self, need: u32) -> Result<(), RingFull>
         ensures ok { OnOk result (used self.now + need ≤ self.now.journal) }
@@ -112,7 +120,7 @@ impl Ring {
             return Ok(());
         }
         Err(RingFull {
-            left: journal.saturating_sub(used) as u32,
+            left: self.left(),
             need,
         })
     }

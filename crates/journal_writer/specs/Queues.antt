@@ -12,6 +12,7 @@ use Rattle.vol_types.specs.declared.positions.Btree.{Btree}
 use Rattle.journal_writer.specs.Changes.{changes_btree, changes_then, no_changes, undone}
 use Rattle.journal_writer.specs.declared.changes.KeyChanges.{KeyChanges}
 use Rattle.journal_writer.specs.declared.changes.Pending.{Pending}
+use Rattle.journal_writer.specs.declared.entry_size.EntrySize.{EntrySize}
 
 -- the bytes of an entry without keys, whose nine roots lie on so many metadata devices
 abbrev pub head_length : ℕ → ℕ
@@ -63,6 +64,14 @@ abbrev pub growth : List Update → Queue → ℕ
 growth updates queue =
     if closes updates queue then blocks_with queue.mirrors updates
     else blocks_with queue.mirrors (queue.open_entry.changes.updates ++ updates) - blocks_with queue.mirrors queue.open_entry.changes.updates
+
+-- The updates come to this in the queue: they take these bytes, begin a new entry or not, and the entries grow with them by these
+-- blocks, which are at most 64.
+pub record IsSizeOf (queue : Queue) (updates : List Update) (size : EntrySize) : Type 0 where
+  pub bytes : size.bytes ≡ sum_by update_length_of updates
+  pub new_entry : size.new_entry ≡ closes updates queue
+  pub blocks : size.blocks ≡ growth updates queue
+  pub few : size.blocks ≤ 64
 
 -- the queue, with the open entry closed where these updates would not fit it
 abbrev pub readied : List Update → Queue → Queue

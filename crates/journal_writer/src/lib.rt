@@ -11,6 +11,7 @@
 
 mod changes;
 mod durable;
+mod entry_size;
 mod flags;
 mod laws;
 mod open_entry;
@@ -21,6 +22,7 @@ mod writer;
 
 pub use changes::{KeyChanges, Pending, has_keys_of, taken_back};
 pub use durable::Durable;
+pub use entry_size::EntrySize;
 pub use laws::{
     btrees_change_from_their_first_entry, commits_are_undone, commits_leave_queues, entries_fit,
     entries_leave_in_turn, waiting_changes_lead_from_durable_keys,

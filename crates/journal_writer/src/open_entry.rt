@@ -1,6 +1,7 @@
-ghost use Rattle.std.specs.Prelude.{◌≡◌, ◌+◌, ◌*◌, ◌<◌, ◌≤◌, ◌^◌, ◌++◌, All, OnOk, length, sum_by};
+ghost use Rattle.std.specs.Prelude.{◌≡◌, ◌+◌, ◌*◌, ◌<◌, ◌≤◌, ◌^◌, ◌++◌, All, List, OnOk, length, sum_by};
 ghost use Rattle.record_codec.specs.Entries.{update_length_of};
 ghost use Rattle.vol_types.specs.Standing.{IsUpdate};
+ghost use Rattle.vol_types.specs.declared.keys.Update.{Update};
 ghost use Rattle.journal_writer.specs.Changes.{no_changes};
 ghost use Rattle.journal_writer.specs.Queues.{blocks_with, count_of, with_commit};
 
@@ -50,14 +51,19 @@ impl OpenEntry {
         }
     }
 
-    /// An entry of the changes of one commit. It takes no memory.
-    pub(crate) fn of(after: u64, behind: u64, commits: u64, changes: KeyChanges) -> OpenEntry
-        requires updates { All IsUpdate changes.updates }
-        requires few { sum_by update_length_of changes.updates ≤ 64 * 3968 }
+    /// An entry of the changes of one commit, whose updates take so many bytes. It takes no memory.
+    pub(crate) fn of(
+        after: u64,
+        behind: u64,
+        commits: u64,
+        changes: KeyChanges,
+        bytes: u64,
+    ) -> OpenEntry
+        requires few { bytes ≤ 64 * 3968 }
+        requires bytes { bytes ≡ sum_by update_length_of changes.updates }
         ensures { result.entry ≡ record
             { after = after; behind = behind; commits = commits; changes = changes } }
     {
-        let bytes = updates_length(changes.updates.as_slice());
         OpenEntry {
             after,
             behind,
@@ -66,6 +72,22 @@ impl OpenEntry {
             before: SpareList::from(changes.before),
             bytes,
         }
+    }
+
+    /// An entry that was closed, opened again. It goes over its updates, and takes no memory.
+    pub(crate) fn reopened(entry: Pending) -> OpenEntry
+        requires updates { All IsUpdate entry.changes.updates }
+        requires few { sum_by update_length_of entry.changes.updates ≤ 64 * 3968 }
+        ensures { result.entry ≡ entry }
+    {
+        let bytes = updates_length(entry.changes.updates.as_slice());
+        OpenEntry::of(
+            entry.after,
+            entry.behind,
+            entry.commits,
+            entry.changes,
+            bytes,
+        )
     }
 
     pub(crate) fn after(&self) -> u64
@@ -105,13 +127,13 @@ impl OpenEntry {
         blocks_for(mirrors, self.bytes)
     }
 
-    /// How many blocks the entry takes with these updates.
-    pub(crate) fn blocks_after(&self, mirrors: u8, updates: &[Update]) -> u64
-        requires updates { All IsUpdate updates.now }
-        requires few { sum_by update_length_of updates.now ≤ 64 * 3968 }
-        ensures { result ≡ blocks_with mirrors (self.now.entry.changes.updates ++ updates.now) }
+    /// How many blocks the entry takes with further updates of so many bytes.
+    pub(crate) fn blocks_after(&self, mirrors: u8, bytes: u64) -> u64
+        requires { bytes ≤ 64 * 3968 }
+        ensures { (updates : List Update) → bytes ≡ sum_by update_length_of updates
+            → result ≡ blocks_with mirrors (self.now.entry.changes.updates ++ updates) }
     {
-        blocks_for(mirrors, self.bytes + updates_length(updates))
+        blocks_for(mirrors, self.bytes + bytes)
     }
 
     /// Makes room for so many more updates with their values from before.
@@ -124,9 +146,9 @@ impl OpenEntry {
         self.before.reserve(count)
     }
 
-    /// Adds the changes of a commit. It takes no memory where there is room.
-    pub(crate) fn add(&mut self, changes: KeyChanges, counted: bool)
-        requires updates { All IsUpdate changes.updates }
+    /// Adds the changes of a commit, whose updates take so many bytes. It takes no memory where there is room.
+    pub(crate) fn add(&mut self, changes: KeyChanges, bytes: u64, counted: bool)
+        requires bytes { bytes ≡ sum_by update_length_of changes.updates }
         requires pairs { length changes.before ≡ length changes.updates }
         requires few { sum_by update_length_of (self.old.entry.changes.updates ++ changes.updates)
             ≤ 64 * 3968 }
@@ -134,7 +156,7 @@ impl OpenEntry {
         requires numbers { self.old.entry.commits + count_of counted < 2 ^ 64 }
         ensures { self.new.entry ≡ with_commit changes counted self.old.entry }
     {
-        self.bytes += updates_length(changes.updates.as_slice());
+        self.bytes += bytes;
         add_all(&mut self.updates, changes.updates);
         add_all(&mut self.before, changes.before);
         if counted {

@@ -1,12 +1,15 @@
-ghost use Rattle.std.specs.Prelude.{◌≡◌, ◌↔◌, ◌+◌, ◌-◌, ◌<◌, ◌≤◌, ◌^◌, ◌++◌, ◌∷◌, [], All, IfOk, IsTrue, OnOk, false, true, length, not, ◌==◌, vec_len, vec_capacity};
+ghost use Rattle.std.specs.Prelude.{◌≡◌, ◌↔◌, ◌+◌, ◌-◌, ◌<◌, ◌≤◌, ◌^◌, ◌++◌, ◌∷◌, [], All, IfOk, IsTrue, List, OnOk, false, true, length, not, sum_by, ◌==◌, vec_len, vec_capacity};
+ghost use Rattle.record_codec.specs.Entries.{update_length_of};
 ghost use Rattle.vol_types.specs.KeyMaps.{IsKeyMap, KeyMap};
 ghost use Rattle.vol_types.specs.Standing.{IsUpdate};
+ghost use Rattle.vol_types.specs.declared.keys.Update.{Update};
 ghost use Rattle.journal_writer.specs.Changes.{IsPartOf, undone};
-ghost use Rattle.journal_writer.specs.Queues.{AreChanges, HasNumbers, HasRoom, IsQueue, blocks_with, closed_changes, closes, count_of, empty_queue, first_with, follower_of, growth, joined, last_block, last_of, oldest, waiting, waiting_entries, with_commit, without_oldest, IsTakenOut, Queue};
+ghost use Rattle.journal_writer.specs.Queues.{AreChanges, HasNumbers, HasRoom, IsQueue, IsSizeOf, blocks_with, closed_changes, closes, count_of, empty_queue, first_with, follower_of, growth, joined, last_block, last_of, oldest, waiting, waiting_entries, with_commit, without_oldest, IsTakenOut, Queue};
 
 use crate::changes::{KeyChanges, Pending, has_keys_of, last_left, taken_back};
+use crate::entry_size::EntrySize;
 use crate::open_entry::OpenEntry;
-use crate::sizes::{MOST_BLOCKS, blocks_with, fits_one_entry};
+use crate::sizes::{MOST_BLOCKS, blocks_for, fits_one_entry, updates_length};
 use node_mem::NodeMem;
 use std::alloc::{AllocError, Global};
 use std::marker::Model;
@@ -117,41 +120,38 @@ impl EntryQueue {
         fits_one_entry(self.mirrors, updates)
     }
 
-    /// Whether the open entry is closed before these updates join, since it would pass 64 blocks with them.
-    pub fn closes(&self, updates: &[Update]) -> bool
+    /// What these updates come to in the entries. It goes over their names.
+    pub fn size_of(&self, updates: &[Update]) -> EntrySize
         requires updates { All IsUpdate updates.now }
         requires few { blocks_with self.now.queue.mirrors updates.now ≤ 64 }
-        ensures { result ≡ closes updates.now self.now.queue }
+        ensures { IsSizeOf self.now.queue updates.now result }
     {
-        self.open_entry.blocks_after(self.mirrors, updates) > MOST_BLOCKS
-    }
-
-    /// By how many blocks the entries grow with these updates: by what the open entry grows, or, where it is closed before
-    /// them, by those of a new one.
-    pub fn growth(&self, updates: &[Update]) -> u32
-        requires updates { All IsUpdate updates.now }
-        requires few { blocks_with self.now.queue.mirrors updates.now ≤ 64 }
-        ensures exact { result ≡ growth updates.now self.now.queue }
-        ensures most { result ≤ 64 }
-    {
-        let joined = self.open_entry.blocks_after(self.mirrors, updates);
+        let bytes = updates_length(updates);
+        let joined = self.open_entry.blocks_after(self.mirrors, bytes);
         if joined > MOST_BLOCKS {
-            return blocks_with(self.mirrors, updates) as u32;
+            return EntrySize {
+                bytes,
+                new_entry: true,
+                blocks: blocks_for(self.mirrors, bytes) as u32,
+            };
         }
-        (joined - self.open_entry.blocks(self.mirrors)) as u32
+        EntrySize {
+            bytes,
+            new_entry: false,
+            blocks: (joined - self.open_entry.blocks(self.mirrors)) as u32,
+        }
     }
 
-    /// Whether the numbers of sequences, blocks and commits are left that the entries take with these updates, in a commit
-    /// that counts or in one that doesn't.
-    pub fn has_numbers(&self, updates: &[Update], counted: bool) -> bool
-        requires updates { All IsUpdate updates.now }
-        requires few { blocks_with self.now.queue.mirrors updates.now ≤ 64 }
-        ensures { IsTrue result ↔ HasNumbers updates.now counted self.now.queue }
+    /// Whether the numbers of sequences, blocks and commits are left that the entries take with updates of this size, in a
+    /// commit that counts or in one that doesn't.
+    pub fn has_numbers(&self, size: EntrySize, counted: bool) -> bool
+        ensures { (updates : List Update) → IsSizeOf self.now.queue updates size
+            → IsTrue result ↔ HasNumbers updates counted self.now.queue }
     {
-        if !is_left(self.open_entry.after(), 1 + number_of(self.closes(updates))) {
+        if !is_left(self.open_entry.after(), 1 + number_of(size.new_entry)) {
             return false;
         }
-        if !is_left(self.last_block(), 1 + u64::from(self.growth(updates))) {
+        if !is_left(self.last_block(), 1 + u64::from(size.blocks)) {
             return false;
         }
         is_left(self.open_entry.commits(), number_of(counted))
@@ -162,7 +162,7 @@ impl EntryQueue {
         ensures { IsTrue result ↔ HasNumbers [] false self.now.queue }
     {
         let _ = &self.mirrors;
-        self.has_numbers(&[], false)
+        self.has_numbers(self.size_of(&[]), false)
     }
 
     /// The sequence of the oldest entry that changes the keys of a btree, or none. It goes over the updates of the entries, up to
@@ -221,26 +221,26 @@ impl EntryQueue {
         Ok(node)
     }
 
-    /// Takes all memory that `join` needs for changes with these updates. What is queued stays, after an `Err` too, which is
-    /// out of memory. It costs the size of the updates, on the average of many commits.
-    pub fn reserve(&mut self, updates: &[Update]) -> Result<(), AllocError>
-        requires updates { All IsUpdate updates.now }
-        requires few { blocks_with self.old.queue.mirrors updates.now ≤ 64 }
+    /// Takes all memory that `join` needs for changes with these updates, which come to this size. What is queued stays, after
+    /// an `Err` too, which is out of memory. It costs what the updates do, on the average of many commits, but for their names.
+    pub fn reserve(&mut self, updates: &[Update], size: EntrySize) -> Result<(), AllocError>
+        requires { IsSizeOf self.old.queue updates.now size }
         ensures queue { self.new.queue ≡ self.old.queue }
         ensures ok { OnOk result (HasRoom updates.now self.new) }
         ensures room { self.old.room ≤ self.new.room }
         ensures places { self.old.places ≤ self.new.places }
     {
-        if self.closes(updates) {
+        if size.new_entry {
             return self.closed.reserve(1);
         }
         self.open_entry.reserve(updates.len())
     }
 
-    /// Adds the changes of a commit to the open entry, which is closed before where it would pass 64 blocks with them, and
-    /// waits behind those that are closed already. A commit without changes counts in the open entry too. It takes no memory,
-    /// which `reserve` took, and costs the size of the changes.
-    pub fn join(&mut self, changes: KeyChanges, counted: bool)
+    /// Adds the changes of a commit, whose updates come to this size, to the open entry, which is closed before where it would
+    /// pass 64 blocks with them, and waits behind those that are closed already. A commit without changes counts in the open
+    /// entry too. It takes no memory, which `reserve` took, and costs what the changes do, but for their names.
+    pub fn join(&mut self, changes: KeyChanges, size: EntrySize, counted: bool)
+        requires size { IsSizeOf self.old.queue changes.updates size }
         requires changes { AreChanges self.old.queue.mirrors changes }
         requires numbers { HasNumbers changes.updates counted self.old.queue }
         requires room { HasRoom changes.updates self.old }
@@ -248,18 +248,18 @@ impl EntryQueue {
         ensures grows { last_block self.new.queue ≡ last_block self.old.queue
             + growth changes.updates self.old.queue }
     {
-        if self.closes(changes.updates.as_slice()) {
-            let next = self.follower(changes, counted);
+        if size.new_entry {
+            let next = self.follower(changes, size.bytes, counted);
             let full = mem::replace(&mut self.open_entry, next);
             push(&mut self.closed, full.close());
         } else {
-            self.open_entry.add(changes, counted);
+            self.open_entry.add(changes, size.bytes, counted);
         }
     }
 
-    // The entry that follows the open one, of the changes of a commit.
-    fn follower(&self, changes: KeyChanges, counted: bool) -> OpenEntry
-        requires updates { All IsUpdate changes.updates }
+    // The entry that follows the open one, of the changes of a commit, whose updates take so many bytes.
+    fn follower(&self, changes: KeyChanges, bytes: u64, counted: bool) -> OpenEntry
+        requires bytes { bytes ≡ sum_by update_length_of changes.updates }
         requires few { blocks_with self.now.queue.mirrors changes.updates ≤ 64 }
         requires numbers { HasNumbers changes.updates counted self.now.queue }
         requires closes { closes changes.updates self.now.queue ≡ true }
@@ -271,6 +271,7 @@ impl EntryQueue {
             self.last_block(),
             self.open_entry.commits() + number_of(counted),
             changes,
+            bytes,
         )
     }
 
@@ -316,12 +317,7 @@ impl EntryQueue {
         if self.oldest_has_keys() {
             put_first(&mut self.closed, entry);
         } else {
-            self.open_entry = OpenEntry::of(
-                entry.after,
-                entry.behind,
-                entry.commits,
-                entry.changes,
-            );
+            self.open_entry = OpenEntry::reopened(entry);
         }
     }
 

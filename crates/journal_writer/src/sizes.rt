@@ -32,15 +32,6 @@ pub(crate) fn blocks_for(mirrors: u8, bytes: u64) -> u64
     part_count(36 + 9 * (10 + 5 * u64::from(mirrors)) + bytes)
 }
 
-/// How many blocks an entry takes with these updates.
-pub(crate) fn blocks_with(mirrors: u8, updates: &[Update]) -> u64
-    requires updates { All IsUpdate updates.now }
-    requires few { sum_by update_length_of updates.now ≤ 64 * 3968 }
-    ensures { result ≡ blocks_with mirrors updates.now }
-{
-    blocks_for(mirrors, updates_length(updates))
-}
-
 /// Whether an entry with these updates alone takes at most 64 blocks, where there are so many metadata devices. It goes over
 /// the updates, and stops where they take more.
 pub(crate) fn fits_one_entry(mirrors: u8, updates: &[Update]) -> bool

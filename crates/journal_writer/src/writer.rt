@@ -344,7 +344,6 @@ fn stage_record(
     requires free { ring.old.blocks ≡ [] }
     requires entry { IsEntryInRange entry.now }
     requires few { parts_of entry.now < 2 ^ 32 }
-    requires area { ring.old.journal ≤ 4096 }
     ensures numbers { OnOk result (HasBlockNumbers ring.old (parts_of entry.now)) }
     ensures room { OnOk result (HasRoom ring.old (parts_of entry.now)) }
     ensures ring { OnOk result (ring.new ≡ with_flight ring.new.blocks ring.old) }
@@ -378,21 +377,17 @@ fn stage_record(
 
 // Whether the ring has room for an entry of so many blocks.
 fn room_for(ring: &Ring, parts: u32) -> Result<(), RingFull>
-    requires { ring.now.journal ≤ 4096 }
     ensures ok { OnOk result (HasRoom ring.now parts) }
     ensures full { OnErr result (¬ HasRoom ring.now parts) }
     ensures numbers { IfErr result (λ full. full
         ≡ record { left = ring.now.journal - used ring.now; need = parts }) }
 {
-    if parts <= 64 {
-        return ring.fits(parts);
+    if parts > 64 {
+        // No ring has room for so many.
+        return Err(RingFull {
+            left: ring.left(),
+            need: parts,
+        });
     }
-    // No ring has room for so many.
-    let Err(full) = ring.fits(u32::MAX) else {
-        unreachable!()
-    };
-    Err(RingFull {
-        left: full.left,
-        need: parts,
-    })
+    ring.fits(parts)
 }

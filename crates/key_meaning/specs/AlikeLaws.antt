@@ -1,5 +1,5 @@
 -- Ids that show the same have the same tree.
-use Rattle.std.proofs.Common.{◌≡◌, ℕ, ◌/◌, ◌%◌, cond, Some, None, List, sym, ap, ◌∙◌, map}
+use Rattle.std.proofs.Common.{◌≡◌, ℕ, ◌/◌, ◌%◌, cond, Some, None, List, ap, ◌∙◌, map}
 use Rattle.std.specs.Prelude.{option_map, option_and_then}
 use Rattle.std.specs.List.{range_with_len}
 use Rattle.std.proofs.lemmas.Cmp.{nat_cmp_total, nat_list_cmp_total}
@@ -27,10 +27,7 @@ alike_from_visible one other id another inodes dirents blocks = record {
   blocks = blocks;
 }
 
--- What is alike stays so, seen from the other side, and over a third one.
-pub alike_turned : (one other : KeyMap) (id another : ℕ) → ShowAlike one id other another → ShowAlike other another one id
-alike_turned one other id another alike = record { inodes = λ number. sym (alike.inodes number); names = λ directory slot. sym (alike.names directory slot); blocks = λ file block. sym (alike.blocks file block) }
-
+-- What is alike stays so over a third one.
 pub alike_then : (one other third : KeyMap) (id another last : ℕ) → ShowAlike one id other another → ShowAlike other another third last → ShowAlike one id third last
 alike_then one other third id another last alike again = record { inodes = λ number. alike.inodes number ∙ again.inodes number; names = λ directory slot. alike.names directory slot ∙ again.names directory slot; blocks = λ file block. alike.blocks file block ∙ again.blocks file block }
 

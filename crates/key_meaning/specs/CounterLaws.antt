@@ -43,14 +43,6 @@ has_drawn-still keys new still Counters entry drawn = tt
 pub is_key_of-still : (keys new : KeyMap) → ((number : ℕ) → IsDrawn keys number → IsDrawn new number) → (btree : Btree) (entry : Pos × Value) → IsKeyOf keys btree entry → IsKeyOf new btree entry
 is_key_of-still keys new still btree entry key = record { stands = key.stands; in_range = key.in_range; place = key.place; id = key.id; numbers = has_drawn-still keys new still btree entry key.numbers }
 
--- An update of one btree is of no other one.
-pub of_this_alone : (update : Update) (one other : Btree) → is_update_of one update ≡ true → is_update_of other update ≡ true → (btree_code one == btree_code other) ≡ true
-of_this_alone update one other is also = by (btree_code one == btree_code other) refl
-  where
-    by : (b : Bool) → (btree_code one == btree_code other) ≡ b → b ≡ true
-    by true at = refl
-    by false at = absurd (true≢false (sym also ∙ of_no_other update one other is at))
-
 -- The entries of another btree are as they were.
 pub entries_other : (update : Update) (keys : KeyMap) (btree : Btree) → is_update_of btree update ≡ false → entries_of (with_update update keys) btree ≡ entries_of keys btree
 entries_other update keys btree other = entries_of-with_update update keys btree ∙ ap (λ b. cond b (put_at pos_cmp update.pos update.value (entries_of keys btree)) (entries_of keys btree)) other

@@ -9,7 +9,7 @@ mod shown;
 mod steps;
 
 pub use closing::steps_end_in_good_trees;
-pub use kept::{kept_names_are_apart, sound_keys_are_kept_and_good};
+pub use kept::{kept_names_are_apart, shown_numbers_are_drawn, sound_keys_are_kept_and_good};
 pub use shown::shown_keys_mean_trees;
 pub use steps::{
     counters_are_steps, files_go_in_steps, inodes_are_steps, names_are_steps,

@@ -12,3 +12,5 @@ pub mod Following
 pub mod Space
 pub mod Zeros
 pub mod Fitting
+pub mod Few
+pub mod Bytes

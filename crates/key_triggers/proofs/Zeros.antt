@@ -101,3 +101,17 @@ lives_of_space keys (entry ∷ tallies) = All-cons IsSpaceUpdate (live_update ke
 pub owners_of_space : (owners : Owners) → All IsSpaceUpdate (map owner_update owners)
 owners_of_space [] = All-nil IsSpaceUpdate
 owners_of_space (entry ∷ owners) = All-cons IsSpaceUpdate (owner_update entry) (map owner_update owners) (inr refl) (owners_of_space owners)
+
+-- They stand without a snapshot id.
+lives_at_zero : (keys : KeyMap) (tallies : Tallies) → AtZero tallies → All (λ (update : Update). update.pos.snapshot ≡ 0) (map (live_update keys) tallies)
+lives_at_zero keys [] all = All-nil (λ (update : Update). update.pos.snapshot ≡ 0)
+lives_at_zero keys (entry ∷ tallies) all = All-cons (λ (update : Update). update.pos.snapshot ≡ 0) (live_update keys entry) (map (live_update keys) tallies) all.0 (lives_at_zero keys tallies all.1)
+
+owners_at_zero : (owners : Owners) → AtZero owners → All (λ (update : Update). update.pos.snapshot ≡ 0) (map owner_update owners)
+owners_at_zero [] all = All-nil (λ (update : Update). update.pos.snapshot ≡ 0)
+owners_at_zero (entry ∷ owners) all = All-cons (λ (update : Update). update.pos.snapshot ≡ 0) (owner_update entry) (map owner_update owners) all.0 (owners_at_zero owners all.1)
+
+pub space_at_zero : (keys : KeyMap) (updates : List Update) → All (λ (update : Update). update.pos.snapshot ≡ 0) (map (live_update keys) (tallies_of keys updates) ++ map owner_update (owners_of keys updates))
+space_at_zero keys updates = All-append (λ (update : Update). update.pos.snapshot ≡ 0) (map (live_update keys) (tallies_of keys updates)) (map owner_update (owners_of keys updates))
+    (lives_at_zero keys (tallies_of keys updates) (values_zero true (values_after updates []) (counted_values false (values_before keys updates []) []) (values_zero false (values_before keys updates []) [] tt)))
+    (owners_at_zero (owners_of keys updates) (held_zero (values_after updates []) (left_by (values_before keys updates []) []) (left_zero (values_before keys updates []) [] tt)))

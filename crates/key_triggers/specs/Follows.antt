@@ -42,11 +42,12 @@ abbrev pub IsSpaceUpdate : Update → Type 0
 IsSpaceUpdate update = (is_update_of Alloc update ≡ true) ⊎ (is_update_of Backptrs update ≡ true)
 
 -- The updates are the plan's, where each pointer of an extent has the present generation of its bucket, and after them some of
--- keys on space alone.
+-- keys on space alone, which stand without a snapshot id.
 pub record IsExpanded (keys : KeyMap) (updates all : List Update) : Type 0 where
   pub space : List Update
   pub are : all ≡ map (stamped keys) updates ++ space
   pub only_space : All IsSpaceUpdate space
+  pub at_zero : All (λ (update : Update). update.pos.snapshot ≡ 0) space
 
 -- The keys on space are the inverse of the extents again, and these are the plan's but for the generations of their pointers. A
 -- bucket that was emptied has the next generation.

@@ -5,3 +5,4 @@ pub mod Owners
 pub mod Stamps
 pub mod Expanding
 pub mod Follows
+pub mod Bounds

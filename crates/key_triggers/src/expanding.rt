@@ -1,4 +1,5 @@
-ghost use Rattle.std.specs.Prelude.{◌≡◌, [], All, List, IfErr, IfOk, map};
+ghost use Rattle.std.specs.Prelude.{◌≡◌, ◌≤◌, [], All, List, IfErr, IfOk, length, map};
+ghost use Rattle.key_triggers.specs.Bounds.{most_expanded};
 ghost use Rattle.key_triggers.specs.Owners.{held_by, left_by, owner_update};
 ghost use Rattle.key_triggers.specs.Expanding.{expanded};
 ghost use Rattle.key_triggers.specs.Follows.{Follows, IsExpanded, MayFollow};
@@ -22,10 +23,13 @@ use vol_types::{Pos, Update, Updates, Value};
 /// The updates of a plan, with those of the keys on space that follow from them. Each pointer of an extent that is put gets the
 /// present generation of its bucket. The key of a bucket in use says how many of its blocks are, and where that falls to 0 the
 /// bucket gets the next generation, if there is one; the key of a block at which a copy of an extent begins leads to the extent.
+/// There are at most two more for each pointer of an extent that goes or comes, one of its bucket and one of its block.
 ///
 /// It makes one look for each update of an extent, one for each pointer that is put, and one for each bucket whose blocks come
 /// or go; no look costs more than a logarithm. It takes memory for the updates and for what they change.
 pub fn expand<V: View>(alloc: Global, view: &mut V, updates: &Updates) -> Result<Updates, Hold>
+    ensures are { IfOk result (λ all. (keys : KeyMap) → GivesLooks keys (V.made view.new)
+        → all ≡ expanded keys updates.now) }
     ensures expanded { IfOk result (λ all. (keys : KeyMap) → GivesLooks keys (V.made view.new)
         → IsExpanded keys updates.now all) }
     ensures follows { IfOk result (λ all. (keys : KeyMap) (nodes : List APlace) (layout : Layout)
@@ -34,6 +38,8 @@ pub fn expand<V: View>(alloc: Global, view: &mut V, updates: &Updates) -> Result
     // Those that may be made stay so, where a key map gives the looks.
     ensures fits { IfOk result (λ all. (keys : KeyMap) → GivesLooks keys (V.made view.new)
         → All IsUpdate updates.now → All IsUpdate all) }
+    ensures few { IfOk result (λ all. (keys : KeyMap) → GivesLooks keys (V.made view.new)
+        → length all ≤ most_expanded keys updates.now) }
     ensures looks { GoesOn (V.made view.old) (V.made view.new) }
     ensures ids { V.told view.new ≡ V.told view.old }
     ensures cause { IfErr result (IsCause (V.held view.new)) }

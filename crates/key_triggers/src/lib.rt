@@ -13,3 +13,4 @@ mod tallies;
 mod values;
 
 pub use expanding::expand;
+pub use laws::{expanded_keys_follow, expanded_updates_are_few};

@@ -59,13 +59,16 @@ fn removal<V: View>(
     ensures ids { V.told view.new ≡ V.told view.old }
     ensures cause { IfErr result (IsCause (V.held view.new)) }
 {
-    if whiteout_needed(view, tree, btree, own.inode, own.offset, own.snapshot)? {
+    let hides = whiteout_needed(view, tree, btree, own.inode, own.offset, own.snapshot)?;
+    if hides {
         return Ok(own_update(alloc, btree, own, Some(Value::White))?);
     }
-    if !has_key(view, btree, own)? {
+    let has_own = has_key(view, btree, own)?;
+    if !has_own {
         return Ok(Updates::new(alloc));
     }
-    Ok(own_update(alloc, btree, own, None)?)
+    let updates = own_update(alloc, btree, own, None)?;
+    Ok(updates)
 }
 
 // Whether there is a key at a position.

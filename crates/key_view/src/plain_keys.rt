@@ -1,5 +1,5 @@
 ghost use Rattle.std.specs.Option.{option_to_list};
-ghost use Rattle.std.specs.Prelude.{◌≡◌, ◌∷◌, [], IfOk};
+ghost use Rattle.std.specs.Prelude.{◌≡◌, ◌∷◌, ◌++◌, [], IfOk, OnOk};
 ghost use Rattle.vol_types.specs.KeyMaps.{answer_of, entries_of, entries_within, entry_at, first_from, key_of, keys_in};
 
 use std::alloc::{AllocError, Global};
@@ -119,10 +119,7 @@ fn copy_keys(alloc: Global, values: btree_map::Range<'_, Pos, Value>) -> Result<
 {
     let mut keys = Keys::new(alloc);
     for (pos, value) in values {
-        keys.push(Key {
-            pos: *pos,
-            value: Some(value.copy(alloc)?),
-        })?;
+        push_copy(alloc, &mut keys, *pos, value)?;
     }
     Ok(keys)
 }
@@ -132,9 +129,18 @@ fn one_key(alloc: Global, pos: Pos, value: &Value) -> Result<Keys, AllocError>
     ensures { IfOk result (λ keys. keys ≡ key_of (pos, value.now) ∷ []) }
 {
     let mut keys = Keys::new(alloc);
+    push_copy(alloc, &mut keys, pos, value)?;
+    Ok(keys)
+}
+
+// Adds a position with a copy of its value.
+fn push_copy(alloc: Global, keys: &mut Keys, pos: Pos, value: &Value) -> Result<(), AllocError>
+    ensures { OnOk result (keys.new ≡ keys.old ++ key_of (pos, value.now) ∷ []) }
+{
+    let value = value.copy(alloc)?;
     keys.push(Key {
         pos,
-        value: Some(value.copy(alloc)?),
+        value: Some(value),
     })?;
-    Ok(keys)
+    Ok(())
 }

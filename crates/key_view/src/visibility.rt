@@ -60,7 +60,10 @@ pub fn whiteout_needed<V: View>(
     let Some(parent) = tree.parent(id) else {
         return Ok(false);
     };
-    Ok(nearest(view, tree, btree, inode, offset, parent)?.is_some())
+    let seen = nearest(view, tree, btree, inode, offset, parent)?;
+    let needed = seen.is_some();
+    drop(seen);
+    Ok(needed)
 }
 
 // The first id from a number on that has a key of its own at a position, with its value.

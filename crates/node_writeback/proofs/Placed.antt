@@ -14,7 +14,7 @@ use Rattle.std.proofs.lemmas.Option.{same_Some}
 use Rattle.birth_index.specs.Births.{BirthsDiffer, IsFree, birth_of, levels_of, node_of}
 use Rattle.birth_index.specs.ExchangeLaws.{levels_of-others, other-with_pointer}
 use Rattle.birth_index.specs.Exchanges.{AreExchanges, IsExchange, IsOfRoot, exchanged, one_node, only_name, with_pointer}
-use Rattle.birth_index.specs.Exchanges.{AreApart as AreOfTwo}
+use Rattle.birth_index.specs.Exchanges.{AreOfOtherNodes}
 use Rattle.birth_index.specs.NameLaws.{names_apart, one_btree, one_name, same_name}
 use Rattle.birth_index.specs.declared.name.Exchange.{Exchange}
 use Rattle.birth_index.specs.declared.name.NodeName.{NodeName}
@@ -32,7 +32,7 @@ use Rattle.vol_types.specs.declared.pointers.NodePtr.{NodePtr}
 use Rattle.vol_types.specs.declared.positions.Btree.{Btree}
 use Rattle.vol_types.specs.declared.positions.Pos.{Pos}
 use Rattle.node_writeback.specs.Due.{is_due, is_frozen, is_pinned_up_to, no_node, root_in, root_of}
-use Rattle.node_writeback.specs.Placing.{AreApart, AreFrozenLeaves, AreMovedApart, IsFrozenLeaf, MayMove, exchange_of, exchanges_of, moved_pins}
+use Rattle.node_writeback.specs.Placing.{AreFrozenApart, AreFrozenLeaves, AreMovedApart, IsFrozenLeaf, MayMove, exchange_of, exchanges_of, moved_pins}
 use Rattle.node_writeback.proofs.Moving.{moved_first, pairs-head, pairs-tail}
 
 -- the birth of a node, if there is one
@@ -99,7 +99,7 @@ module _ (durable : ℕ) (nodes : List Levels) (pins : List (ℕ × ℕ)) (froze
           leaf = leaf;
           unused = unused;
         });
-    apart = all_pairs_push AreApart frozen node are.apart
+    apart = all_pairs_push AreFrozenApart frozen node are.apart
         (λ place none lt.
         let one = slice_index_or frozen place none in
         let is : IsFrozenLeaf nodes pins one = are.each place none lt in
@@ -123,13 +123,13 @@ module _ (nodes : List Levels) (pins : List (ℕ × ℕ)) where
     leaf_exchange = record { there = ap (is_some) leaf_named; node = is.leaf; unused = is.unused }
 
   -- Frozen leaves have different births, which no node gets that comes in place of one.
-  moved_apart : BirthsDiffer nodes → (one other : FrozenNode) → IsFrozenLeaf nodes pins one → IsFrozenLeaf nodes pins other → AreApart one other → AreMovedApart one other
+  moved_apart : BirthsDiffer nodes → (one other : FrozenNode) → IsFrozenLeaf nodes pins one → IsFrozenLeaf nodes pins other → AreFrozenApart one other → AreMovedApart one other
   moved_apart differ one other one_is other_is apart = record {
     births = λ same. apart.btrees (ap (λ (n : NodeName). n.btree) (differ (only_name one.btree) (only_name other.btree) one.birth (leaf_born one one_is) (leaf_born other other_is ∙ ap Some (sym same))));
     fresh = λ same. one_is.unused (only_name other.btree) (leaf_born other other_is ∙ ap Some (sym same));
   }
 
-  names_of_two : (one other : FrozenNode) → AreApart one other → AreOfTwo (exchange_of one) (exchange_of other)
+  names_of_two : (one other : FrozenNode) → AreFrozenApart one other → AreOfOtherNodes (exchange_of one) (exchange_of other)
   names_of_two one other apart = record { names = λ same. apart.btrees (ap (λ (n : NodeName). n.btree) same); births = apart.births }
 
   each_exchange : (frozen : List FrozenNode) → All (IsFrozenLeaf nodes pins) frozen → All (IsExchange nodes) (exchanges_of frozen)
@@ -137,22 +137,22 @@ module _ (nodes : List Levels) (pins : List (ℕ × ℕ)) where
   each_exchange (node ∷ frozen) are =
       All-cons (IsExchange nodes) (exchange_of node) (exchanges_of frozen) (leaf_exchange node (All-head (IsFrozenLeaf nodes pins) node frozen are)) (each_exchange frozen (All-tail (IsFrozenLeaf nodes pins) node frozen are))
 
-  one_of_two : (node : FrozenNode) (frozen : List FrozenNode) → All (AreApart node) frozen → All (AreOfTwo (exchange_of node)) (exchanges_of frozen)
-  one_of_two node [] apart = All-nil (AreOfTwo (exchange_of node))
+  one_of_two : (node : FrozenNode) (frozen : List FrozenNode) → All (AreFrozenApart node) frozen → All (AreOfOtherNodes (exchange_of node)) (exchanges_of frozen)
+  one_of_two node [] apart = All-nil (AreOfOtherNodes (exchange_of node))
   one_of_two node (other ∷ frozen) apart =
-      All-cons (AreOfTwo (exchange_of node)) (exchange_of other) (exchanges_of frozen) (names_of_two node other (All-head (AreApart node) other frozen apart)) (one_of_two node frozen (All-tail (AreApart node) other frozen apart))
+      All-cons (AreOfOtherNodes (exchange_of node)) (exchange_of other) (exchanges_of frozen) (names_of_two node other (All-head (AreFrozenApart node) other frozen apart)) (one_of_two node frozen (All-tail (AreFrozenApart node) other frozen apart))
 
-  pairs_of_two : (frozen : List FrozenNode) → AllPairs AreApart frozen → AllPairs AreOfTwo (exchanges_of frozen)
+  pairs_of_two : (frozen : List FrozenNode) → AllPairs AreFrozenApart frozen → AllPairs AreOfOtherNodes (exchanges_of frozen)
   pairs_of_two [] pairs = λ one other none before lt. absurd (omega (arith, lt))
   pairs_of_two (node ∷ frozen) pairs =
-      AllPairs-cons AreOfTwo (exchange_of node) (exchanges_of frozen) (one_of_two node frozen (pairs-head AreApart node frozen pairs)) (pairs_of_two frozen (pairs-tail AreApart node frozen pairs))
+      AllPairs-cons AreOfOtherNodes (exchange_of node) (exchanges_of frozen) (one_of_two node frozen (pairs-head AreFrozenApart node frozen pairs)) (pairs_of_two frozen (pairs-tail AreFrozenApart node frozen pairs))
 
   -- Frozen leaves may be exchanged for what was written of them.
   pub frozen-exchanges : (frozen : List FrozenNode) → AreFrozenLeaves nodes pins frozen → AreExchanges nodes (exchanges_of frozen)
   frozen-exchanges frozen are = record { each = each_exchange frozen are.each; apart = pairs_of_two frozen are.apart }
 
   frozen_tail : (node : FrozenNode) (frozen : List FrozenNode) → AreFrozenLeaves nodes pins (node ∷ frozen) → AreFrozenLeaves nodes pins frozen
-  frozen_tail node frozen are = record { each = All-tail (IsFrozenLeaf nodes pins) node frozen are.each; apart = pairs-tail AreApart node frozen are.apart }
+  frozen_tail node frozen are = record { each = All-tail (IsFrozenLeaf nodes pins) node frozen are.each; apart = pairs-tail AreFrozenApart node frozen are.apart }
 
 -- what is marked, where only roots are
 abbrev pub MarksRoots : Type 0
@@ -210,19 +210,19 @@ module _ (nodes : List Levels) (node : FrozenNode) (root : NodePtr) (alone : lev
       ap (λ (ns : List Levels). levels_of ns btree) put_whole ∙ get_or-set_other nodes (btree_code node.btree) (btree_code btree) (one_node node.fresh) [] (λ same. apart (sym (one_btree btree node.btree same)))
 
 -- Each btree of a frozen leaf is the leaf that was written.
-leaves_placed : (nodes : List Levels) (frozen : List FrozenNode) → All (λ (node : FrozenNode). (root : NodePtr) × (levels_of nodes node.btree ≡ one_node root)) frozen → AllPairs AreApart frozen
+leaves_placed : (nodes : List Levels) (frozen : List FrozenNode) → All (λ (node : FrozenNode). (root : NodePtr) × (levels_of nodes node.btree ≡ one_node root)) frozen → AllPairs AreFrozenApart frozen
     → All (λ (node : FrozenNode). levels_of (exchanged (exchanges_of frozen) nodes) node.btree ≡ one_node node.fresh) frozen
 leaves_placed nodes [] alone apart = All-nil (λ (node : FrozenNode). levels_of nodes node.btree ≡ one_node node.fresh)
 leaves_placed nodes (node ∷ frozen) alone apart =
     let P : FrozenNode → Type 0 = λ n. (root : NodePtr) × (levels_of nodes n.btree ≡ one_node root) in
     let here = All-head P node frozen alone in
     let later = All-tail P node frozen alone in
-    let others = pairs-head AreApart node frozen apart in
+    let others = pairs-head AreFrozenApart node frozen apart in
     let now = with_pointer (exchange_of node) nodes in
     All-cons (λ (n : FrozenNode). levels_of (exchanged (exchanges_of frozen) now) n.btree ≡ one_node n.fresh) node frozen
     (frozen-others now frozen node.btree (λ place none lt same. (others place none lt).btrees (sym same)) ∙ placed_here nodes node here.0 here.1)
     (leaves_placed now frozen
-    (λ place none lt. let one = later place none lt in (one.0, placed_other nodes node here.0 here.1 (slice_index_or frozen place none).btree (others place none lt).btrees ∙ one.1)) (pairs-tail AreApart node frozen apart))
+    (λ place none lt. let one = later place none lt in (one.0, placed_other nodes node here.0 here.1 (slice_index_or frozen place none).btree (others place none lt).btrees ∙ one.1)) (pairs-tail AreFrozenApart node frozen apart))
 
 pub frozen-leaves : (nodes : List Levels) (pins : List (ℕ × ℕ)) (frozen : List FrozenNode) → AreFrozenLeaves nodes pins frozen → All (λ (node : FrozenNode). levels_of (exchanged (exchanges_of frozen) nodes) node.btree ≡ one_node node.fresh) frozen
 frozen-leaves nodes pins frozen are = leaves_placed nodes frozen (λ place none lt. let is = are.each place none lt in (is.root, is.alone)) are.apart
@@ -315,7 +315,7 @@ module _ (nodes : List Levels) (pins : List (ℕ × ℕ)) (node : FrozenNode) (i
           subst IsTree (sym (placed_other nodes node is.root is.alone btree other)) (trees btree)
 
   -- Another frozen leaf stays one.
-  leaf_now : (later : List (ℕ × ℕ)) → IsMap nat_cmp pins → (other : FrozenNode) → AreApart node other → IsFrozenLeaf nodes pins other → IsFrozenLeaf now (moved_first node later pins) other
+  leaf_now : (later : List (ℕ × ℕ)) → IsMap nat_cmp pins → (other : FrozenNode) → AreFrozenApart node other → IsFrozenLeaf nodes pins other → IsFrozenLeaf now (moved_first node later pins) other
   leaf_now later rises other apart other_is =
       let moved = moved_apart nodes pins differ node other is other_is apart in
       record {
@@ -349,9 +349,9 @@ frozen-marked moves nodes pins marks later [] differ trees pins_rise marks_rise 
 frozen-marked moves nodes pins marks later (node ∷ frozen) differ trees pins_rise marks_rise marked are =
     let is = All-head (IsFrozenLeaf nodes pins) node frozen are.each in
     let rest = All-tail (IsFrozenLeaf nodes pins) node frozen are.each in
-    let apart = pairs-head AreApart node frozen are.apart in
+    let apart = pairs-head AreFrozenApart node frozen are.apart in
     let pin = value_at nat_cmp node.birth later in
     frozen-marked moves (with_pointer (exchange_of node) nodes) (moved_first node later pins) (moved_first node later marks) later frozen (differ_now nodes pins node is differ) (trees_now nodes pins node is differ trees)
     (rises-moved node.birth node.fresh.birth pin pins pins_rise) (rises-moved node.birth node.fresh.birth pin marks marks_rise)
     (marked_now nodes pins node is differ moves trees marks later pins_rise marks_rise marked)
-    (record { each = λ place none lt. leaf_now nodes pins node is differ later pins_rise (slice_index_or frozen place none) (apart place none lt) (rest place none lt); apart = pairs-tail AreApart node frozen are.apart })
+    (record { each = λ place none lt. leaf_now nodes pins node is differ later pins_rise (slice_index_or frozen place none) (apart place none lt) (rest place none lt); apart = pairs-tail AreFrozenApart node frozen are.apart })

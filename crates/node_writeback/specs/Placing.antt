@@ -23,14 +23,14 @@ pub record IsFrozenLeaf (nodes : List Levels) (pins : List (ℕ × ℕ)) (node :
   pub unused : (name : NodeName) → birth_of nodes name ≢ Some node.fresh.birth
 
 -- They are of two btrees, and what comes in their places has two births.
-pub record AreApart (one other : FrozenNode) : Type 0 where
+pub record AreFrozenApart (one other : FrozenNode) : Type 0 where
   pub btrees : one.btree ≢ other.btree
   pub births : one.fresh.birth ≢ other.fresh.birth
 
 -- Frozen leaves are of different btrees, and what comes in their places has different births.
 pub record AreFrozenLeaves (nodes : List Levels) (pins : List (ℕ × ℕ)) (frozen : List FrozenNode) : Type 0 where
   pub each : All (IsFrozenLeaf nodes pins) frozen
-  pub apart : AllPairs AreApart frozen
+  pub apart : AllPairs AreFrozenApart frozen
 
 -- the pointer that a frozen leaf is exchanged for
 abbrev pub exchange_of : FrozenNode → Exchange

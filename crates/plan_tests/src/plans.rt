@@ -2,7 +2,7 @@
 //! are under 30.
 
 ghost use Rattle.std.specs.Prelude.{◌≡◌, ◌<◌, true};
-ghost use Rattle.fs_plan.specs.Plans.{is_planned};
+ghost use Rattle.fs_plan.specs.Plans.{IsBounded, is_planned};
 
 use crate::ids::shared_tree;
 use forest_ops::{Cause, Op, Reply};
@@ -173,6 +173,7 @@ fn view_of(alloc: Global) -> Result<PlainView, Fail> {
 fn planned(alloc: Global, client: u8, op: Op) -> Result<Option<Plan>, Fail>
     requires client { client < 16 }
     requires planned { is_planned op ≡ true }
+    requires bounded { IsBounded op }
 {
     let mut view = match view_of(alloc) {
         Ok(view) => view,
@@ -222,9 +223,10 @@ fn flags_of(alloc: Global, rows: &[Flagged]) -> Result<Reply, AllocError> {
     Ok(Reply::List(list))
 }
 
+// Whether there is a plan of this reply that is no commit.
 fn has_reply(plan: &Option<Plan>, reply: &Reply) -> bool {
     match plan {
-        Some(plan) => plan.reply == *reply,
+        Some(plan) => !plan.commits && plan.reply == *reply,
         None => false,
     }
 }
@@ -317,10 +319,11 @@ fn listings_are_refused(rt: HostRuntime) -> Result<(), Fail> {
     Ok(())
 }
 
-// Whether there is a plan of these updates and this reply.
+// Whether there is a plan of these updates and this reply, which is a commit where it is done.
 fn is_plan(plan: &Option<Plan>, updates: &Updates, reply: &Reply) -> bool {
+    let done = matches!(reply, Reply::Okay);
     match plan {
-        Some(plan) => plan.updates == *updates && plan.reply == *reply,
+        Some(plan) => { plan.commits == done && plan.updates == *updates && plan.reply == *reply }
         None => false,
     }
 }
@@ -419,7 +422,9 @@ fn files_are_refused(rt: HostRuntime) -> Result<(), Fail> {
 
 fn is_sync(plan: &Option<Plan>) -> bool {
     match plan {
-        Some(plan) => plan.updates.is_empty() && matches!(&plan.reply, Reply::Synced(0)),
+        Some(plan) => {
+            !plan.commits && plan.updates.is_empty() && matches!(&plan.reply, Reply::Synced(0))
+        }
         None => false,
     }
 }

@@ -22,7 +22,7 @@ use Rattle.key_meaning.specs.Checks.{AreNodesPlaced}
 use Rattle.journal_ring.specs.declared.found.FoundEntry.{FoundEntry}
 use Rattle.journal_ring.specs.Entries.{AgreeFrom, IsMadeOf, IsWhole, IsWholeOn}
 use Rattle.journal_ring.specs.EntryBlocks.{AreEntryBlocks, HoldBlocks, ring_block}
-use Rattle.journal_ring.specs.Mending.{AreApart, IsEntryBlock, IsLacking, IsLackingBlock, IsMended, IsMendedAt, Mends}
+use Rattle.journal_ring.specs.Mending.{DoNotOverlap, IsEntryBlock, IsLacking, IsLackingBlock, IsMended, IsMendedAt, Mends}
 use Rattle.journal_ring.specs.Parts.{Area, area_of}
 use Rattle.record_codec.specs.declared.entries.EntryRecord.{EntryRecord}
 use Rattle.sealed_block.specs.declared.heads.Head.{Head}
@@ -86,11 +86,11 @@ pub record MendLaws : Type 0 where
       → IsMending f.layout entry blocks one other → HasNoEqualDigest f.layout (area_of one) → IsInOrder f other
   pub whole : (one : Image) (f : Found) → found one ≡ Ok f → (index : ℕ) → index < length f.needed → IsWhole f.layout (area_of one) (get_or f.needed index f.last)
   pub apart : (one : Image) (f : Found) → found one ≡ Ok f → IsInOrder f one → (index other : ℕ) → index < length f.needed → other < length f.needed → ¬ (other ≡ index)
-      → AreApart f.layout.journal (get_or f.needed index f.last) (get_or f.needed other f.last)
+      → DoNotOverlap f.layout.journal (get_or f.needed index f.last) (get_or f.needed other f.last)
   pub made : (layout : Layout) (area : Area) (dev : ℕ) (found : FoundEntry) → IsWholeOn layout area dev found → (blocks : List (List ℕ)) × IsMadeOf layout area found blocks
   pub sealed : (layout : Layout) (area : Area) (found : FoundEntry) (blocks : List (List ℕ)) → IsMadeOf layout area found blocks → AreEntryBlocks layout.id found.number found.entry blocks
   pub same : (id : List ℕ) (number : ℕ) (entry : EntryRecord) (one other : List (List ℕ)) → AreEntryBlocks id number entry one → AreEntryBlocks id number entry other → one ≡ other
-  pub places : (layout : Layout) (one other : Area) (found another : FoundEntry) (blocks : List (List ℕ)) → 0 < layout.journal → found.end ≡ found.number + length blocks → AreApart layout.journal found another → IsMended layout found.number blocks one other
+  pub places : (layout : Layout) (one other : Area) (found another : FoundEntry) (blocks : List (List ℕ)) → 0 < layout.journal → found.end ≡ found.number + length blocks → DoNotOverlap layout.journal found another → IsMended layout found.number blocks one other
       → AgreeFrom layout one other another.number another.end
   pub few_parts : (block : List ℕ) (h : Head) → opened block ≡ Some h → h.parts ≤ 64
   pub own_places : (journal number p q : ℕ) → 256 ≤ journal → p < 64 → q < 64 → ring_block journal (number + p) ≡ ring_block journal (number + q) → p ≡ q

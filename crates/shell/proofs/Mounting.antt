@@ -23,7 +23,7 @@ use Rattle.shell.specs.EarlyEnds.{end_of_begin, end_of_mount}
 use Rattle.shell.specs.Mounts.{HasRefused, IsOpenedFrom, MountCause}
 use Rattle.shell.specs.declared.early_end.EarlyEnd.{EarlyEnd}
 use Rattle.shell.specs.declared.early_end.EarlyEnd.TheVariants.{Usage, BadLine, TooLong, Source, Refused, Device, OutOfMemory}
-use Rattle.shell.specs.declared.early_end.Refusal.TheVariants as refusals
+use Rattle.shell.specs.declared.early_end.MountRefusal.TheVariants as refusals
 
 -- an image in which something is found isn't one in which nothing is
 pub found_not : (image : Image) (f : Found) → found image ≡ Ok f → IsErr (found image) → ⊥

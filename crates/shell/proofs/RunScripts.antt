@@ -8,7 +8,7 @@ use Rattle.std.proofs.lemmas.List.Elements.{All-cons, All-nil}
 use Rattle.std.proofs.lemmas.Option.{none-some as none_some}
 use Rattle.forest_ops.specs.declared.operation.Op.{Op}
 use Rattle.forest_ops.specs.declared.operation.Op.TheVariants as op
-use Rattle.fs_plan.specs.Plans.{is_planned}
+use Rattle.fs_plan.specs.Plans.{IsBounded, is_planned}
 use Rattle.script_text.specs.Operations.{verb_of}
 use Rattle.script_text.specs.Scripts.{IsLine, IsScript, saying_from}
 use Rattle.script_text.specs.Verbs.{is_supported}
@@ -20,29 +20,20 @@ supported_is_planned : (said : Op) → IsTrue (is_supported (verb_of (Some said)
 supported_is_planned (op.Mkfile path) is = refl
 supported_is_planned (op.Ls path) is = refl
 supported_is_planned op.Sync is = refl
-supported_is_planned (op.Mkdir path) is = absurd (false≢true is)
-supported_is_planned (op.Write path offset bytes) is = absurd (false≢true is)
-supported_is_planned (op.Trunc path size) is = absurd (false≢true is)
-supported_is_planned (op.Read path offset len) is = absurd (false≢true is)
-supported_is_planned (op.Stat path) is = absurd (false≢true is)
-supported_is_planned (op.Link from to) is = absurd (false≢true is)
-supported_is_planned (op.Unlink path) is = absurd (false≢true is)
-supported_is_planned (op.Rmdir path) is = absurd (false≢true is)
-supported_is_planned (op.Rename from to) is = absurd (false≢true is)
-supported_is_planned (op.Subvol name) is = absurd (false≢true is)
-supported_is_planned (op.Snap source copy locked) is = absurd (false≢true is)
-supported_is_planned (op.Delsub name) is = absurd (false≢true is)
-supported_is_planned op.Subs is = absurd (false≢true is)
-supported_is_planned (op.Fsync path) is = absurd (false≢true is)
-supported_is_planned (op.Sweep steps) is = absurd (false≢true is)
-supported_is_planned op.Usage is = absurd (false≢true is)
+supported_is_planned other is = absurd (false≢true is)
+
+-- and their numbers are within their bounds
+planned_is_bounded : (said : Op) → is_planned said ≡ true → IsBounded said
+planned_is_bounded (op.Write path offset bytes) is = absurd (false≢true is)
+planned_is_bounded (op.Read path offset len) is = absurd (false≢true is)
+planned_is_bounded other is = tt
 
 client_is_zero : (client : ℕ) → (not (client == 0) && true) ≡ false → client ≡ 0
 client_is_zero client is = grind (arith, nat_tests, is)
 
 by_operation : (client : ℕ) (said : Option Op) → IsTrue (is_supported (verb_of said)) → (not (client == 0) && is_some said) ≡ false → IsRunIfAny client said
 by_operation client None supported own = tt
-by_operation client (Some said) supported own = (client_is_zero client own, supported_is_planned said supported)
+by_operation client (Some said) supported own = (client_is_zero client own, supported_is_planned said supported, planned_is_bounded said (supported_is_planned said supported))
 
 -- what it says of a line, and of those behind it, that none is for another client
 none_is : (line : Line) (lines : List Line) (test : Bool) → is_of_other line ≡ test → (if test then Some line.line else first_of_other lines) ≡ None → (is_of_other line ≡ false) × (first_of_other lines ≡ None)

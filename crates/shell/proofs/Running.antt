@@ -1,12 +1,11 @@
 -- How answers follow one another.
-use Rattle.std.proofs.Common.{◌≡◌, ◌⊎◌, inl, inr, ⊎_elim, ℕ, ◌||◌, true, false, Bool, List, [], ◌∷◌, ◌++◌, map, refl, ap, ◌∙◌, sym, subst, arith, append_assoc, append-nil, Some, None, Option}
-use Rattle.std.specs.Prelude.{max, Result, Ok, Err, IfOk, OnOk, OnErr, is_err}
-use Rattle.std.specs.declared.alloc.AllocError.{AllocError}
+use Rattle.std.proofs.Common.{◌≡◌, ◌⊎◌, inl, inr, ⊎_elim, ℕ, ◌||◌, true, false, Bool, List, [], ◌∷◌, ◌++◌, length, map, refl, ap, ◌∙◌, sym, subst, arith, append_assoc, append-nil, Some, None, Option}
+use Rattle.std.specs.Prelude.{max, Result, Ok, Err, OnOk, OnErr, is_err}
 use Rattle.std.specs.Option.{option_to_list}
 use Rattle.std.specs.List.{cons_option, filter_map}
 use Rattle.std.proofs.lemmas.List.{map-append}
 use Rattle.std.proofs.lemmas.Option.{same_Some, none-some as none_some}
-use Rattle.std.proofs.lemmas.List.Elements.{filter_map-append}
+use Rattle.std.proofs.lemmas.List.Elements.{All-head, All-tail, filter_map-append}
 use Rattle.std.proofs.lemmas.Grind.{flat_map-append}
 use Rattle.dev_model.specs.Devices.{DevicesState, FaultCounts}
 use Rattle.dev_model.specs.Frames.{GoOn}
@@ -27,6 +26,7 @@ use Rattle.forest_ops.specs.Acknowledged.{synced_count}
 use Rattle.vol_session.specs.Sessions.{SessionState}
 use Rattle.volume.specs.Answers.{HasCause, IsAnswered, acks_after}
 use Rattle.forest_ops.specs.Fits.{entry_by, entry_if_any, last_entry}
+use Rattle.shell.specs.Lines.{AreRunLines, IsRunLine}
 use Rattle.shell.specs.declared.tally.Tally.{Tally}
 use Rattle.shell.specs.declared.page.Page.{Page}
 use Rattle.shell.specs.Printing.{Prints, has_ended}
@@ -56,12 +56,12 @@ module _ {D : Type 0} (forest : Forest) (state : D → DevicesState) where
   pub adds_nothing : (session : SessionState D) → AddsEntries forest state session session [] []
   adds_nothing session = record { trace = sym (append-nil session.trace); acks = sym (append-nil session.acks); counted = λ held. held; after = go_on_here (state session.core.devices) }
 
-  -- a session in which nothing was answered
-  pub adds_none : (old new : SessionState D) → new.trace ≡ old.trace → new.acks ≡ old.acks → GoOn (state old.core.devices) (state new.core.devices) → AddsEntries forest state old new [] []
-  adds_none old new trace acks after = record {
-    trace = trace ∙ sym (append-nil old.trace);
-    acks = acks ∙ sym (append-nil old.acks);
-    counted = λ held. subst (AreSyncsCounted forest) (sym trace) held;
+  -- a session in which an operation was out of memory
+  pub adds_memory : (old new : SessionState D) → new ≡ record old { core = new.core; spare = new.spare } → GoOn (state old.core.devices) (state new.core.devices) → AddsEntries forest state old new [] []
+  adds_memory old new same after = record {
+    trace = ap (λ (s : SessionState D). s.trace) same ∙ sym (append-nil old.trace);
+    acks = ap (λ (s : SessionState D). s.acks) same ∙ sym (append-nil old.acks);
+    counted = λ held. subst (AreSyncsCounted forest) (sym (ap (λ (s : SessionState D). s.trace) same)) held;
     after = after;
   }
 
@@ -98,6 +98,13 @@ module _ {K : Type 0} (sink_tells devices_tell : Type 0) (held given_at : K → 
 -- what was gained by the moment of devices was so by that of the same devices
 pub same_moment : {D K : Type 0} (held given_at : K → List ℕ) (first last : K) (shown devices : D) (state : D → DevicesState) → shown ≡ devices → GainsBy held given_at first last (state shown).moment → GainsBy held given_at first last (state devices).moment
 same_moment held given_at first last shown devices state same gains = subst (λ d. GainsBy held given_at first last (state d).moment) same gains
+
+-- The lines of a script were run but for the rest, which a volume runs.
+pub record RunsUpTo {D K : Type 0} (forest : Forest) (state : D → DevicesState) (devices_tell sink_tells : Type 0) (held given_at : K → List ℕ) (faults : K → ℕ) (script rest : List Line) (old new : SessionState D) (page new_page : Page) (sink new_sink : K) : Type 0 where
+  pub run : List Line
+  pub are : run ++ rest ≡ script
+  pub ran : RunsLines forest state devices_tell sink_tells held given_at faults run old new page new_page sink new_sink
+  pub runs : AreRunLines rest
 
 module _ {D K : Type 0} (forest : Forest) (state : D → DevicesState) (devices_tell sink_tells : Type 0) (held given_at : K → List ℕ) (faults : K → ℕ) where
   -- what was gained by one state and then by the next was gained by the next
@@ -172,6 +179,29 @@ module _ {D K : Type 0} (forest : Forest) (state : D → DevicesState) (devices_
         tally = tally;
       }
 
+  -- no line of a script was run yet
+  pub up_to_none : (script rest : List Line) (log : SessionState D) (page : Page) (sink : K) → rest ≡ script → AreRunLines script → RunsUpTo forest state devices_tell sink_tells held given_at faults script rest log log page page sink sink
+  up_to_none script rest log page sink all runs = record { run = []; are = all; ran = runs_none log page sink; runs = subst AreRunLines (sym all) runs }
+
+  -- the next line is one that a volume runs
+  pub next_runs : (script rest left : List Line) (line : Line) (old new : SessionState D) (page new_page : Page) (sink new_sink : K) → rest ≡ line ∷ left → RunsUpTo forest state devices_tell sink_tells held given_at faults script rest old new page new_page sink new_sink → IsRunLine line
+  next_runs script rest left line old new page new_page sink new_sink next up = All-head IsRunLine line left (subst AreRunLines next up.runs)
+
+  -- one line more was run
+  pub up_to_then : (script rest left : List Line) (line : Line) (a b c : SessionState D) (page mid last : Page) (sink mid_sink last_sink : K) → rest ≡ line ∷ left → RunsUpTo forest state devices_tell sink_tells held given_at faults script rest a b page mid sink mid_sink
+      → RunsLines forest state devices_tell sink_tells held given_at faults (line ∷ []) b c mid last mid_sink last_sink → RunsUpTo forest state devices_tell sink_tells held given_at faults script left a c page last sink last_sink
+  up_to_then script rest left line a b c page mid last sink mid_sink last_sink next up one = record {
+    run = up.run ++ line ∷ [];
+    are = append_assoc up.run (line ∷ []) left ∙ ap (λ list. up.run ++ list) (sym next) ∙ up.are;
+    ran = runs_then up.run (line ∷ []) a b c page mid last sink mid_sink last_sink up.ran one;
+    runs = All-tail IsRunLine line left (subst AreRunLines next up.runs);
+  }
+
+  -- all lines of a script were run
+  pub up_to_all : (script rest : List Line) (old new : SessionState D) (page new_page : Page) (sink new_sink : K) → length rest ≡ 0 → RunsUpTo forest state devices_tell sink_tells held given_at faults script rest old new page new_page sink new_sink → RunsLines forest state devices_tell sink_tells held given_at faults script old new page new_page sink new_sink
+  up_to_all script [] old new page new_page sink new_sink none up = subst (λ list. RunsLines forest state devices_tell sink_tells held given_at faults list old new page new_page sink new_sink) (sym (append-nil up.run) ∙ up.are) up.ran
+  up_to_all script (line ∷ rest) old new page new_page sink new_sink none up = absurd (omega (arith, none))
+
   -- a barrier does nothing
   pub runs_barrier : (line : Line) (log : SessionState D) (page : Page) (sink : K) → line.op ≡ None → RunsLines forest state devices_tell sink_tells held given_at faults (line ∷ []) log log page page sink sink
   runs_barrier line log page sink none =
@@ -195,22 +225,8 @@ module _ {D K : Type 0} (forest : Forest) (state : D → DevicesState) (devices_
 
 -- the entry of an operation that wasn't out of memory
 has_entry : (client : ℕ) (op : Op) (reply : Reply) → is_no_memory reply ≡ false → entry_if_any client op reply ≡ Some (record { client = client; op = op; reply = reply })
-has_entry client op Okay found = refl
-has_entry client op (More size) found = refl
-has_entry client op (Synced count) found = refl
-has_entry client op (Content bytes) found = refl
-has_entry client op (Listed names) found = refl
-has_entry client op (File number size links) found = refl
-has_entry client op (Dir number entries) found = refl
-has_entry client op (SubNames names) found = refl
-has_entry client op (Used blocks) found = refl
-has_entry client op (Refused cause) found = refl
-has_entry client op (NoSpace short) found = refl
-has_entry client op (DeviceFault dev) found = refl
-has_entry client op (DataLost lost) found = refl
-has_entry client op (Halted dev tick) found = refl
-has_entry client op Spent found = refl
 has_entry client op NoMemory found = absurd (cc)
+has_entry client op other found = refl
 
 -- a reply adds the acknowledgement that it is
 adds_ack : (reply : Reply) (moment : ℕ) (acks : List Ack) → acks_after reply moment acks ≡ acks ++ cons_option (ack_by moment reply) []
@@ -232,69 +248,30 @@ adds_ack Spent moment acks = sym (append-nil acks)
 adds_ack NoMemory moment acks = sym (append-nil acks)
 
 -- a reply with a cause doesn't say that it was out of memory
-found_memory : (op : Op) (reply : Reply) (volume : Volume) (before after : FaultCounts) → HasCause op reply volume before after → is_no_memory reply ≡ false
-found_memory op Okay volume before after cause = refl
-found_memory op (More size) volume before after cause = refl
-found_memory op (Synced count) volume before after cause = refl
-found_memory op (Content bytes) volume before after cause = refl
-found_memory op (Listed names) volume before after cause = refl
-found_memory op (File number size links) volume before after cause = refl
-found_memory op (Dir number entries) volume before after cause = refl
-found_memory op (SubNames names) volume before after cause = refl
-found_memory op (Used blocks) volume before after cause = refl
-found_memory op (Refused cause) volume before after why = refl
-found_memory op (NoSpace short) volume before after cause = refl
-found_memory op (DeviceFault dev) volume before after cause = refl
-found_memory op (DataLost lost) volume before after cause = refl
-found_memory op (Halted dev tick) volume before after cause = refl
-found_memory op Spent volume before after cause = refl
-found_memory op NoMemory volume before after cause = absurd cause
+found_memory : (client : ℕ) (op : Op) (reply : Reply) (volume : Volume) (before after : FaultCounts) → HasCause client op reply volume before after → is_no_memory reply ≡ false
+found_memory client op NoMemory volume before after cause = absurd cause
+found_memory client op other volume before after cause = refl
 
 -- the number of commits that a reply acknowledges is in it
 synced_reply : (reply : Reply) (count : ℕ) → synced_count reply ≡ Some count → reply ≡ Synced count
 synced_reply (Synced commits) count is = ap Synced (same_Some commits count is)
-synced_reply Okay count is = absurd (none_some count is)
-synced_reply (More size) count is = absurd (none_some count is)
-synced_reply (Content bytes) count is = absurd (none_some count is)
-synced_reply (Listed names) count is = absurd (none_some count is)
-synced_reply (File number size links) count is = absurd (none_some count is)
-synced_reply (Dir number entries) count is = absurd (none_some count is)
-synced_reply (SubNames names) count is = absurd (none_some count is)
-synced_reply (Used blocks) count is = absurd (none_some count is)
-synced_reply (Refused cause) count is = absurd (none_some count is)
-synced_reply (NoSpace short) count is = absurd (none_some count is)
-synced_reply (DeviceFault dev) count is = absurd (none_some count is)
-synced_reply (DataLost lost) count is = absurd (none_some count is)
-synced_reply (Halted dev tick) count is = absurd (none_some count is)
-synced_reply Spent count is = absurd (none_some count is)
-synced_reply NoMemory count is = absurd (none_some count is)
+synced_reply other count is = absurd (none_some count is)
 
 module _ {D : Type 0} (forest : Forest) (state : D → DevicesState) (op : Op) (old new : SessionState D) where
   -- an operation was answered
-  adds_answer : (reply : Reply) → IsAnswered state op reply old new → HasCause op reply new.core.memory.volume (state old.core.devices).faults (state new.core.devices).faults
+  pub adds_answer : (reply : Reply) → IsAnswered state 0 op reply old new → HasCause 0 op reply new.core.memory.volume (state old.core.devices).faults (state new.core.devices).faults
       → ((count : ℕ) → reply ≡ Synced count → count ≡ commit_count forest old.trace) → GoOn (state old.core.devices) (state new.core.devices)
       → AddsEntries forest state old new (cons_option (entry_if_any 0 op reply) []) (cons_option (ack_by (state new.core.devices).moment reply) [])
   adds_answer reply answers cause synced after =
       let entry : Entry = record { client = 0; op = op; reply = reply } in
       record {
-        trace = answers.trace ∙ ap (λ e. old.trace ++ cons_option e []) (sym (has_entry 0 op reply (found_memory op reply new.core.memory.volume (state old.core.devices).faults (state new.core.devices).faults cause)));
+        trace = answers.trace ∙ ap (λ e. old.trace ++ cons_option e []) (sym (has_entry 0 op reply (found_memory 0 op reply new.core.memory.volume (state old.core.devices).faults (state new.core.devices).faults cause)));
         acks = answers.acks ∙ adds_ack reply (state new.core.devices).moment old.acks;
         counted = λ held.
             subst (AreSyncsCounted forest) (sym answers.trace)
             (EachEntry-push (λ before one. (count : ℕ) → synced_count one.reply ≡ Some count → count ≡ commit_count forest before) old.trace entry held (λ count is. synced count (synced_reply reply count is)));
         after = after;
       }
-
-  -- a call of the volume, answered or out of memory
-  pub call_adds : (result : Result Reply AllocError) → IfOk result (λ reply. IsAnswered state op reply old new) → IfOk result (λ reply. HasCause op reply new.core.memory.volume (state old.core.devices).faults (state new.core.devices).faults)
-      → IfOk result (λ reply. (count : ℕ) → reply ≡ Synced count → count ≡ commit_count forest old.trace) → GoOn (state old.core.devices) (state new.core.devices)
-      → IfOk result (λ reply. AddsEntries forest state old new (cons_option (entry_if_any 0 op reply) []) (cons_option (ack_by (state new.core.devices).moment reply) []))
-  call_adds (Ok reply) answers cause synced after = adds_answer reply answers cause synced after
-  call_adds (Err e) answers cause synced after = tt
-
-  pub call_adds_none : (result : Result Reply AllocError) → OnErr result (new ≡ record old { core = new.core; spare = new.spare }) → GoOn (state old.core.devices) (state new.core.devices) → OnErr result (AddsEntries forest state old new [] [])
-  call_adds_none (Ok reply) err after = tt
-  call_adds_none (Err e) err after = adds_none forest state old new (ap (λ (s : SessionState D). s.trace) err) (ap (λ (s : SessionState D). s.acks) err) after
 
 -- the entries of the final sync, as those of a line
 pub last_is : (reply : Reply) → cons_option (entry_if_any 0 Sync reply) [] ≡ last_entry reply

@@ -22,7 +22,7 @@ use Rattle.replay.specs.Opening.{in_next_session}
 use Rattle.forest_ops.specs.Acknowledged.{AreAcks, RiseWithin}
 use Rattle.forest_ops.specs.Failures.{Halts, HaveCauses}
 use Rattle.forest_ops.specs.declared.acks.Ack.{Ack}
-use Rattle.forest_ops.specs.declared.halt.Halt.{Halt}
+use Rattle.vol_types.specs.declared.failure.Halt.{Halt}
 use Rattle.vol_session.specs.RunLaws.{OpeningIsSafe, RunsAreSafe, SessionsBeginWell, in_next}
 use Rattle.vol_session.specs.Runs.{MayRun, RunSurvives}
 use Rattle.vol_core.specs.Room.{LeavesRoom}

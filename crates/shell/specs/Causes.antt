@@ -16,7 +16,7 @@ use Rattle.script_text.specs.declared.reading.Line.{Line}
 use Rattle.geometry.specs.Faults.{fault_device}
 use Rattle.geometry.specs.declared.fault.DiskFault.{DiskFault}
 use Rattle.forest_ops.specs.Failures.{Halts, HaveCauses, NoCommitAfterHalt}
-use Rattle.forest_ops.specs.declared.halt.Halt.{Halt}
+use Rattle.vol_types.specs.declared.failure.Halt.{Halt}
 use Rattle.plain_forest.specs.Forest.{Forest}
 use Rattle.image_view.specs.Found.{Found}
 use Rattle.vol_session.specs.Runs.{MayRun}

@@ -11,7 +11,7 @@ use Rattle.image_view.specs.declared.fault.MountFault.{MountFault}
 use Rattle.image_view.specs.declared.fault.MountFault.TheVariants as of_mount
 use Rattle.replay.specs.declared.beginning.BeginFault.{BeginFault}
 use Rattle.replay.specs.declared.beginning.BeginFault.TheVariants as of_begin
-use Rattle.shell.specs.declared.early_end.Refusal.TheVariants.{NoSuper, Version, Mixed, BadLayout, NoEntry, MissingEntry, BadNode, Unsound}
+use Rattle.shell.specs.declared.early_end.MountRefusal.TheVariants.{NoSuper, Version, Mixed, BadLayout, NoEntry, MissingEntry, BadNode, Unsound}
 use Rattle.shell.specs.declared.early_end.EarlyEnd.{EarlyEnd}
 use Rattle.shell.specs.declared.early_end.EarlyEnd.TheVariants.{Usage, BadLine, TooLong, Source, Refused, Device, OutOfMemory}
 

@@ -1,15 +1,15 @@
 -- Scripts whose operations a volume runs: those of client 0.
 use Rattle.std.specs.Prelude.{◌≡◌, ℕ, Bool, true, not, ◌&&◌, ◌==◌, All, List, [], ◌∷◌, Option, Some, None, is_some, if◌then◌else◌}
 use Rattle.forest_ops.specs.declared.operation.Op.{Op}
-use Rattle.fs_plan.specs.Plans.{is_planned}
+use Rattle.fs_plan.specs.Plans.{IsBounded, is_planned}
 use Rattle.script_text.specs.Scripts.{IsScript}
 use Rattle.script_text.specs.declared.reading.Line.{Line}
 use Rattle.script_text.specs.declared.reading.LineFault.{LineFault}
 use Rattle.script_text.specs.declared.reading.LineFault.TheVariants.{BadClient}
 
--- the operation can be planned, and is client 0's, if there is one
+-- the operation can be planned, with its numbers within their bounds, and is client 0's, if there is one
 abbrev pub IsRunIfAny : ℕ → Option Op → Type 0
-IsRunIfAny client (Some op) = (client ≡ 0) × (is_planned op ≡ true)
+IsRunIfAny client (Some op) = (client ≡ 0) × (is_planned op ≡ true) × IsBounded op
 IsRunIfAny client None = Unit {0}
 
 -- a volume runs the line

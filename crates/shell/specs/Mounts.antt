@@ -11,13 +11,13 @@ use Rattle.replay.specs.Mending.{IsInOrderOn, IsReady, KeepsMeaning, KeepsPast}
 use Rattle.image_reader.specs.Answers.{NodesAgree}
 use Rattle.replay.specs.Opening.{IsSpent, in_next_session}
 use Rattle.shell.specs.EarlyEnds.{end_of_mount}
-use Rattle.shell.specs.declared.early_end.Refusal.{Refusal}
-use Rattle.shell.specs.declared.early_end.Refusal.TheVariants.{NoSuper, Version, Mixed, BadLayout, NoEntry, MissingEntry, BadNode, Unsound}
+use Rattle.shell.specs.declared.early_end.MountRefusal.{MountRefusal}
+use Rattle.shell.specs.declared.early_end.MountRefusal.TheVariants.{NoSuper, Version, Mixed, BadLayout, NoEntry, MissingEntry, BadNode, Unsound}
 use Rattle.shell.specs.declared.early_end.EarlyEnd.{EarlyEnd}
 use Rattle.shell.specs.declared.early_end.EarlyEnd.TheVariants.{Refused, Device, OutOfMemory}
 
 -- The image isn't opened, for this reason: nothing is found in it but this fault, or no number is left for a session. Whether keys are sound isn't tested.
-abbrev pub IsRefused : Image → Refusal → Type 0
+abbrev pub IsRefused : Image → MountRefusal → Type 0
 IsRefused image NoSuper = found image ≡ Err faults.NoSuper
 IsRefused image Version = found image ≡ Err faults.Version
 IsRefused image Mixed = found image ≡ Err faults.Mixed
@@ -28,12 +28,12 @@ IsRefused image (BadNode place) = found image ≡ Err (faults.BadNode place)
 IsRefused image (Unsound check) = ⊥
 
 -- The reason shows before any node is read.
-abbrev pub ShowsEarly : Refusal → Type 0
+abbrev pub ShowsEarly : MountRefusal → Type 0
 ShowsEarly (BadNode place) = ⊥
 ShowsEarly refusal = ⊤
 
 -- Opening was refused for this reason, which is the image's, unless a call failed and it is a bad node; and the devices were only read.
-pub record HasRefused (devices_tell : Type 0) (old new : DevicesState) (refusal : Refusal) : Type 0 where
+pub record HasRefused (devices_tell : Type 0) (old new : DevicesState) (refusal : MountRefusal) : Type 0 where
   pub reason : devices_tell → (SomeFailed old.faults new.faults → ShowsEarly refusal) → IsRefused (as_read (now old)) refusal
   pub read : AreOnlyRead devices_tell old new
 
@@ -45,7 +45,7 @@ MountCause devices_tell old new OutOfMemory = Unit {0}
 MountCause devices_tell old new end = ⊥
 
 -- Nothing is found in the image, for this reason.
-pub record IsNotFound (image : Image) (refusal : Refusal) : Type 0 where
+pub record IsNotFound (image : Image) (refusal : MountRefusal) : Type 0 where
   pub fault : MountFault
   pub finds : found image ≡ Err fault
   pub reason : end_of_mount fault ≡ Refused refusal

@@ -19,8 +19,8 @@ use Rattle.vol_types.specs.declared.layout.Layout.{Layout}
 use Rattle.geometry.specs.declared.fault.DiskFault.{DiskFault}
 use Rattle.image_view.specs.Found.{Found}
 use Rattle.shell.specs.EarlyEnds.{end_of_disk}
-use Rattle.shell.specs.declared.early_end.Refusal.{Refusal}
-use Rattle.shell.specs.declared.early_end.Refusal.TheVariants.{NoSuper, Version, Mixed, BadLayout, NoEntry, MissingEntry, BadNode, Unsound}
+use Rattle.shell.specs.declared.early_end.MountRefusal.{MountRefusal}
+use Rattle.shell.specs.declared.early_end.MountRefusal.TheVariants.{NoSuper, Version, Mixed, BadLayout, NoEntry, MissingEntry, BadNode, Unsound}
 use Rattle.shell.specs.declared.early_end.EarlyEnd.{EarlyEnd}
 use Rattle.shell.specs.declared.early_end.EarlyEnd.TheVariants.{Usage, BadLine, TooLong, Source, Refused, Device, OutOfMemory}
 
@@ -56,7 +56,7 @@ bad_end BadPath = codes " bad-path\n"
 bad_end BadClient = codes " bad-client\n"
 
 -- the line of a refusal: the number of its reason, with what it names
-abbrev pub refusal_line : Refusal → List ℕ
+abbrev pub refusal_line : MountRefusal → List ℕ
 refusal_line NoSuper = codes "mount refused 1\n"
 refusal_line Version = codes "mount refused 2\n"
 refusal_line Mixed = codes "mount refused 3\n"

@@ -23,7 +23,7 @@ use Rattle.shell.specs.declared.page.Page.{Page}
 use Rattle.image_view.specs.Found.{Found}
 use Rattle.forest_ops.specs.Acknowledged.{AreAcks, synced_count}
 use Rattle.forest_ops.specs.Failures.{Halts, HaveCauses, NoCommitAfterHalt}
-use Rattle.forest_ops.specs.declared.halt.Halt.{Halt}
+use Rattle.vol_types.specs.declared.failure.Halt.{Halt}
 use Rattle.forest_ops.specs.Fits.{last_entry}
 use Rattle.geometry.specs.Faults.{fault_device}
 use Rattle.shell.specs.declared.early_end.EarlyEnd.{EarlyEnd}

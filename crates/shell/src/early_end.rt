@@ -14,7 +14,7 @@ use vol_types::{Failed, Place};
 
 /// Why the volume on devices isn't opened.
 #[derive(Clone, Copy)]
-pub enum Refusal {
+pub enum MountRefusal {
     /// A device has no superblock.
     NoSuper,
     /// A superblock has another version than 1.
@@ -45,7 +45,7 @@ pub enum EarlyEnd {
     /// The script couldn't be read.
     Source,
     /// The volume isn't opened, for this reason.
-    Refused(Refusal),
+    Refused(MountRefusal),
     /// This device failed while its volume was opened or read, or while it was formatted.
     Device(u8),
     /// Out of memory.
@@ -102,7 +102,7 @@ pub fn print_early_end<K: Sink<D>, D: Devices>(
 
 // Prints the line of a refusal.
 fn print_refusal<K: Sink<D>, D: Devices>(
-    refusal: Refusal,
+    refusal: MountRefusal,
     sink: &mut K,
     devices: &D,
 ) -> Result<(), Failed>
@@ -112,16 +112,16 @@ fn print_refusal<K: Sink<D>, D: Devices>(
     ensures cause { CountsFaults result (K.faults sink.old) (K.faults sink.new) }
 {
     match refusal {
-        Refusal::NoSuper => give_all(sink, b"mount refused 1\n", devices),
-        Refusal::Version => give_all(sink, b"mount refused 2\n", devices),
-        Refusal::Mixed => give_all(sink, b"mount refused 3\n", devices),
-        Refusal::BadLayout => give_all(sink, b"mount refused 4\n", devices),
-        Refusal::NoEntry => give_all(sink, b"mount refused 5\n", devices),
-        Refusal::MissingEntry(sequence) => {
+        MountRefusal::NoSuper => give_all(sink, b"mount refused 1\n", devices),
+        MountRefusal::Version => give_all(sink, b"mount refused 2\n", devices),
+        MountRefusal::Mixed => give_all(sink, b"mount refused 3\n", devices),
+        MountRefusal::BadLayout => give_all(sink, b"mount refused 4\n", devices),
+        MountRefusal::NoEntry => give_all(sink, b"mount refused 5\n", devices),
+        MountRefusal::MissingEntry(sequence) => {
             give_number(sink, devices, b"mount refused 6 seq ", sequence, b"\n")
         }
-        Refusal::BadNode(place) => give_place(sink, devices, b"mount refused 7 at ", place),
-        Refusal::Unsound(check) => give_number(
+        MountRefusal::BadNode(place) => give_place(sink, devices, b"mount refused 7 at ", place),
+        MountRefusal::Unsound(check) => give_number(
             sink,
             devices,
             b"mount refused 8 check ",
@@ -232,16 +232,16 @@ impl From<MountFault> for EarlyEnd {
 
     fn from(fault: MountFault) -> Self {
         match fault {
-            MountFault::NoSuper => EarlyEnd::Refused(Refusal::NoSuper),
-            MountFault::Version => EarlyEnd::Refused(Refusal::Version),
-            MountFault::Mixed => EarlyEnd::Refused(Refusal::Mixed),
-            MountFault::BadLayout => EarlyEnd::Refused(Refusal::BadLayout),
-            MountFault::NoEntry => EarlyEnd::Refused(Refusal::NoEntry),
+            MountFault::NoSuper => EarlyEnd::Refused(MountRefusal::NoSuper),
+            MountFault::Version => EarlyEnd::Refused(MountRefusal::Version),
+            MountFault::Mixed => EarlyEnd::Refused(MountRefusal::Mixed),
+            MountFault::BadLayout => EarlyEnd::Refused(MountRefusal::BadLayout),
+            MountFault::NoEntry => EarlyEnd::Refused(MountRefusal::NoEntry),
             MountFault::MissingEntry(sequence) => {
-                EarlyEnd::Refused(Refusal::MissingEntry(sequence))
+                EarlyEnd::Refused(MountRefusal::MissingEntry(sequence))
             }
-            MountFault::BadNode(place) => EarlyEnd::Refused(Refusal::BadNode(place)),
-            MountFault::Unsound(check) => EarlyEnd::Refused(Refusal::Unsound(check)),
+            MountFault::BadNode(place) => EarlyEnd::Refused(MountRefusal::BadNode(place)),
+            MountFault::Unsound(check) => EarlyEnd::Refused(MountRefusal::Unsound(check)),
             MountFault::DeviceFault(dev) => EarlyEnd::Device(dev),
             MountFault::NoMemory => EarlyEnd::OutOfMemory,
         }

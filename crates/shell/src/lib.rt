@@ -14,7 +14,7 @@ mod shorts;
 mod tally;
 mod task;
 
-pub use early_end::{EarlyEnd, Refusal};
+pub use early_end::{EarlyEnd, MountRefusal};
 pub use ended::Ended;
 pub use run::{run_task, run_words};
 pub use shorts::Shorts;

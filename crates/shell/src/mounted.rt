@@ -5,7 +5,7 @@ ghost use Rattle.replay.specs.Volumes.{found_in};
 ghost use Rattle.shell.specs.Mounts.{IsOpenedFrom, MountCause, OnlyReadUnmounted, OpeningKeeps};
 ghost use Rattle.shell.specs.EarlyEnds.{end_of_begin};
 
-use crate::early_end::{EarlyEnd, Refusal};
+use crate::early_end::{EarlyEnd, MountRefusal};
 use dev_model::Devices;
 use replay::{BeginFault, Loaded, begin_and_mend, load};
 use std::alloc::Global;
@@ -47,7 +47,7 @@ fn unbegun(fault: BeginFault) -> EarlyEnd
     ensures { result ≡ end_of_begin fault }
 {
     match fault {
-        BeginFault::Spent => EarlyEnd::Refused(Refusal::NoEntry),
+        BeginFault::Spent => EarlyEnd::Refused(MountRefusal::NoEntry),
         BeginFault::DeviceFault(dev) => EarlyEnd::Device(dev),
         BeginFault::NoMemory => EarlyEnd::OutOfMemory,
     }

@@ -1,6 +1,6 @@
-ghost use Rattle.std.specs.Prelude.{◌≡◌, [], ◌∷◌, Some, IfOk, OnErr, true};
+ghost use Rattle.std.specs.Prelude.{◌≡◌, [], ◌∷◌, Some, true};
 ghost use Rattle.std.specs.List.{cons_option};
-ghost use Rattle.fs_plan.specs.Plans.{is_planned};
+ghost use Rattle.fs_plan.specs.Plans.{IsBounded, is_planned};
 ghost use Rattle.forest_ops.specs.Fits.{entry_if_any};
 ghost use Rattle.vol_session.specs.Marks.{forest_found};
 ghost use Rattle.shell.specs.Lines.{AreRunLines, IsRunLine};
@@ -10,26 +10,24 @@ ghost use Rattle.shell.specs.Phases.{AddsEntries, RunsEnd, RunsLines, RunsSync};
 use crate::page::{Page, give_lines, print_end, print_reply};
 use dev_model::{BEFORE_COMMIT, Devices, Gate};
 use forest_ops::{Op, Reply};
-use script_text::Line;
-use std::alloc::{AllocError, Global};
+use script_text::{Line, Script};
 use text_io::Sink;
 use vol_core::Opening;
-use vol_types::Duplicate;
 use volume::VolState;
 
 /// Runs the lines of a script, and prints their replies.
 pub fn run_lines<K: Sink<D>, D: Devices, O: Opening, G: Gate>(
     volume: &mut VolState<D, O>,
-    script: &[Line],
+    script: Script,
     gate: &G,
     page: &mut Page,
     sink: &mut K,
 )
-    requires { AreRunLines script.now }
+    requires { AreRunLines script }
     ensures { RunsLines (forest_found O.found O.start) D.state D.tells K.tells K.held K.given_at
-        K.faults script.now volume.old volume.new page.old page.new sink.old sink.new }
+        K.faults script volume.old volume.new page.old page.new sink.old sink.new }
 {
-    for line in script {
+    for line in Vec::from(script) {
         run_line(volume, line, gate, page, sink);
     }
 }
@@ -37,67 +35,59 @@ pub fn run_lines<K: Sink<D>, D: Devices, O: Opening, G: Gate>(
 // Runs a line; a barrier does nothing.
 fn run_line<K: Sink<D>, D: Devices, O: Opening, G: Gate>(
     volume: &mut VolState<D, O>,
-    line: &Line,
+    line: Line,
     gate: &G,
     page: &mut Page,
     sink: &mut K,
 )
-    requires { IsRunLine line.now }
+    requires { IsRunLine line }
     ensures { RunsLines (forest_found O.found O.start) D.state D.tells K.tells K.held K.given_at
-        K.faults (line.now ∷ []) volume.old volume.new page.old page.new sink.old sink.new }
+        K.faults (line ∷ []) volume.old volume.new page.old page.new sink.old sink.new }
 {
-    if let Some(op) = &line.op {
-        gate.at(line.client, BEFORE_COMMIT);
-        answer(volume, line, op, page, sink);
+    let Line {
+        line: number,
+        client,
+        op,
+    } = line;
+    if let Some(op) = op {
+        gate.at(client, BEFORE_COMMIT);
+        answer(volume, number, client, op, page, sink);
     }
 }
 
+// Runs a line with an operation of client 0.
 fn answer<K: Sink<D>, D: Devices, O: Opening>(
     volume: &mut VolState<D, O>,
-    line: &Line,
-    op: &Op,
+    number: u32,
+    client: u8,
+    op: Op,
     page: &mut Page,
     sink: &mut K,
 )
-    requires planned { is_planned op.now ≡ true }
-    requires op { line.now.op ≡ Some op.now }
-    requires client { line.now.client ≡ 0 }
+    requires planned { is_planned op ≡ true }
+    requires bounded { IsBounded op }
+    requires client { client ≡ 0 }
     ensures { RunsLines (forest_found O.found O.start) D.state D.tells K.tells K.held K.given_at
-        K.faults (line.now ∷ []) volume.old volume.new page.old page.new sink.old sink.new }
+        K.faults (record { line = number; client = client; op = Some op } ∷ []) volume.old volume.new
+        page.old page.new sink.old sink.new }
 {
-    let reply = reply_to(page.alloc, volume, op);
-    print_reply(page, sink, volume.devices(), line.client, line.line, &reply);
+    let reply = reply_to(volume, op);
+    print_reply(page, sink, volume.devices(), client, number, &reply);
     drop(reply);
 }
 
-// The reply to an operation.
-fn reply_to<D: Devices, O: Opening>(alloc: Global, volume: &mut VolState<D, O>, op: &Op) -> Reply
-    requires { is_planned op.now ≡ true }
+// The reply to an operation of client 0.
+fn reply_to<D: Devices, O: Opening>(volume: &mut VolState<D, O>, op: Op) -> Reply
+    requires planned { is_planned op ≡ true }
+    requires bounded { IsBounded op }
     ensures { AddsEntries (forest_found O.found O.start) D.state volume.old volume.new
-        (cons_option (entry_if_any 0 op.now result) [])
+        (cons_option (entry_if_any 0 op result) [])
         (cons_option (ack_by (D.state volume.new.core.devices).moment result) []) }
 {
-    match ask(alloc, volume, op) {
+    match volume.call(0, op) {
         Ok(reply) => reply,
         Err(_) => Reply::NoMemory,
     }
-}
-
-// What the volume answers to a copy of the operation; the script keeps its own.
-fn ask<D: Devices, O: Opening>(
-    alloc: Global,
-    volume: &mut VolState<D, O>,
-    op: &Op,
-) -> Result<Reply, AllocError>
-    requires { is_planned op.now ≡ true }
-    ensures answered { IfOk result (λ reply. AddsEntries (forest_found O.found O.start) D.state
-        volume.old volume.new (cons_option (entry_if_any 0 op.now reply) [])
-        (cons_option (ack_by (D.state volume.new.core.devices).moment reply) [])) }
-    ensures err { OnErr result (AddsEntries (forest_found O.found O.start) D.state volume.old
-        volume.new [] []) }
-{
-    let op = op.copy(alloc)?;
-    volume.call(op)
 }
 
 /// Makes every commit durable, and notes the reply.
@@ -105,11 +95,9 @@ pub fn final_sync<D: Devices, O: Opening>(volume: &mut VolState<D, O>, page: &mu
     ensures { RunsSync (forest_found O.found O.start) D.state volume.old volume.new page.old
         page.new }
 {
-    let sync = Op::Sync;
-    let reply = reply_to(page.alloc, volume, &sync);
+    let reply = reply_to(volume, Op::Sync);
     page.note(&reply);
     drop(reply);
-    drop(sync);
 }
 
 /// Gives the lines that have gathered to the sink, makes every commit durable, and prints the last line. The status of the

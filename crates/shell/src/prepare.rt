@@ -22,7 +22,7 @@ pub const SCRIPT_LIMIT: usize = 1 << 24;
 
 /// What a run needs before its first line.
 #[derive(Drop)]
-pub struct Plan {
+pub struct Prepared {
     pub script: Script,
     pub loaded: Loaded,
 }
@@ -32,14 +32,14 @@ pub fn prepare<S: Source, D: Devices>(
     alloc: Global,
     source: &mut S,
     devices: &mut D,
-) -> Result<Plan, EarlyEnd>
-    ensures opened { IfOk result (λ plan. IsOpenedFrom D.tells (found_in plan.loaded) (D.state devices.old)
+) -> Result<Prepared, EarlyEnd>
+    ensures opened { IfOk result (λ prepared. IsOpenedFrom D.tells (found_in prepared.loaded) (D.state devices.old)
         (D.state devices.new)) }
     ensures keeps { OpeningKeeps D.tells (D.state devices.old) (D.state devices.new) }
-    ensures fits { IfOk result (λ plan. is_layout_of (D.state devices.new).sizes plan.loaded.layout
+    ensures fits { IfOk result (λ prepared. is_layout_of (D.state devices.new).sizes prepared.loaded.layout
         ≡ true) }
-    ensures runs { IfOk result (λ plan. AreRunLines plan.script) }
-    ensures gave { IfOk result (λ plan. GaveScript S.tells (S.left source.old) plan.script) }
+    ensures runs { IfOk result (λ prepared. AreRunLines prepared.script) }
+    ensures gave { IfOk result (λ prepared. GaveScript S.tells (S.left source.old) prepared.script) }
     ensures still { OnOk result (S.faults source.new ≡ S.faults source.old) }
     ensures unmounted { OnlyReadUnmounted D.tells (D.state devices.old) (D.state devices.new) }
     ensures goes_on { GoOn (D.state devices.old) (D.state devices.new) }
@@ -52,7 +52,7 @@ pub fn prepare<S: Source, D: Devices>(
 {
     let script = read_text(alloc, source)?;
     let loaded = mount(alloc, devices)?;
-    Ok(Plan { script, loaded })
+    Ok(Prepared { script, loaded })
 }
 
 // The whole text of the source.

@@ -16,12 +16,12 @@ use crate::formatting::formatted_line;
 use crate::info::info_text;
 use crate::page::Page;
 use crate::phases::{end_run, run_lines};
-use crate::prepare::{Plan, prepare};
+use crate::prepare::{Prepared, prepare};
 use crate::shorts::Shorts;
 use crate::task::{Task, read_task};
 use dev_model::{Devices, Gate};
 use forest_ops::{Acks, Trace};
-use script_text::Line;
+use script_text::Script;
 use std::alloc::Global;
 use std::marker::Brand;
 use std::rc::RcStr;
@@ -206,41 +206,37 @@ fn run_script<S: Source, K: Sink<D>, D: Devices, G: Gate>(
 {
     runs_are_safe();
     let mut devices = devices;
-    let planned = prepare(alloc, source, &mut devices);
-    match planned {
-        Ok(plan) => run_plan::<K, D, G, Brand>(alloc, plan, sink, devices, gate),
+    let begun = prepare(alloc, source, &mut devices);
+    match begun {
+        Ok(prepared) => run_prepared::<K, D, G, Brand>(alloc, prepared, sink, devices, gate),
         Err(end) => {
-            drop(planned);
+            drop(begun);
             end_early(alloc, end, sink, devices)
         }
     }
 }
 
 // Keeps the volume that was opened, and runs the script over it. `O` stands for what was opened, and what the devices show.
-fn run_plan<K: Sink<D>, D: Devices, G: Gate, O: Opening>(
+fn run_prepared<K: Sink<D>, D: Devices, G: Gate, O: Opening>(
     alloc: Global,
-    plan: Plan,
+    prepared: Prepared,
     sink: &mut K,
     devices: D,
     gate: &G,
 ) -> Ended<D>
-    requires opening { found_in plan.loaded ≡ O.found }
+    requires opening { found_in prepared.loaded ≡ O.found }
     requires start { D.state devices ≡ O.start }
-    requires fits { is_layout_of (D.state devices).sizes plan.loaded.layout ≡ true }
-    requires runs { AreRunLines plan.script }
+    requires fits { is_layout_of (D.state devices).sizes prepared.loaded.layout ≡ true }
+    requires runs { AreRunLines prepared.script }
     ensures ran { RunsOpened D.state D.tells K.tells K.held K.given_at K.faults O.found O.start
-        plan.script sink.old sink.new result.devices result.status result.early_end result.trace
+        prepared.script sink.old sink.new result.devices result.status result.early_end result.trace
         result.acks ⊎ EndsUnopened K.tells K.held K.faults devices result.devices sink.old sink.new
         result.status result.early_end result.trace result.acks }
     ensures shorts { result.shorts ≡ [] }
 {
-    let Plan { script, loaded } = plan;
+    let Prepared { script, loaded } = prepared;
     match VolState::<D, O>::start(alloc, loaded, devices) {
-        Ok(volume) => {
-            let ended = run_opened(alloc, volume, script.as_slice(), sink, gate);
-            drop(script);
-            ended
-        }
+        Ok(volume) => run_opened(alloc, volume, script, sink, gate),
         Err(unopened) => {
             drop(script);
             end_early(alloc, EarlyEnd::OutOfMemory, sink, unopened.devices)
@@ -252,15 +248,15 @@ fn run_plan<K: Sink<D>, D: Devices, G: Gate, O: Opening>(
 fn run_opened<K: Sink<D>, D: Devices, G: Gate, O: Opening>(
     alloc: Global,
     volume: VolState<D, O>,
-    script: &[Line],
+    script: Script,
     sink: &mut K,
     gate: &G,
 ) -> Ended<D>
     requires trace { volume.trace ≡ [] }
     requires acks { volume.acks ≡ [] }
-    requires runs { AreRunLines script.now }
+    requires runs { AreRunLines script }
     ensures ran { RunsOpened D.state D.tells K.tells K.held K.given_at K.faults O.found O.start
-        script.now sink.old sink.new result.devices result.status result.early_end result.trace
+        script sink.old sink.new result.devices result.status result.early_end result.trace
         result.acks }
     ensures shorts { result.shorts ≡ [] }
 {

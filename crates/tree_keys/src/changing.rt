@@ -19,22 +19,26 @@ use vol_types::{Listing, Pos, Value};
 
 /// What changes come to: the last value of each position that is changed, and for each change the value before it.
 #[derive(Drop)]
-pub(crate) struct Plan {
+pub(crate) struct NetChanges {
     pub(crate) last: BTreeMap<Pos, Option<Value>>,
     pub(crate) before: Listing<Option<Value>>,
 }
 
 impl TreeKeys {
     /// Works out what changes come to, without making them.
-    pub(crate) fn plan<C: Change>(&self, alloc: Global, changes: &[C]) -> Result<Plan, AllocError>
+    pub(crate) fn net_changes<C: Change>(
+        &self,
+        alloc: Global,
+        changes: &[C],
+    ) -> Result<NetChanges, AllocError>
         requires { All (λ change. IsKeyValue (C.key change).value) changes.now }
-        ensures rises { IfOk result (λ plan. IsMap pos_cmp plan.last.entries) }
-        ensures in_range { IfOk result (λ plan. All IsKeyValue (values_of plan.last.entries)) }
-        ensures last { IfOk result (λ plan. (pos : APos)
-            → unwrap_or (value_at pos_cmp pos plan.last.entries)
+        ensures rises { IfOk result (λ net. IsMap pos_cmp net.last.entries) }
+        ensures in_range { IfOk result (λ net. All IsKeyValue (values_of net.last.entries)) }
+        ensures last { IfOk result (λ net. (pos : APos)
+            → unwrap_or (value_at pos_cmp pos net.last.entries)
             (value_at pos_cmp pos self.now.entries) ≡ value_at pos_cmp pos
             (with_keys (map C.key changes.now) self.now.entries)) }
-        ensures before { IfOk result (λ plan. plan.before ≡ values_before (map C.key changes.now)
+        ensures before { IfOk result (λ net. net.before ≡ values_before (map C.key changes.now)
             self.now.entries) }
     {
         let _ = &self.keys;
@@ -46,7 +50,7 @@ impl TreeKeys {
             let earlier = last.insert(pos, value)?;
             before.push(self.value_before(alloc, &pos, earlier)?)?;
         }
-        Ok(Plan { last, before })
+        Ok(NetChanges { last, before })
     }
 
     // The value that a position got by an earlier change, or else a copy of the one that it has.

@@ -22,7 +22,7 @@ mod making;
 mod planned;
 mod sizing;
 
-use crate::changing::Plan;
+use crate::changing::NetChanges;
 use crate::copies::{copy_range, count_values, position_at, within};
 use crate::leaves::{clamped, copy_leaves, leaf_at, set_bytes, start_of, total};
 use crate::making::{are_ends, are_in_range, count_leaves};
@@ -301,7 +301,7 @@ impl TreeKeys {
         ensures err { OnErr result (self.new ≡ self.old) }
     {
         let _ = &self.keys;
-        let Plan { last, before } = self.plan(alloc, changes)?;
+        let NetChanges { last, before } = self.net_changes(alloc, changes)?;
         let fresh = self.fresh(alloc, &last)?;
         self.place(fresh.as_slice())?;
         self.fill(last);

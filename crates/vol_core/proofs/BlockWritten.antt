@@ -11,9 +11,8 @@ use Rattle.dev_model.specs.Devices.{DevicesState, now}
 use Rattle.dev_model.specs.Disk.{IsDisk}
 use Rattle.journal_writer.specs.Writers.{unsettled_by, with_flags}
 use Rattle.crash_safety.specs.Flushes.{AreFlushed}
-use Rattle.crash_safety.specs.NodeWritings.{IsSafeWithNodes}
+use Rattle.crash_safety.specs.Safety.{IsJournalSafe, IsSafe}
 use Rattle.crash_safety.specs.Parts.{standing_by}
-use Rattle.crash_safety.specs.Safety.{IsSafe}
 use Rattle.image_view.specs.Found.{Found}
 use Rattle.crash_safety.specs.NodeParts.{IsNodePartWritten}
 use Rattle.node_writeback.specs.NodeWork.{IsUnfinished, NodeWork, advanced, with_part}
@@ -68,7 +67,7 @@ module _ (laws : CoreLaws) (begun : Found) (start : DevicesState) (volume : Volu
     unfinished_is : IsUnfinished unfinished
     unfinished_is = subst (λ (u : Option UnfinishedNode). IfSome u IsUnfinished) left parts.work.unfinished
 
-    written : IsSafeWithNodes kept.f kept.image kept.writing kept.asked kept.written kept.bases kept.durable start.moment new
+    written : IsJournalSafe kept.f kept.image kept.writing kept.asked kept.written kept.bases kept.durable start.moment new
         × KeepsLeaves kept.f kept.writing new (with_last before last (standing_by failed unfinished.written) (leaves_in volume))
     written = laws.leaves.writes kept.f kept.image kept.writing kept.asked kept.written kept.bases kept.durable start.moment old new (leaves_in volume) before last failed kept.safe kept.kept
         (ap (λ (u : Option UnfinishedNode). before ++ leaves_left volume.later u) left) unfinished_is.left part disks

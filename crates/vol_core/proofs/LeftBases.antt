@@ -18,9 +18,8 @@ use Rattle.journal_writer.specs.declared.writer.Flight.{Flight}
 use Rattle.image_view.specs.Found.{Found, node_places}
 use Rattle.image_view.specs.UpdatedTrees.{IsOfLeaf}
 use Rattle.journal_ring.specs.declared.found.FoundEntry.{FoundEntry}
-use Rattle.crash_safety.specs.NodeWritings.{IsWritingWithNodes}
 use Rattle.crash_safety.specs.Safety.{AreBases, IsSafe, MeansOneOf}
-use Rattle.crash_safety.specs.Writings.{Writing, after, meant_by}
+use Rattle.crash_safety.specs.Writings.{IsWriting, Writing, after, meant_by}
 use Rattle.key_meaning.specs.Checks.{AreNodesPlaced, is_in_bucket}
 use Rattle.record_codec.specs.declared.entries.EntryRecord.{EntryRecord}
 use Rattle.replay.specs.Mending.{IsUntorn, StandsOnAll}
@@ -172,7 +171,7 @@ module _ (begun : Found) (start old new : DevicesState) (volume : Volume) (kept 
 
   live_with : KeepsRing volume → (w : Writing) → kept.writing ≡ Some w → IsLiveBase volume (after w kept.f)
   live_with ring w is =
-      let writing_is : IsWritingWithNodes kept.f kept.image w = subst (λ (o : Option Writing). IfSome o (IsWritingWithNodes kept.f kept.image)) is kept.safe.stands.is in
+      let writing_is : IsWriting kept.f kept.image w = subst (λ (o : Option Writing). IfSome o (IsWriting kept.f kept.image)) is kept.safe.stands.is in
       record {
         live = inr (flight_base ring w is);
         updates = leaves_with w is;

@@ -24,7 +24,7 @@ use Rattle.core_volume.specs.Commits.{IsCommitted}
 use Rattle.core_volume.specs.Rulings.{entry_of}
 use Rattle.core_volume.specs.Sealing.{IsFlown, next_record, oldest_needed, roots_in, settled_volume, with_writer}
 use Rattle.core_volume.specs.Volumes.{IsVolume, Volume, birth_due, halted_at, in_flight, last_sealed, needs_entry, node_stage_by, undurable_in}
-use Rattle.core_actors.specs.declared.answer.Halt.{Halt}
+use Rattle.vol_types.specs.declared.failure.Halt.{Halt}
 use Rattle.core_actors.specs.declared.answer.Refusal.{Refusal}
 use Rattle.core_actors.specs.declared.answer.Refusal.TheVariants as refusals
 use Rattle.dev_model.specs.Devices.{DevicesState}

@@ -7,7 +7,7 @@ use Rattle.core_volume.specs.Sealing.{IsFlown, settled_volume, with_writer}
 use Rattle.core_volume.specs.Volumes.{KeepParts, Volume, halted_at, needs_entry}
 use Rattle.core_actors.specs.declared.answer.Answer.{Answer}
 use Rattle.core_actors.specs.declared.answer.Answer.TheVariants as answers
-use Rattle.core_actors.specs.declared.answer.Halt.{Halt}
+use Rattle.vol_types.specs.declared.failure.Halt.{Halt}
 use Rattle.core_actors.specs.declared.answer.Refusal.{Refusal}
 use Rattle.core_actors.specs.declared.event.Event.{Event}
 use Rattle.core_actors.specs.declared.event.Event.TheVariants as events

@@ -7,7 +7,7 @@ use Rattle.std.proofs.lemmas.List.Elements.{All-append, All-cons, All-contains, 
 use Rattle.std.proofs.lemmas.Option.{same_Some}
 use Rattle.std.specs.BTreeMap.{is_at}
 use Rattle.std.specs.Ordering.{nat_cmp}
-use Rattle.std.specs.Prelude.{◌&&◌, ◌||◌, ◌==◌, All, IfSome, IsSome, nat_lt, option_map, slice_index_or}
+use Rattle.std.specs.Prelude.{◌||◌, ◌==◌, All, IfSome, IsSome, nat_lt, option_map, slice_index_or}
 use Rattle.birth_index.specs.Births.{levels_of}
 use Rattle.birth_index.specs.NameLaws.{birth_itself, one_birth}
 use Rattle.btree_map.specs.Sizes.{all_btrees}
@@ -19,7 +19,7 @@ use Rattle.core_volume.specs.HoldLaws.{pinned-each}
 use Rattle.core_volume.specs.Rulings.{IsFull, entry_of, kept_blocks}
 use Rattle.core_volume.specs.Sealing.{IsFlown, next_record, oldest_needed, settled_volume, with_writer}
 use Rattle.core_volume.specs.Volumes.{IsFlightHeld, IsVolume, KeepParts, Volume, birth_due, can_let_go, commits_of, halted_at, in_flight, is_below, last_sealed, needed_by, needs_entry, node_stage_by, undurable_in}
-use Rattle.core_actors.specs.declared.answer.Halt.{Halt}
+use Rattle.vol_types.specs.declared.failure.Halt.{Halt}
 use Rattle.core_actors.specs.declared.answer.Refusal.{Refusal}
 use Rattle.core_actors.specs.declared.answer.Refusal.TheVariants as refusals
 use Rattle.dev_model.specs.Devices.{DevicesState}

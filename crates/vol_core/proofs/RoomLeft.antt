@@ -8,8 +8,7 @@ use Rattle.dev_model.specs.Devices.{DevicesState}
 use Rattle.journal_writer.specs.Writers.{passed, settled_by}
 use Rattle.journal_writer.specs.declared.writer.Flight.{Flight}
 use Rattle.image_view.specs.Found.{Found}
-use Rattle.crash_safety.specs.NodeWritings.{IsWritingWithNodes}
-use Rattle.crash_safety.specs.Writings.{Writing, after}
+use Rattle.crash_safety.specs.Writings.{IsWriting, Writing, after}
 use Rattle.record_codec.specs.declared.entries.EntryRecord.{EntryRecord}
 use Rattle.vol_types.specs.declared.layout.Layout.{Layout}
 use Rattle.vol_core.specs.Entries.{AreStarts, FliesAs, entries_with}
@@ -29,7 +28,7 @@ module _ (begun : Found) (start state : DevicesState) (volume : Volume) (kept : 
   pub durable_leaves : LeavesRoom kept.f
   durable_leaves = by volume.writer.flight kept.writing kept.safe.stands.is kept.flying room.landed
     where
-      by : (flight : Option Flight) (writing : Option Writing) → IfSome writing (IsWritingWithNodes kept.f kept.image) → FliesAs kept.f flight writing kept.asked kept.written volume
+      by : (flight : Option Flight) (writing : Option Writing) → IfSome writing (IsWriting kept.f kept.image) → FliesAs kept.f flight writing kept.asked kept.written volume
           → volume.writer.ring.next + kept_blocks ≤ (settled_by flight volume.writer).durable.first + volume.layout.journal → LeavesRoom kept.f
       by None None is flies landed = let end = flies.end in let begins = begins_later in let same = journal in omega (arith, end, begins, same, landed)
       by None (Some w) is flies landed = absurd flies
@@ -47,7 +46,7 @@ module _ (begun : Found) (start state : DevicesState) (volume : Volume) (kept : 
   pub flight_leaves : (w : Writing) → kept.writing ≡ Some w → LeavesRoom (after w kept.f)
   flight_leaves w writes = by volume.writer.flight kept.writing writes kept.safe.stands.is kept.starts kept.flying room.landed
     where
-      by : (flight : Option Flight) (writing : Option Writing) → writing ≡ Some w → IfSome writing (IsWritingWithNodes kept.f kept.image) → AreStarts volume.writer.starts (entries_with writing kept.f.needed)
+      by : (flight : Option Flight) (writing : Option Writing) → writing ≡ Some w → IfSome writing (IsWriting kept.f kept.image) → AreStarts volume.writer.starts (entries_with writing kept.f.needed)
           → FliesAs kept.f flight writing kept.asked kept.written volume → volume.writer.ring.next + kept_blocks ≤ (settled_by flight volume.writer).durable.first + volume.layout.journal → LeavesRoom (after w kept.f)
       by flight None none is starts flies landed = absurd (none-some w none)
       by None (Some v) same is starts flies landed = absurd flies

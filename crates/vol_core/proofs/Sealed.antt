@@ -23,7 +23,7 @@ use Rattle.image_view.specs.UpdatedTrees.{IsOfLeaf}
 use Rattle.journal_ring.specs.EntryBlocks.{AreEntryBlocks, parts_of}
 use Rattle.journal_ring.specs.Rings.{flight_number}
 use Rattle.journal_ring.specs.declared.found.FoundEntry.{FoundEntry}
-use Rattle.crash_safety.specs.NodeWritings.{IsSafeWithNodes}
+use Rattle.crash_safety.specs.Safety.{IsJournalSafe}
 use Rattle.crash_safety.specs.Writings.{Writing, after}
 use Rattle.node_writeback.specs.Due.{root_in, root_of}
 use Rattle.pin_list.specs.Pins.{least_pin}
@@ -80,7 +80,7 @@ later_leaves [] queue are = All-cons AllInLeaves no_changes [] (All-nil IsInLeaf
 later_leaves (entry ∷ later) queue are = All-tail AllInLeaves entry.changes (closed_changes later ++ queue.open_entry.changes ∷ []) are
 
 module _ (laws : CoreLaws) (begun : Found) (start : DevicesState) (volume : Volume) (is : IsVolume volume) (state : DevicesState) (kept : IsCoreSafe begun start state volume) where
-  module _ (blocks : List (List ℕ)) (writer : Writer) (free : volume.writer.flight ≡ None) (safe : IsSafeWithNodes kept.f kept.image None 0 0 kept.bases kept.durable start.moment state) (leaves : KeepsLeaves kept.f None state (leaves_in volume)) (starts : AreStarts volume.writer.starts kept.f.needed)
+  module _ (blocks : List (List ℕ)) (writer : Writer) (free : volume.writer.flight ≡ None) (safe : IsJournalSafe kept.f kept.image None 0 0 kept.bases kept.durable start.moment state) (leaves : KeepsLeaves kept.f None state (leaves_in volume)) (starts : AreStarts volume.writer.starts kept.f.needed)
       (end : kept.f.last.end ≡ volume.writer.ring.next) (sealed : IsSealed (oldest volume.queue) (oldest_needed volume) volume.session (roots_in volume.trees.nodes) volume.writer writer) (same : writer.ring.blocks ≡ blocks) (from : min volume.writer.durable.oldest volume.writer.durable.sequence ≤ oldest_needed volume)
       (rises : volume.writer.durable.commits ≤ (oldest volume.queue).commits) where
     abbrev f : Found
@@ -169,7 +169,7 @@ module _ (laws : CoreLaws) (begun : Found) (start : DevicesState) (volume : Volu
     flown_one = with_writing (laws.entries.seals f kept.image kept.bases kept.durable start.moment state passed next blocks (leaves_in volume) safe leaves is_named)
       where
         with_writing : (w : Writing) × (w.passed ≡ passed) × (w.next ≡ next) × (w.blocks ≡ blocks) × (w.trees.keys ≡ with_updates entry.updates f.trees.keys)
-            × IsSafeWithNodes f (as_read (now state)) (Some w) 0 0 (kept.bases ++ after w f ∷ []) kept.durable start.moment state × KeepsLeaves f (Some w) state (leaves_in volume) → IsCoreSafe begun start state after_it
+            × IsJournalSafe f (as_read (now state)) (Some w) 0 0 (kept.bases ++ after w f ∷ []) kept.durable start.moment state × KeepsLeaves f (Some w) state (leaves_in volume) → IsCoreSafe begun start state after_it
         with_writing made =
             let w : Writing = made.0 in
             let next_is : w.next ≡ next = made.2 in
@@ -224,14 +224,14 @@ module _ (laws : CoreLaws) (begun : Found) (start : DevicesState) (volume : Volu
       new_is : new ≡ record volume { queue = without_oldest volume.queue; writer = with_entry new.writer.ring.blocks (oldest volume.queue) (oldest_needed volume) volume.writer }
       new_is = flown.rest ∙ ap (λ (writer : Writer). record volume { queue = without_oldest volume.queue; writer = writer }) flown.sealed.is
 
-      by : (flight : Option Flight) (writing : Option Writing) → volume.writer.flight ≡ flight → flight ≡ None → (asked written : ℕ) → IsSafeWithNodes kept.f kept.image writing asked written kept.bases kept.durable start.moment state → KeepsLeaves kept.f writing state (leaves_in volume)
+      by : (flight : Option Flight) (writing : Option Writing) → volume.writer.flight ≡ flight → flight ≡ None → (asked written : ℕ) → IsJournalSafe kept.f kept.image writing asked written kept.bases kept.durable start.moment state → KeepsLeaves kept.f writing state (leaves_in volume)
           → AreStarts volume.writer.starts (entries_with writing kept.f.needed) → FliesAs kept.f flight writing asked written volume
           → IsCoreSafe begun start state (record volume { queue = without_oldest volume.queue; writer = with_entry new.writer.ring.blocks (oldest volume.queue) (oldest_needed volume) volume.writer })
       by (Some flight) writing flies free asked written safe leaves starts flying = absurd cc
       by None (Some w) flies free asked written safe leaves starts flying = absurd flying
       by None None flies free asked written safe leaves starts flying =
-          let at_rest : IsSafeWithNodes kept.f kept.image None 0 0 kept.bases kept.durable start.moment state =
-          subst (λ (n : ℕ). IsSafeWithNodes kept.f kept.image None 0 n kept.bases kept.durable start.moment state) flying.unwritten
-          (subst (λ (n : ℕ). IsSafeWithNodes kept.f kept.image None n written kept.bases kept.durable start.moment state) flying.unasked safe) in
+          let at_rest : IsJournalSafe kept.f kept.image None 0 0 kept.bases kept.durable start.moment state =
+          subst (λ (n : ℕ). IsJournalSafe kept.f kept.image None 0 n kept.bases kept.durable start.moment state) flying.unwritten
+          (subst (λ (n : ℕ). IsJournalSafe kept.f kept.image None n written kept.bases kept.durable start.moment state) flying.unasked safe) in
           flown_one new.writer.ring.blocks new.writer flies at_rest leaves starts flying.end flown.sealed refl order
           (subst (λ (flight : Option Flight). DoCommitsRise flight volume.writer.durable.commits (oldest volume.queue).commits) flies rise)

@@ -17,8 +17,8 @@ use Rattle.journal_writer.specs.declared.stage.Stage.TheVariants.{Settle}
 use Rattle.journal_writer.specs.declared.writer.Flight.{Flight}
 use Rattle.image_view.specs.Found.{Found}
 use Rattle.crash_safety.specs.Flushes.{AreSettled}
-use Rattle.crash_safety.specs.NodeWritings.{IsSafeWithNodes, IsWritingWithNodes}
-use Rattle.crash_safety.specs.Writings.{Writing, after}
+use Rattle.crash_safety.specs.Safety.{IsJournalSafe}
+use Rattle.crash_safety.specs.Writings.{IsWriting, Writing, after}
 use Rattle.record_codec.specs.declared.entries.EntryRecord.{EntryRecord}
 use Rattle.vol_types.specs.KeyMaps.{KeyMap, with_updates}
 use Rattle.vol_types.specs.declared.keys.Update.{Update}
@@ -43,12 +43,12 @@ abbrev settled_with : Option Flight → Volume → Volume
 settled_with flight volume = record (with_writer (settled_by flight volume.writer) volume) { space = settled_space (settled_by flight volume.writer).durable.sequence volume.space }
 
 module _ (laws : CoreLaws) (begun : Found) (start : DevicesState) (volume : Volume) (is : IsVolume volume) (state : DevicesState) (kept : IsCoreSafe begun start state volume) where
-  module _ (flight : Flight) (w : Writing) (flies : volume.writer.flight ≡ Some flight) (safe : IsSafeWithNodes kept.f kept.image (Some w) kept.asked kept.written kept.bases kept.durable start.moment state) (keeps : KeepsLeaves kept.f (Some w) state (leaves_in volume))
+  module _ (flight : Flight) (w : Writing) (flies : volume.writer.flight ≡ Some flight) (safe : IsJournalSafe kept.f kept.image (Some w) kept.asked kept.written kept.bases kept.durable start.moment state) (keeps : KeepsLeaves kept.f (Some w) state (leaves_in volume))
       (starts : AreStarts volume.writer.starts (kept.f.needed ++ w.next ∷ [])) (flying : IsInFlight kept.f w kept.asked kept.written flight volume) (stage : stage_by (Some flight) (needs_entry volume) volume.writer ≡ Settle) where
     abbrev f : Found
     f = kept.f
 
-    abbrev writing_is : IsWritingWithNodes f kept.image w
+    abbrev writing_is : IsWriting f kept.image w
     writing_is = safe.stands.is
 
     abbrev after_it : Volume
@@ -139,7 +139,7 @@ module _ (laws : CoreLaws) (begun : Found) (start : DevicesState) (volume : Volu
   pub settled_on : stage_of volume ≡ Settle → IsCoreSafe begun start state (settled_volume volume)
   settled_on stage = by volume.writer.flight kept.writing refl kept.safe kept.kept kept.starts kept.flying stage
     where
-      by : (flight : Option Flight) (writing : Option Writing) → volume.writer.flight ≡ flight → IsSafeWithNodes kept.f kept.image writing kept.asked kept.written kept.bases kept.durable start.moment state → KeepsLeaves kept.f writing state (leaves_in volume)
+      by : (flight : Option Flight) (writing : Option Writing) → volume.writer.flight ≡ flight → IsJournalSafe kept.f kept.image writing kept.asked kept.written kept.bases kept.durable start.moment state → KeepsLeaves kept.f writing state (leaves_in volume)
           → AreStarts volume.writer.starts (entries_with writing kept.f.needed) → FliesAs kept.f flight writing kept.asked kept.written volume → stage_by flight (needs_entry volume) volume.writer ≡ Settle → IsCoreSafe begun start state (settled_with flight volume)
       by None writing flies safe keeps starts flying stage = absurd (resting_settles_nothing (needs_entry volume) volume.writer stage)
       by (Some flight) None flies safe keeps starts flying stage = absurd flying

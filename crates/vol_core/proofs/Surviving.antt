@@ -4,7 +4,7 @@ use Rattle.core_volume.specs.Volumes.{Volume}
 use Rattle.dev_model.specs.Devices.{DevicesState, now}
 use Rattle.dev_model.specs.Disk.{Image, IsCrashImage}
 use Rattle.image_view.specs.Found.{Found}
-use Rattle.crash_safety.specs.NodeWritings.{IsSafeWithNodes}
+use Rattle.crash_safety.specs.Safety.{IsJournalSafe}
 use Rattle.crash_safety.specs.Writings.{Writing}
 use Rattle.replay.specs.Mending.{IsUntorn, StandsOnAll}
 use Rattle.vol_types.specs.declared.layout.Layout.{Layout}
@@ -18,7 +18,7 @@ HoldsNeeded f image = (index : ℕ) → index < length f.needed → StandsOnAll 
 -- whatever a crash leaves now of a safe journal holds each entry that the last durable one needs
 abbrev pub StandsWhole : Type 0
 StandsWhole =
-    (f : Found) (image : Image) (writing : Option Writing) (asked written : ℕ) (bases : List Found) (durable : List ℕ) (first : ℕ) (state : DevicesState) → IsSafeWithNodes f image writing asked written bases durable first state
+    (f : Found) (image : Image) (writing : Option Writing) (asked written : ℕ) (bases : List Found) (durable : List ℕ) (first : ℕ) (state : DevicesState) → IsJournalSafe f image writing asked written bases durable first state
     → (other : Image) → IsCrashImage (now state) other → HoldsNeeded f other
 
 pub survives : StandsWhole → (begun : Found) (start state : DevicesState) (volume : Volume) → IsCoreSafe begun start state volume → Survives begun start state volume

@@ -20,8 +20,7 @@ use Rattle.image_view.specs.Mends.{IsPlaceOf}
 use Rattle.journal_ring.specs.EntryBlocks.{parts_of, ring_block}
 use Rattle.journal_ring.specs.Rings.{flight_number}
 use Rattle.journal_ring.specs.declared.found.FoundEntry.{FoundEntry}
-use Rattle.crash_safety.specs.NodeWritings.{IsWritingWithNodes}
-use Rattle.crash_safety.specs.Writings.{Writing}
+use Rattle.crash_safety.specs.Writings.{IsWriting, Writing}
 use Rattle.replay.specs.Mending.{StandsOnAll}
 use Rattle.vol_types.specs.LayoutLaws.{layout_found}
 use Rattle.vol_types.specs.declared.layout.Layout.{Layout}
@@ -65,7 +64,7 @@ still_needed f old new crashes held moment from to image may index within =
 
 module _ (laws : CoreLaws) (begun : Found) (start state : DevicesState) (volume : Volume) (is : IsVolume volume) (kept : IsCoreSafe begun start state volume) where
   -- No part of the entry that is written has a place of a part of a needed one: what was found would hang on it.
-  part_apart : (w : Writing) → IsWritingWithNodes kept.f kept.image w → (dev block : ℕ) → IsPlaceOf kept.f.layout w.next (parts_of w.next.entry) dev block → ¬ IsNeededPlace kept.f dev block
+  part_apart : (w : Writing) → IsWriting kept.f kept.image w → (dev block : ℕ) → IsPlaceOf kept.f.layout w.next (parts_of w.next.entry) dev block → ¬ IsNeededPlace kept.f dev block
   part_apart w writes dev block hit needed =
       let f : Found = kept.f in
       let image : Image = kept.image in
@@ -94,7 +93,7 @@ module _ (laws : CoreLaws) (begun : Found) (start state : DevicesState) (volume 
   part_outside_needed : IsPartAside (IsNeededPlace kept.f) volume
   part_outside_needed stage dev block at = by volume.writer.flight kept.writing kept.safe.stands.is kept.flying stage
     where
-      by : (flight : Option Flight) (writing : Option Writing) → IfSome writing (IsWritingWithNodes kept.f kept.image) → FliesAs kept.f flight writing kept.asked kept.written volume → stage_by flight (needs_entry volume) volume.writer ≡ WriteEntry → ¬ IsNeededPlace kept.f dev block
+      by : (flight : Option Flight) (writing : Option Writing) → IfSome writing (IsWriting kept.f kept.image) → FliesAs kept.f flight writing kept.asked kept.written volume → stage_by flight (needs_entry volume) volume.writer ≡ WriteEntry → ¬ IsNeededPlace kept.f dev block
       by None writing writes flying stage = absurd (resting_writes_nothing (needs_entry volume) volume.writer stage)
       by (Some flight) None writes flying stage = absurd flying
       by (Some flight) (Some w) writes flying stage =

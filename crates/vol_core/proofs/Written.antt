@@ -6,7 +6,7 @@ use Rattle.std.specs.Prelude.{All}
 use Rattle.crash_safety.specs.KeptLeaves.{KeepsLeaves}
 use Rattle.core_volume.specs.Sealing.{with_writer}
 use Rattle.core_volume.specs.Volumes.{IsVolume, Volume, halted_at, needs_entry, stage_of}
-use Rattle.core_actors.specs.declared.answer.Halt.{Halt}
+use Rattle.vol_types.specs.declared.failure.Halt.{Halt}
 use Rattle.dev_model.specs.Devices.{DevicesState, now}
 use Rattle.dev_model.specs.Disk.{IsDisk}
 use Rattle.journal_writer.specs.Writers.{Writer, stage_by, unsettled_by, with_flags}
@@ -15,8 +15,7 @@ use Rattle.journal_writer.specs.declared.writer.Flight.{Flight}
 use Rattle.image_view.specs.Found.{Found}
 use Rattle.crash_safety.specs.Flushes.{AreFlushed, Flushes, flags_by}
 use Rattle.crash_safety.specs.Parts.{IsPartWritten, IsRingOf, standing_by}
-use Rattle.crash_safety.specs.NodeWritings.{IsSafeWithNodes}
-use Rattle.crash_safety.specs.Safety.{IsSafe}
+use Rattle.crash_safety.specs.Safety.{IsJournalSafe, IsSafe}
 use Rattle.crash_safety.specs.Standing.{AreSteady}
 use Rattle.crash_safety.specs.Writings.{Writing}
 use Rattle.vol_core.specs.Entries.{AreStarts, FliesAs, entries_with}
@@ -86,7 +85,7 @@ module _ (laws : CoreLaws) (begun : Found) (start : DevicesState) (volume : Volu
   both_written : (failed : Option ℕ) → stage_of volume ≡ WriteEntry → IsPartWritten volume.writer.ring failed old new → BothSafe (written_by failed volume)
   both_written failed stage part = by volume.writer.flight kept.writing refl kept.safe kept.starts kept.kept kept.flying stage
     where
-      by : (flight : Option Flight) (writing : Option Writing) → volume.writer.flight ≡ flight → IsSafeWithNodes kept.f kept.image writing kept.asked kept.written kept.bases kept.durable start.moment old
+      by : (flight : Option Flight) (writing : Option Writing) → volume.writer.flight ≡ flight → IsJournalSafe kept.f kept.image writing kept.asked kept.written kept.bases kept.durable start.moment old
           → AreStarts volume.writer.starts (entries_with writing kept.f.needed) → KeepsLeaves kept.f writing old (leaves_in volume) → FliesAs kept.f flight writing kept.asked kept.written volume → stage_by flight (needs_entry volume) volume.writer ≡ WriteEntry → BothSafe (written_by failed volume)
       by None writing none safe starts leaves flying stage = absurd (resting_writes_nothing (needs_entry volume) volume.writer stage)
       by (Some flight) None flies safe starts leaves flying stage = absurd flying
@@ -106,7 +105,7 @@ module _ (laws : CoreLaws) (begun : Found) (start : DevicesState) (volume : Volu
           } in
           let standing : standing_by failed volume.writer.ring.written ≡ standing_by failed kept.written = ap (standing_by failed) count in
           let most = bounds failed kept.written (length w.blocks) left_here in
-          let stays : IsSafeWithNodes kept.f kept.image (Some w) (kept.written + 1) (standing_by failed kept.written) kept.bases kept.durable start.moment new =
+          let stays : IsJournalSafe kept.f kept.image (Some w) (kept.written + 1) (standing_by failed kept.written) kept.bases kept.durable start.moment new =
           laws.journal.writes kept.f kept.image w kept.asked kept.written kept.bases kept.durable start.moment old new volume.writer.ring failed safe flying.asked_for left_here ring part disks steady in (
             stays.safe,
             record {

@@ -12,8 +12,7 @@ use Rattle.journal_writer.specs.Queues.{waiting}
 use Rattle.image_view.specs.Found.{Found, found}
 use Rattle.image_view.specs.UpdatedTrees.{IsOfLeaf}
 use Rattle.crash_safety.specs.Flushes.{AreFlushed}
-use Rattle.crash_safety.specs.NodeWritings.{IsSafeWithNodes}
-use Rattle.crash_safety.specs.Safety.{MeansOneOf}
+use Rattle.crash_safety.specs.Safety.{IsJournalSafe, MeansOneOf}
 use Rattle.crash_safety.specs.Writings.{Writing, after}
 use Rattle.image_reader.specs.Volumes.{no_entry}
 use Rattle.vol_types.specs.KeyMaps.{key_map, with_updates}
@@ -65,7 +64,7 @@ pub record IsCoreSafe (begun : Found) (start state : DevicesState) (volume : Vol
   pub written : ℕ
   pub bases : List Found
   pub durable : List ℕ
-  pub safe : IsSafeWithNodes f image writing asked written bases durable start.moment state
+  pub safe : IsJournalSafe f image writing asked written bases durable start.moment state
   pub begins : slice_get bases 0 ≡ Some begun
   pub chain : AreLed bases
   pub past : AreUpTo state.moment durable

@@ -3,8 +3,7 @@ ghost use Rattle.vol_core.specs.CoreLaws.{CoreLaws, FoundLaws};
 use birth_index::exchanges_are_kept;
 use bucket_pool::nodes_keep_their_buckets;
 use crash_safety::{
-    entries_are_written_safely, entries_of_leaves_are_safe,
-    entries_with_new_nodes_are_written_safely, flushed_devices_are_settled,
+    entries_are_written_safely, entries_of_leaves_are_safe, flushed_devices_are_settled,
     leaves_are_written_safely,
 };
 use dirty_nodes::changed_pins_are_known;
@@ -25,7 +24,6 @@ pub(crate) fn open_volumes_have_laws()
     ensures { CoreLaws }
 {
     entries_are_written_safely();
-    entries_with_new_nodes_are_written_safely();
     crashes_leave_the_next_entry_or_not();
     mending_changes_nothing();
     whole_entries_are_made_of_blocks();

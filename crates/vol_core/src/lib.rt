@@ -13,7 +13,7 @@ mod machine;
 mod opening;
 
 pub use core_state::{
-    Actor, Answer, Durable, Event, Failure, Halt, Memory, NoSpace, Refusal, Stage, Work,
+    Actor, Answer, Durable, Event, Failure, Memory, NoSpace, Refusal, Stage, Work,
 };
 pub use machine::{Core, Unopened};
 pub use opening::Opening;

@@ -18,7 +18,7 @@ ghost use Rattle.vol_types.specs.Layouts.{is_layout};
 use crate::laws::{found_volumes_have_laws, open_volumes_have_laws};
 use crate::opening::Opening;
 use core_state::{Answer, Event, Memory, node_places};
-use crash_safety::entries_with_new_nodes_are_written_safely;
+use crash_safety::entries_are_written_safely;
 use dev_model::Devices;
 use replay::Loaded;
 use std::alloc::{AllocError, Global};
@@ -105,7 +105,7 @@ impl<D: Devices, O: Opening> Core<D, O> {
         ensures left { D.tells → MayBegin O.found (now O.start)
             → KeepsLeft O.found O.start (D.state result.now) (D.state result.now) self.now.memory.volume }
     {
-        entries_with_new_nodes_are_written_safely();
+        entries_are_written_safely();
         &self.devices
     }
 
@@ -113,7 +113,13 @@ impl<D: Devices, O: Opening> Core<D, O> {
     pub fn into_devices(self) -> D
         ensures { result ≡ self.devices }
     {
-        self.devices
+        let Core {
+            memory,
+            devices,
+            opening: _,
+        } = self;
+        drop(memory);
+        devices
     }
 
     /// Whether an actor may make an event. It takes no memory, and looks at each update of an `Intend`.
@@ -176,13 +182,18 @@ fn memory_of(alloc: Global, loaded: Loaded) -> Result<Memory, AllocError>
     ensures { IfOk result (IsOpened loaded.layout loaded.session loaded.map loaded.needed
         (node_places (found_in loaded))) }
 {
-    let nodes = node_places(alloc, &loaded.map)?;
-    Memory::of(
+    let Ok(nodes) = node_places(alloc, &loaded.map) else {
+        drop(loaded);
+        return Err(AllocError);
+    };
+    let memory = Memory::of(
         alloc,
         loaded.layout,
         loaded.session,
         loaded.map,
         loaded.needed.as_slice(),
         &nodes,
-    )
+    );
+    drop(nodes);
+    memory
 }

@@ -6,7 +6,7 @@ use Rattle.std.proofs.lemmas.List.Elements.{All-cons, All-head, All-nil, All-tai
 use Rattle.std.proofs.lemmas.Option.{same_Some}
 use Rattle.birth_index.specs.Births.{node_of}
 use Rattle.birth_index.specs.ExchangeLaws.{exchanges-cons, exchanges-head, exchanges-later, exchanges-none, node_of-named, other-with_pointer}
-use Rattle.birth_index.specs.Exchanges.{AreApart, AreExchanges, IsExchange, exchanged, with_pointer}
+use Rattle.birth_index.specs.Exchanges.{AreOfOtherNodes, AreExchanges, IsExchange, exchanged, with_pointer}
 use Rattle.birth_index.specs.NameLaws.{names_apart, one_name, same_name}
 use Rattle.birth_index.specs.declared.name.Exchange.{Exchange}
 use Rattle.birth_index.specs.declared.name.NodeName.{NodeName}
@@ -32,7 +32,7 @@ module _ (nodes : List Levels) (change : Exchange) (is : IsExchange nodes change
   pointed : node_of (with_pointer change nodes) change.name ≡ Some change.pointer
   pointed =
       All-head (λ (c : Exchange). node_of (with_pointer change nodes) c.name ≡ Some c.pointer) change []
-      (node_of-named nodes (change ∷ []) (exchanges-cons nodes change [] is (All-nil (AreApart change)) (exchanges-none nodes)))
+      (node_of-named nodes (change ∷ []) (exchanges-cons nodes change [] is (All-nil (AreOfOtherNodes change)) (exchanges-none nodes)))
 
   born-one : AreBornBefore (with_pointer change nodes) bound
   born-one name birth has = by (same_name change.name name) refl

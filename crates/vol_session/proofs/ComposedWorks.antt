@@ -12,15 +12,16 @@ use Rattle.vol_session.specs.Writeback.{IsWorked, KeepsKeys, StopsWith, stopped_
 use Rattle.vol_session.specs.declared.writeback_end.WritebackEnd.{WritebackEnd}
 use Rattle.vol_session.specs.declared.writeback_end.WritebackEnd.TheVariants as stops
 
-keeps_here : (memory : State) → KeepsKeys memory memory
-keeps_here memory = record { keys = refl; commits = refl; layout = refl; turn = refl; actor = record { operation = refl; looks = refl; has_ids = refl; intended = refl } }
+keeps_here : (client : ℕ) (memory : State) → KeepsKeys client memory memory
+keeps_here client memory = record { keys = refl; commits = refl; layout = refl; turn = refl; others = λ other apart. refl; actor = record { operation = refl; looks = refl; has_ids = refl; intended = refl } }
 
-keeps_then : (old mid new : State) → KeepsKeys old mid → KeepsKeys mid new → KeepsKeys old new
-keeps_then old mid new first second = record {
+keeps_then : (client : ℕ) (old mid new : State) → KeepsKeys client old mid → KeepsKeys client mid new → KeepsKeys client old new
+keeps_then client old mid new first second = record {
   keys = second.keys ∙ first.keys;
   commits = second.commits ∙ first.commits;
   layout = second.layout ∙ first.layout;
   turn = second.turn ∙ first.turn;
+  others = λ other apart. second.others other apart ∙ first.others other apart;
   actor = record {
     operation = second.actor.operation ∙ first.actor.operation;
     looks = second.actor.looks ∙ first.actor.looks;
@@ -29,12 +30,12 @@ keeps_then old mid new first second = record {
   };
 }
 
-worked_here : {D : Type 0} (session : SessionState D) → IsWorked session session
-worked_here session = record { memory = keeps_here session.core.memory; rest = refl }
+worked_here : {D : Type 0} (client : ℕ) (session : SessionState D) → IsWorked client session session
+worked_here client session = record { memory = keeps_here client session.core.memory; rest = refl }
 
-worked_then : {D : Type 0} (old mid new : SessionState D) → IsWorked old mid → IsWorked mid new → IsWorked old new
-worked_then {D} old mid new first second = record {
-  memory = keeps_then old.core.memory mid.core.memory new.core.memory first.memory second.memory;
+worked_then : {D : Type 0} (client : ℕ) (old mid new : SessionState D) → IsWorked client old mid → IsWorked client mid new → IsWorked client old new
+worked_then {D} client old mid new first second = record {
+  memory = keeps_then client old.core.memory mid.core.memory new.core.memory first.memory second.memory;
   rest = second.rest ∙ ap (λ (s : SessionState D). record s { core = new.core }) first.rest;
 }
 
@@ -47,15 +48,15 @@ stops_then (Err (stops.NoSpace none)) first before after old mid new later same 
 stops_then (Err (stops.Foreign refusal)) first before after old mid new later same is = (is.0 ∙ same, is.1)
 stops_then (Err stops.NoMemory) first before after old mid new later same is = is ∙ same
 
-module _ {D : Type 0} (state : D → DevicesState) where
+module _ {D : Type 0} (client : ℕ) (state : D → DevicesState) where
   -- Nothing was done.
-  pub goes_here : (session : SessionState D) → GoesWell state session session
-  goes_here session = record { worked = worked_here session; stops = refl; cause = refl; device = tt; goes_on = go_on_here (state session.core.devices) }
+  pub goes_here : (session : SessionState D) → GoesWell client state session session
+  goes_here session = record { worked = worked_here client session; stops = refl; cause = refl; device = tt; goes_on = go_on_here (state session.core.devices) }
 
   -- One part was done after another one.
-  pub goes_then : {U : Type 0} (result : Result U WritebackEnd) (old mid new : SessionState D) → GoesWell state old mid → Goes state result mid new → Goes state result old new
+  pub goes_then : {U : Type 0} (result : Result U WritebackEnd) (old mid new : SessionState D) → GoesWell client state old mid → Goes client state result mid new → Goes client state result old new
   goes_then result old mid new first second = record {
-    worked = worked_then old mid new first.worked second.worked;
+    worked = worked_then client old mid new first.worked second.worked;
     stops = stops_then result (state old.core.devices).moment (state mid.core.devices).moment (state new.core.devices).moment old.core.memory.volume mid.core.memory.volume new.core.memory.volume first.goes_on.later first.stops second.stops;
     cause = second.cause ∙ ap (λ (faults : FaultCounts). after_writes (stopped_by result) faults) first.cause;
     device = subst (λ (sizes : List ℕ). IfSome (stopped_by result) (λ dev. dev < length sizes)) first.goes_on.sizes second.device;

@@ -28,67 +28,67 @@ halted_stops (refusals.NoSpace none) volume is = absurd is
 halted_stops (refusals.RingFull full) volume is = tt
 halted_stops (refusals.NeedSplit need) volume is = absurd is
 
-seal_stops : (old new : State) (answer : Answer) → SealGives old 0 answer new → IfErr (outcome_of answer) MayStopSync
-seal_stops old new answers.Done gives = tt
-seal_stops old new (answers.At stage durable) gives = tt
-seal_stops old new (answers.Refused (refusals.Halted halt)) gives = tt
-seal_stops old new (answers.Refused refusals.Spent) gives = tt
-seal_stops old new (answers.Refused (refusals.RingFull full)) gives = tt
-seal_stops old new (answers.Refused (refusals.NoSpace none)) gives = absurd gives.0
-seal_stops old new (answers.Refused (refusals.NeedSplit need)) gives = absurd gives.0
-seal_stops old new answers.NoMemory gives = tt
-seal_stops old new (answers.Found keys) gives = tt
-seal_stops old new (answers.Ids tree) gives = tt
-seal_stops old new (answers.Wait holder) gives = tt
-seal_stops old new (answers.DeviceFault dev) gives = tt
+seal_stops : (client : ℕ) (old new : State) (answer : Answer) → SealGives old client answer new → IfErr (outcome_of answer) MayStopSync
+seal_stops client old new answers.Done gives = tt
+seal_stops client old new (answers.At stage durable) gives = tt
+seal_stops client old new (answers.Refused (refusals.Halted halt)) gives = tt
+seal_stops client old new (answers.Refused refusals.Spent) gives = tt
+seal_stops client old new (answers.Refused (refusals.RingFull full)) gives = tt
+seal_stops client old new (answers.Refused (refusals.NoSpace none)) gives = absurd gives.0
+seal_stops client old new (answers.Refused (refusals.NeedSplit need)) gives = absurd gives.0
+seal_stops client old new answers.NoMemory gives = tt
+seal_stops client old new (answers.Found keys) gives = tt
+seal_stops client old new (answers.Ids tree) gives = tt
+seal_stops client old new (answers.Wait holder) gives = tt
+seal_stops client old new (answers.DeviceFault dev) gives = tt
 
-write_stops : (tick : ℕ) (old new : State) (answer : Answer) → WriteGives tick old 0 answer new → IfErr (outcome_of answer) MayStopSync
-write_stops tick old new answers.Done gives = tt
-write_stops tick old new (answers.At stage durable) gives = tt
-write_stops tick old new (answers.Refused refusal) gives = halted_stops refusal old.volume gives.0
-write_stops tick old new answers.NoMemory gives = tt
-write_stops tick old new (answers.Found keys) gives = tt
-write_stops tick old new (answers.Ids tree) gives = tt
-write_stops tick old new (answers.Wait holder) gives = tt
-write_stops tick old new (answers.DeviceFault dev) gives = tt
+write_stops : (client tick : ℕ) (old new : State) (answer : Answer) → WriteGives tick old client answer new → IfErr (outcome_of answer) MayStopSync
+write_stops client tick old new answers.Done gives = tt
+write_stops client tick old new (answers.At stage durable) gives = tt
+write_stops client tick old new (answers.Refused refusal) gives = halted_stops refusal old.volume gives.0
+write_stops client tick old new answers.NoMemory gives = tt
+write_stops client tick old new (answers.Found keys) gives = tt
+write_stops client tick old new (answers.Ids tree) gives = tt
+write_stops client tick old new (answers.Wait holder) gives = tt
+write_stops client tick old new (answers.DeviceFault dev) gives = tt
 
-flush_stops : (dev tick : ℕ) (old new : State) (answer : Answer) → FlushGives dev tick old 0 answer new → IfErr (outcome_of answer) MayStopSync
-flush_stops dev tick old new answers.Done gives = tt
-flush_stops dev tick old new (answers.At stage durable) gives = tt
-flush_stops dev tick old new (answers.Refused refusal) gives = halted_stops refusal old.volume gives.0
-flush_stops dev tick old new answers.NoMemory gives = tt
-flush_stops dev tick old new (answers.Found keys) gives = tt
-flush_stops dev tick old new (answers.Ids tree) gives = tt
-flush_stops dev tick old new (answers.Wait holder) gives = tt
-flush_stops dev tick old new (answers.DeviceFault failed) gives = tt
+flush_stops : (client dev tick : ℕ) (old new : State) (answer : Answer) → FlushGives dev tick old client answer new → IfErr (outcome_of answer) MayStopSync
+flush_stops client dev tick old new answers.Done gives = tt
+flush_stops client dev tick old new (answers.At stage durable) gives = tt
+flush_stops client dev tick old new (answers.Refused refusal) gives = halted_stops refusal old.volume gives.0
+flush_stops client dev tick old new answers.NoMemory gives = tt
+flush_stops client dev tick old new (answers.Found keys) gives = tt
+flush_stops client dev tick old new (answers.Ids tree) gives = tt
+flush_stops client dev tick old new (answers.Wait holder) gives = tt
+flush_stops client dev tick old new (answers.DeviceFault failed) gives = tt
 
-settle_stops : (old new : State) (answer : Answer) → SettleGives old 0 answer new → IfErr (outcome_of answer) MayStopSync
-settle_stops old new answers.Done gives = tt
-settle_stops old new (answers.At stage durable) gives = tt
-settle_stops old new (answers.Refused refusal) gives = halted_stops refusal old.volume gives.0
-settle_stops old new answers.NoMemory gives = tt
-settle_stops old new (answers.Found keys) gives = tt
-settle_stops old new (answers.Ids tree) gives = tt
-settle_stops old new (answers.Wait holder) gives = tt
-settle_stops old new (answers.DeviceFault dev) gives = tt
+settle_stops : (client : ℕ) (old new : State) (answer : Answer) → SettleGives old client answer new → IfErr (outcome_of answer) MayStopSync
+settle_stops client old new answers.Done gives = tt
+settle_stops client old new (answers.At stage durable) gives = tt
+settle_stops client old new (answers.Refused refusal) gives = halted_stops refusal old.volume gives.0
+settle_stops client old new answers.NoMemory gives = tt
+settle_stops client old new (answers.Found keys) gives = tt
+settle_stops client old new (answers.Ids tree) gives = tt
+settle_stops client old new (answers.Wait holder) gives = tt
+settle_stops client old new (answers.DeviceFault dev) gives = tt
 
 -- So ends an event of the journal.
-pub journal_stops : {D : Type 0} (tells : Type 0) (state : D → DevicesState) (old new : CoreState D) (event : Event) (answer : Answer) → IsOfJournal event → StepGives tells state old 0 event answer new → IfErr (outcome_of answer) MayStopSync
-journal_stops tells state old new events.Seal answer of gives = seal_stops old.memory new.memory answer gives.0
-journal_stops tells state old new events.WriteEntry answer of gives = write_stops (state new.devices).moment old.memory new.memory answer gives.0
-journal_stops tells state old new (events.Flush dev) answer of gives = flush_stops dev (state new.devices).moment old.memory new.memory answer gives.0
-journal_stops tells state old new events.Settle answer of gives = settle_stops old.memory new.memory answer gives.0
-journal_stops tells state old new (events.Begin first) answer of gives = absurd of
-journal_stops tells state old new (events.Look query) answer of gives = absurd of
-journal_stops tells state old new events.LookIds answer of gives = absurd of
-journal_stops tells state old new (events.Intend updates) answer of gives = absurd of
-journal_stops tells state old new (events.Commit counted) answer of gives = absurd of
-journal_stops tells state old new events.Finish answer of gives = absurd of
-journal_stops tells state old new events.Drop answer of gives = absurd of
-journal_stops tells state old new (events.Next work) answer of gives = absurd of
-journal_stops tells state old new (events.Freeze node) answer of gives = absurd of
-journal_stops tells state old new (events.WriteSet node) answer of gives = absurd of
-journal_stops tells state old new events.CommitNodes answer of gives = absurd of
+pub journal_stops : {D : Type 0} (client : ℕ) (tells : Type 0) (state : D → DevicesState) (old new : CoreState D) (event : Event) (answer : Answer) → IsOfJournal event → StepGives tells state old client event answer new → IfErr (outcome_of answer) MayStopSync
+journal_stops client tells state old new events.Seal answer of gives = seal_stops client old.memory new.memory answer gives.0
+journal_stops client tells state old new events.WriteEntry answer of gives = write_stops client (state new.devices).moment old.memory new.memory answer gives.0
+journal_stops client tells state old new (events.Flush dev) answer of gives = flush_stops client dev (state new.devices).moment old.memory new.memory answer gives.0
+journal_stops client tells state old new events.Settle answer of gives = settle_stops client old.memory new.memory answer gives.0
+journal_stops client tells state old new (events.Begin first) answer of gives = absurd of
+journal_stops client tells state old new (events.Look query) answer of gives = absurd of
+journal_stops client tells state old new events.LookIds answer of gives = absurd of
+journal_stops client tells state old new (events.Intend updates) answer of gives = absurd of
+journal_stops client tells state old new (events.Commit counted) answer of gives = absurd of
+journal_stops client tells state old new events.Finish answer of gives = absurd of
+journal_stops client tells state old new events.Drop answer of gives = absurd of
+journal_stops client tells state old new (events.Next work) answer of gives = absurd of
+journal_stops client tells state old new (events.Freeze node) answer of gives = absurd of
+journal_stops client tells state old new (events.WriteSet node) answer of gives = absurd of
+journal_stops client tells state old new events.CommitNodes answer of gives = absurd of
 
 -- The stage is one of the journal.
 abbrev IsJournalStage : Stage → Type 0

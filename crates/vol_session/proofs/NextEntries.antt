@@ -1,27 +1,22 @@
 -- One more entry of a history: it is legal and exact, and is acknowledged where it says how many commits are durable.
-use Rattle.std.proofs.Common.{◌≡◌, ◌≤◌, ℕ, Bool, true, false, inl, Option, Some, None, Result, Ok, Err, List, [], ◌∷◌, ◌++◌, refl, sym, ap, ◌∙◌, arith}
+use Rattle.std.proofs.Common.{◌≡◌, ◌≤◌, ℕ, Bool, true, false, inl, Option, Some, None, List, [], ◌∷◌, ◌++◌, refl, sym, ap, ◌∙◌, arith}
 use Rattle.std.proofs.lemmas.Bool.{false≢true}
 use Rattle.std.proofs.lemmas.List.{append-nil, map_push}
 use Rattle.std.proofs.lemmas.List.Elements.{filter_map-append}
 use Rattle.std.proofs.lemmas.Option.{none-some as none_some}
 use Rattle.std.specs.List.{cons_option, filter_map}
-use Rattle.std.specs.Prelude.{◌&&◌, ◌||◌, not}
+use Rattle.std.specs.Prelude.{◌&&◌, ◌||◌, IsSome, not}
 use Rattle.plain_forest.specs.Forest.{Forest}
 use Rattle.forest_ops.specs.Classes.{class_of, is_changing, looks, may_fail, may_have}
 use Rattle.forest_ops.specs.History.{History, IsLegalEntry, after_all, commit_count, commits, is_done, is_idle, with_numbers}
 use Rattle.forest_ops.specs.HistoryLaws.{commit_count-up_to_own}
-use Rattle.forest_ops.specs.Refusals.{◌>>=◌}
-use Rattle.forest_ops.specs.Steps.{answer_of, new_place, next_of, reply_or}
-use Rattle.forest_ops.specs.Trees.{Place}
-use Rattle.forest_ops.specs.declared.operation.Cause.{Cause}
+use Rattle.forest_ops.specs.Steps.{answer_of}
 use Rattle.forest_ops.specs.declared.operation.Class.{Class}
 use Rattle.forest_ops.specs.declared.operation.Class.TheVariants.{Changes, Reads, Sweeps, Syncs}
 use Rattle.forest_ops.specs.declared.operation.Entry.{Entry}
 use Rattle.forest_ops.specs.declared.operation.Op.{Op}
-use Rattle.forest_ops.specs.declared.operation.Op.TheVariants as ops
 use Rattle.forest_ops.specs.declared.operation.Reply.{Reply}
 use Rattle.forest_ops.specs.declared.operation.Reply.TheVariants as replies
-use Rattle.fs_plan.specs.Plans.{is_planned}
 use Rattle.forest_ops.specs.Acknowledged.{AreAcks, RiseWithin, synced_count}
 use Rattle.forest_ops.specs.declared.acks.Ack.{Ack}
 use Rattle.vol_session.specs.Sessions.{IsExact}
@@ -35,22 +30,18 @@ used_in other = 0
 
 -- A reply that says of no commits that they are durable is the one with its own numbers.
 own_numbers : (count : ℕ) (reply : Reply) → synced_count reply ≡ None → with_numbers count (used_in reply) reply ≡ reply
-own_numbers count replies.Okay unsynced = refl
-own_numbers count (replies.More size) unsynced = refl
 own_numbers count (replies.Synced commits) unsynced = absurd (none_some commits (sym unsynced))
-own_numbers count (replies.Content bytes) unsynced = refl
-own_numbers count (replies.List names) unsynced = refl
-own_numbers count (replies.File number size links) unsynced = refl
-own_numbers count (replies.Dir number entries) unsynced = refl
-own_numbers count (replies.SubNames names) unsynced = refl
-own_numbers count (replies.Used blocks) unsynced = refl
-own_numbers count (replies.Refused cause) unsynced = refl
-own_numbers count (replies.NoSpace short) unsynced = refl
-own_numbers count (replies.DeviceFault dev) unsynced = refl
-own_numbers count (replies.DataLost lost) unsynced = refl
-own_numbers count (replies.Halted dev tick) unsynced = refl
-own_numbers count replies.Spent unsynced = refl
-own_numbers count replies.NoMemory unsynced = refl
+own_numbers count other unsynced = refl
+
+-- A number of commits is the one that is put in its place.
+numbered : (count used : ℕ) (reply : Reply) → IsSome (synced_count reply) → with_numbers count used reply ≡ replies.Synced count
+numbered count used (replies.Synced commits) synced = refl
+numbered count used other synced = absurd (false≢true synced)
+
+-- What is done acknowledges nothing.
+done_is_unsynced : (reply : Reply) → is_done reply ≡ true → synced_count reply ≡ None
+done_is_unsynced (replies.Synced commits) done = absurd (false≢true done)
+done_is_unsynced other done = refl
 
 -- ---- legal
 
@@ -67,15 +58,16 @@ module _ (opening : Forest) (before : History) where
         reply = sym (own_numbers count entry.reply unsynced) ∙ ap (with_numbers count (used_in entry.reply)) is;
       })
 
-  -- and so is a sync that acknowledges all commits.
-  pub sync_is_legal : (client count : ℕ) → count ≡ commit_count opening before → IsLegalEntry opening before (record { client = client; op = ops.Sync; reply = replies.Synced count })
-  sync_is_legal client count is =
+  -- and so is that of an operation which the forest answers with a number of commits, where it is the number of all.
+  pub sync_is_legal : (client count : ℕ) (op : Op) → count ≡ commit_count opening before → IsSome (synced_count (answer_of client op (after_all opening before)))
+      → IsLegalEntry opening before (record { client = client; op = op; reply = replies.Synced count })
+  sync_is_legal client count op is synced =
       inl (record {
         count = commit_count opening before;
         used = 0;
         at_least = commit_count-up_to_own client opening before;
         at_most = omega arith;
-        reply = ap replies.Synced is;
+        reply = ap replies.Synced is ∙ sym (numbered (commit_count opening before) 0 (answer_of client op (after_all opening before)) synced);
       })
 
 -- ---- exact
@@ -104,20 +96,7 @@ no_failure_more size Reads false = refl
 done_is_no_failure : (op : Op) (reply : Reply) → is_done reply ≡ true → may_fail op reply ≡ true → ⊥
 done_is_no_failure op replies.Okay done fails = false≢true (sym (no_failure (class_of op) (looks op)) ∙ fails)
 done_is_no_failure op (replies.More size) done fails = false≢true (sym (no_failure_more size (class_of op) (looks op)) ∙ fails)
-done_is_no_failure op (replies.Synced commits) done fails = false≢true done
-done_is_no_failure op (replies.Content bytes) done fails = false≢true done
-done_is_no_failure op (replies.List names) done fails = false≢true done
-done_is_no_failure op (replies.File number size links) done fails = false≢true done
-done_is_no_failure op (replies.Dir number entries) done fails = false≢true done
-done_is_no_failure op (replies.SubNames names) done fails = false≢true done
-done_is_no_failure op (replies.Used blocks) done fails = false≢true done
-done_is_no_failure op (replies.Refused cause) done fails = false≢true done
-done_is_no_failure op (replies.NoSpace short) done fails = false≢true done
-done_is_no_failure op (replies.DeviceFault dev) done fails = false≢true done
-done_is_no_failure op (replies.DataLost lost) done fails = false≢true done
-done_is_no_failure op (replies.Halted dev tick) done fails = false≢true done
-done_is_no_failure op replies.Spent done fails = false≢true done
-done_is_no_failure op replies.NoMemory done fails = false≢true done
+done_is_no_failure op other done fails = false≢true done
 
 second_of : (first second third : Bool) → (first && second && third) ≡ true → second ≡ true
 second_of true true third is = refl
@@ -129,41 +108,20 @@ pub commit_is_exact : (opening forest : Forest) (before : History) (entry : Entr
 commit_is_exact opening forest before entry is changes fails =
     absurd (done_is_no_failure entry.op entry.reply (second_of (is_changing (class_of entry.op)) (is_done entry.reply) (not (is_idle entry.op forest)) is) fails)
 
--- A forest's answer to what makes a file is no failure.
-made_is_no_failure : (path : _) (place : Result Place Cause) (after : Place → Forest) → may_fail (ops.Mkfile path) (reply_or (place >>= λ p. Ok (next_of replies.Okay (after p)))) ≡ false
-made_is_no_failure path (Ok place) after = refl
-made_is_no_failure path (Err cause) after = refl
+-- It acknowledges nothing,
+pub commit_is_unsynced : (op : Op) (reply : Reply) (forest : Forest) → commits op reply forest ≡ true → synced_count reply ≡ None
+commit_is_unsynced op reply forest is = done_is_unsynced reply (second_of (is_changing (class_of op)) (is_done reply) (not (is_idle op forest)) is)
 
--- So is that to each operation that is planned and changes the forest.
-answer_is_no_failure : (client : ℕ) (op : Op) (forest : Forest) → is_planned op ≡ true → is_changing (class_of op) ≡ true → may_fail op (answer_of client op forest) ≡ false
-answer_is_no_failure client (ops.Mkfile path) forest planned changes = made_is_no_failure path (new_place client path forest) _
-answer_is_no_failure client (ops.Ls path) forest planned changes = absurd (false≢true changes)
-answer_is_no_failure client ops.Sync forest planned changes = absurd (false≢true changes)
-answer_is_no_failure client (ops.Mkdir path) forest planned changes = absurd (false≢true planned)
-answer_is_no_failure client (ops.Write path offset bytes) forest planned changes = absurd (false≢true planned)
-answer_is_no_failure client (ops.Trunc path size) forest planned changes = absurd (false≢true planned)
-answer_is_no_failure client (ops.Read path offset len) forest planned changes = absurd (false≢true planned)
-answer_is_no_failure client (ops.Stat path) forest planned changes = absurd (false≢true planned)
-answer_is_no_failure client (ops.Link from to) forest planned changes = absurd (false≢true planned)
-answer_is_no_failure client (ops.Unlink path) forest planned changes = absurd (false≢true planned)
-answer_is_no_failure client (ops.Rmdir path) forest planned changes = absurd (false≢true planned)
-answer_is_no_failure client (ops.Rename from to) forest planned changes = absurd (false≢true planned)
-answer_is_no_failure client (ops.Subvol name) forest planned changes = absurd (false≢true planned)
-answer_is_no_failure client (ops.Snap source copy locked) forest planned changes = absurd (false≢true planned)
-answer_is_no_failure client (ops.Delsub name) forest planned changes = absurd (false≢true planned)
-answer_is_no_failure client ops.Subs forest planned changes = absurd (false≢true planned)
-answer_is_no_failure client (ops.Fsync path) forest planned changes = absurd (false≢true planned)
-answer_is_no_failure client (ops.Sweep steps) forest planned changes = absurd (false≢true planned)
-answer_is_no_failure client ops.Usage forest planned changes = absurd (false≢true planned)
+-- An entry whose reply is no failure is exact.
+pub answer_is_exact : (opening : Forest) (before : History) (entry : Entry) → may_fail entry.op entry.reply ≡ false → IsExact opening before entry
+answer_is_exact opening before entry unfailed changes fails = absurd (false≢true (sym unfailed ∙ fails))
 
--- Where the reply is the forest's, the entry is exact.
-pub answer_is_exact : (opening : Forest) (before : History) (entry : Entry) → is_planned entry.op ≡ true → entry.reply ≡ answer_of entry.client entry.op (after_all opening before) → IsExact opening before entry
-answer_is_exact opening before entry planned is changes fails =
-    absurd (false≢true (sym (answer_is_no_failure entry.client entry.op (after_all opening before) planned changes) ∙ ap (may_fail entry.op) (sym is) ∙ fails))
+-- So is that of an operation which changes nothing, and it is no commit.
+pub sync_is_exact : (opening : Forest) (before : History) (entry : Entry) → class_of entry.op ≡ Syncs → IsExact opening before entry
+sync_is_exact opening before entry syncs changes fails = absurd (false≢true (sym (ap is_changing syncs) ∙ changes))
 
--- What changes nothing is exact.
-pub sync_is_exact : (opening : Forest) (before : History) (client count : ℕ) → IsExact opening before (record { client = client; op = ops.Sync; reply = replies.Synced count })
-sync_is_exact opening before client count changes fails = absurd (false≢true changes)
+pub sync_is_no_commit : (op : Op) (reply : Reply) (forest : Forest) → class_of op ≡ Syncs → commits op reply forest ≡ false
+sync_is_no_commit op reply forest syncs = ap (λ (class : Class). is_changing class && is_done reply && not (is_idle op forest)) syncs
 
 -- ---- acknowledged
 
@@ -191,11 +149,11 @@ rise_pushed first last count [] rise = (rise, omega arith)
 rise_pushed first last count (ack ∷ acks) rise = (rise.0, rise_pushed ack.moment last count acks rise.1)
 
 -- A sync is acknowledged at the last moment.
-pub acks_synced : (first last client count : ℕ) (trace : History) (acks : List Ack) → AreAcks first last trace acks
-    → AreAcks first last (trace ++ record { client = client; op = ops.Sync; reply = replies.Synced count } ∷ []) (acks ++ record { moment = last; commits = count } ∷ [])
-acks_synced first last client count trace acks are =
+pub acks_synced : (first last client count : ℕ) (op : Op) (trace : History) (acks : List Ack) → AreAcks first last trace acks
+    → AreAcks first last (trace ++ record { client = client; op = op; reply = replies.Synced count } ∷ []) (acks ++ record { moment = last; commits = count } ∷ [])
+acks_synced first last client count op trace acks are =
     let ack : Ack = record { moment = last; commits = count } in
-    let entry : Entry = record { client = client; op = ops.Sync; reply = replies.Synced count } in
+    let entry : Entry = record { client = client; op = op; reply = replies.Synced count } in
     record {
       counts = map_push (λ (a : Ack). a.commits) acks ack ∙ ap (λ (counts : List ℕ). counts ++ count ∷ []) are.counts ∙ sym (syncs_push trace entry (Some count) refl);
       moments = rise_pushed first last count acks are.moments;

@@ -7,7 +7,7 @@ use Rattle.core_volume.specs.Checkpoints.{AreInPlace, IsFreezeRefused, IsLeafFro
 use Rattle.core_volume.specs.Commits.{IsCommitted}
 use Rattle.core_volume.specs.Sealing.{IsFlown, next_record, settled_volume, with_writer}
 use Rattle.core_volume.specs.Volumes.{IsVolume, KeepParts, Volume, needs_entry, node_stage_by, stage_of, undurable_in}
-use Rattle.core_actors.specs.declared.answer.Halt.{Halt}
+use Rattle.vol_types.specs.declared.failure.Halt.{Halt}
 use Rattle.core_actors.specs.declared.answer.Refusal.{Refusal}
 use Rattle.core_actors.specs.declared.answer.Refusal.TheVariants as refusals
 use Rattle.btree_map.specs.Trees.{keys_in}

@@ -8,7 +8,7 @@ use Rattle.core_state.specs.States.{State, other_holder}
 use Rattle.core_volume.specs.Volumes.{IsVolume, KeepParts, Volume}
 use Rattle.core_actors.specs.declared.answer.Answer.{Answer}
 use Rattle.core_actors.specs.declared.answer.Answer.TheVariants as answers
-use Rattle.core_actors.specs.declared.answer.Halt.{Halt}
+use Rattle.vol_types.specs.declared.failure.Halt.{Halt}
 use Rattle.core_actors.specs.declared.event.Event.{Event}
 use Rattle.core_actors.specs.declared.event.Event.TheVariants as events
 use Rattle.btree_map.specs.Trees.{Trees}

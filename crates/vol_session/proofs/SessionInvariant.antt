@@ -3,7 +3,7 @@ use Rattle.std.proofs.Common.{◌≡◌, ◌≤◌, ◌+◌, ◌-◌, ℕ, true,
 use Rattle.std.proofs.lemmas.Bool.{leb-true}
 use Rattle.std.proofs.lemmas.List.Elements.{All-nil, All-push, All-weaker}
 use Rattle.std.proofs.lemmas.Option.{same_Some, slice_get-get_or, slice_get_within}
-use Rattle.std.specs.Prelude.{All, slice_get}
+use Rattle.std.specs.Prelude.{All, IsSome, slice_get}
 use Rattle.btree_map.specs.KeyLaws.{key_map-trees}
 use Rattle.btree_map.specs.Trees.{keys_in}
 use Rattle.core_volume.specs.Commits.{IsCommitted}
@@ -26,9 +26,10 @@ use Rattle.journal_writer.specs.declared.writer.Flight.{Flight}
 use Rattle.forest_ops.specs.History.{History, IsLegalEntry, after_all, commits as is_commit_of, is_done}
 use Rattle.forest_ops.specs.HistoryLaws.{EachEntry-none, EachEntry-push, IsLegal-none, IsLegal-push}
 use Rattle.forest_ops.specs.Steps.{answer_of}
+use Rattle.forest_ops.specs.Classes.{class_of}
+use Rattle.forest_ops.specs.declared.operation.Class.TheVariants.{Syncs}
 use Rattle.forest_ops.specs.declared.operation.Entry.{Entry}
 use Rattle.forest_ops.specs.declared.operation.Op.{Op}
-use Rattle.forest_ops.specs.declared.operation.Op.TheVariants.{Sync}
 use Rattle.forest_ops.specs.declared.operation.Reply.{Reply}
 use Rattle.forest_ops.specs.declared.operation.Reply.TheVariants.{Synced}
 use Rattle.fs_plan.specs.Plans.{IsPlanOf, is_planned}
@@ -48,7 +49,7 @@ use Rattle.vol_core.specs.Rested.{DoCommitsRise}
 use Rattle.vol_core.specs.Safety.{MayBegin}
 use Rattle.vol_session.specs.Marks.{AreGoodMarks, IsAtMarks, IsGoodMark, commits_found, forest_found}
 use Rattle.vol_session.specs.Numbers.{AreNumbersCounted}
-use Rattle.vol_session.specs.Sessions.{IsCounted, IsExact, IsFailureNow, IsPlanNow, IsSafeSession, IsSession, IsToldNow, IsUncommitted}
+use Rattle.vol_session.specs.Sessions.{IsAnswerNow, IsCounted, IsExact, IsFailureNow, IsPlanNow, IsSafeSession, IsSession, IsSyncedNow, IsToldNow, IsUncommitted}
 use Rattle.vol_session.specs.Survivors.{BeginsWell}
 use Rattle.vol_session.specs.Writing.{KeepsWriter}
 use Rattle.vol_types.specs.KeyMaps.{IsKeyMap, KeyMap, with_updates}
@@ -58,7 +59,7 @@ use Rattle.vol_session.proofs.LaterForests.{one_commit_more, same_count}
 use Rattle.vol_session.proofs.MarkParts.{AreAtMarks, joined_at, joined_commits, joined_oldest}
 use Rattle.vol_session.proofs.MovedMarks.{at_parts, moved_at, moved_commits, moved_durable, moved_layout, moved_rise, parts_at}
 use Rattle.vol_session.proofs.UncommittingEvents.{Moves}
-use Rattle.vol_session.proofs.NextEntries.{acks_later, acks_synced, acks_told, answer_is_exact, answer_is_legal, commit_is_exact, sync_is_exact, sync_is_legal}
+use Rattle.vol_session.proofs.NextEntries.{acks_later, acks_synced, acks_told, answer_is_exact, answer_is_legal, commit_is_exact, sync_is_exact, sync_is_legal, sync_is_no_commit}
 use Rattle.vol_session.proofs.NumbersKept.{low-committed}
 use Rattle.vol_session.proofs.NumbersStepped.{numbers-opened}
 use Rattle.vol_session.proofs.Surviving.{FoundKeys, survive_acknowledged, survive_begun, survive_stepped, survive_told}
@@ -245,13 +246,13 @@ module _ (leads : LeadsOn) (begun : Found) (updates : List Update) (old new : Vo
       (joined_at marks (commits_found begun) old.writer.flight old.writer.durable.commits old.queue (keys_in old.trees) are updates
       (leads (changes_in old.writer.flight) old.queue updates true are.durable (keys_in old.trees) are.lead)))))
 
-module _ (tells : Type 0) (begun : Found) (start state : DevicesState) (memory : State) (trace : History) (acks : List Ack) (commits : ℕ) (is : IsSession tells begun start state memory trace acks commits) (op : Op) (reply : Reply)
+module _ (tells : Type 0) (begun : Found) (start state : DevicesState) (memory : State) (trace : History) (acks : List Ack) (commits : ℕ) (is : IsSession tells begun start state memory trace acks commits) (client : ℕ) (op : Op) (reply : Reply)
     (planned : is_planned op ≡ true) (unsynced : synced_count reply ≡ None) where
   abbrev opening : Forest
   opening = forest_found begun start
 
   abbrev entry : Entry
-  entry = record { client = 0; op = op; reply = reply }
+  entry = record { client = client; op = op; reply = reply }
 
   abbrev longer : History
   longer = trace ++ entry ∷ []
@@ -260,7 +261,7 @@ module _ (tells : Type 0) (begun : Found) (start state : DevicesState) (memory :
   read = read_in (as_read (now start))
 
   -- With the entry of a commit that was made it keeps it.
-  pub committed : (leads : LeadsOn) (after : State) → IsVolume memory.volume → KeepParts memory.volume → IsMade memory 0 true after → ((forest : Forest) → is_commit_of op reply forest ≡ true) → IsPlanNow memory 0 (record { op = op; updates = intended_by memory 0; reply = reply })
+  pub committed : (leads : LeadsOn) (after : State) → IsVolume memory.volume → KeepParts memory.volume → IsMade memory client true after → ((forest : Forest) → is_commit_of op reply forest ≡ true) → IsPlanNow memory client (record { op = op; updates = intended_by memory client; reply = reply; commits = true })
       → IsSession tells begun start state after longer acks (commits + 1)
   committed leads after volume parts made commit plan_now = record {
     counted = record {
@@ -276,24 +277,24 @@ module _ (tells : Type 0) (begun : Found) (start state : DevicesState) (memory :
           subst (λ (w : Writer). All (λ (ack : Ack). commits_found begun + ack.commits ≤ w.durable.commits) acks) (sym (ap (λ (v : Volume). v.writer) made.made.rest)) counted.durable;
       acks_are = acks_told start.moment state.moment trace acks entry unsynced counted.acks_are;
       goes_on = counted.goes_on;
-      writer = writer-committed memory after 0 true volume counted.writer made;
+      writer = writer-committed memory after client true volume counted.writer made;
       numbers = λ moments. low-committed begun commits (state.moment - start.moment) updates memory.volume after.volume parts made.made (counted.numbers moments);
     };
     rise = committed_rise leads begun updates memory.volume after.volume made.made is.rise;
     past = is.past;
     safe = λ told begins.
         let safe : IsSafeSession begun start state memory.volume trace acks = is.safe told begins in
-        let plan : Plan = record { op = op; updates = updates; reply = reply } in
-        let is_plan : IsPlanOf (keys_in memory.volume.trees) (node_places begun) begun.layout 0 plan =
+        let plan : Plan = record { op = op; updates = updates; reply = reply; commits = true } in
+        let is_plan : IsPlanOf (keys_in memory.volume.trees) (node_places begun) begun.layout client plan =
         plan_now (node_places begun) begun.layout (memory_sound begun start memory.volume trace commits safe.marks safe.at safe.good counted.commits_are counted.counted)
         (memory_tidy begun start memory.volume trace commits safe.marks safe.at safe.good counted.commits_are counted.counted) in
         let means : forest_in (keys_in memory.volume.trees) read ≡ after_all opening trace = memory_means begun start memory.volume trace commits safe.marks safe.at safe.good counted.commits_are counted.counted in
         record {
           marks = safe.marks ++ with_updates updates (keys_in memory.volume.trees) ∷ [];
-          good = good_joined begun start memory.volume trace commits safe.marks safe.at safe.good counted.commits_are counted.counted 0 plan is_plan (commit (after_all opening trace));
+          good = good_joined begun start memory.volume trace commits safe.marks safe.at safe.good counted.commits_are counted.counted client plan is_plan (commit (after_all opening trace));
           at = committed_at leads begun updates memory.volume after.volume made.made safe.marks safe.at;
           survive = survive_told begun start state trace acks entry safe.survive;
-          legal = IsLegal-push opening trace entry safe.legal (answer_is_legal opening trace entry unsynced (is_plan.reply read ∙ ap (answer_of 0 op) means));
+          legal = IsLegal-push opening trace entry safe.legal (answer_is_legal opening trace entry unsynced (is_plan.reply read ∙ ap (answer_of client op) means));
           exact = EachEntry-push (IsExact opening) trace entry safe.exact (commit_is_exact opening opening trace entry (commit opening));
         };
   }
@@ -302,11 +303,11 @@ module _ (tells : Type 0) (begun : Found) (start state : DevicesState) (memory :
       counted = is.counted
 
       updates : List Update
-      updates = intended_by memory 0
+      updates = intended_by memory client
 
   -- ---- an entry that changes nothing
 
-  module _ (commit : (forest : Forest) → is_commit_of op reply forest ≡ false) (told_now : IsToldNow memory 0 op reply) where
+  module _ (commit : (forest : Forest) → is_commit_of op reply forest ≡ false) (told_now : IsToldNow memory client op reply) where
     told_counted : IsCounted begun start state memory.volume longer acks commits
     told_counted = record {
       layout = is.counted.layout;
@@ -333,12 +334,12 @@ module _ (tells : Type 0) (begun : Found) (start state : DevicesState) (memory :
           let sound = memory_sound begun start memory.volume trace commits safe.marks safe.at safe.good is.counted.commits_are is.counted.counted in
           let tidy = memory_tidy begun start memory.volume trace commits safe.marks safe.at safe.good is.counted.commits_are is.counted.counted in
           ⊎_elim
-          (λ answers.
-          let own : reply ≡ answer_of 0 op (after_all opening trace) = answers (node_places begun) begun.layout sound tidy read ∙ ap (answer_of 0 op) means in
-          (answer_is_legal opening trace entry unsynced own, answer_is_exact opening trace entry planned own))
-          (λ (fails : IsFailureNow memory 0 op reply). (
+          (λ (answers : IsAnswerNow memory client op reply).
+          let own : reply ≡ answer_of client op (after_all opening trace) = answers.answers (node_places begun) begun.layout sound tidy read ∙ ap (answer_of client op) means in
+          (answer_is_legal opening trace entry unsynced own, answer_is_exact opening trace entry answers.unfailed))
+          (λ (fails : IsFailureNow memory client op reply). (
             inr fails.may,
-            λ changes may. subst (λ (forest : Forest). is_done (answer_of 0 op forest) ≡ true) means (fails.done changes (node_places begun) begun.layout sound tidy read),
+            λ changes may. subst (λ (forest : Forest). is_done (answer_of client op forest) ≡ true) means (fails.done changes (node_places begun) begun.layout sound tidy read),
           ))
           told_now
 
@@ -359,12 +360,13 @@ module _ (tells : Type 0) (begun : Found) (start state : DevicesState) (memory :
 -- ---- an acknowledgement
 
 module _ (laws : FoundKeys) (tells : Type 0) (begun : Found) (start state : DevicesState) (memory : State) (trace : History) (acks : List Ack) (commits : ℕ) (is : IsSession tells begun start state memory trace acks commits)
+    (client : ℕ) (op : Op) (planned : is_planned op ≡ true) (syncs : class_of op ≡ Syncs) (synced_now : IsSyncedNow memory client op)
     (durable : are_durable None memory.volume ≡ true) (left : tells → MayBegin begun (now start) → KeepsLeft begun start state state memory.volume) where
   abbrev whole_opening : Forest
   whole_opening = forest_found begun start
 
   abbrev sync : Entry
-  sync = record { client = 0; op = Sync; reply = Synced commits }
+  sync = record { client = client; op = op; reply = Synced commits }
 
   abbrev ack : Ack
   ack = record { moment = state.moment; commits = commits }
@@ -379,14 +381,22 @@ module _ (laws : FoundKeys) (tells : Type 0) (begun : Found) (start state : Devi
   synced_counted = record {
     layout = is.counted.layout;
     commits_are = is.counted.commits_are;
-    counted = is.counted.counted ∙ sym (same_count whole_opening trace sync refl);
-    planned = All-push (λ (e : Entry). is_planned e.op ≡ true) trace sync is.counted.planned refl;
+    counted = is.counted.counted ∙ sym (same_count whole_opening trace sync (sync_is_no_commit op (Synced commits) (after_all whole_opening trace) syncs));
+    planned = All-push (λ (e : Entry). is_planned e.op ≡ true) trace sync is.counted.planned planned;
     durable = All-push (λ (a : Ack). commits_found begun + a.commits ≤ memory.volume.writer.durable.commits) acks ack is.counted.durable all_durable;
-    acks_are = acks_synced start.moment state.moment 0 commits trace acks is.counted.acks_are;
+    acks_are = acks_synced start.moment state.moment client commits op trace acks is.counted.acks_are;
     goes_on = is.counted.goes_on;
     writer = is.counted.writer;
     numbers = is.counted.numbers;
   }
+
+  -- The forest after the history answers the operation with a number of commits.
+  answered : IsSafeSession begun start state memory.volume trace acks → IsSome (synced_count (answer_of client op (after_all whole_opening trace)))
+  answered safe =
+      let sound = memory_sound begun start memory.volume trace commits safe.marks safe.at safe.good is.counted.commits_are is.counted.counted in
+      let tidy = memory_tidy begun start memory.volume trace commits safe.marks safe.at safe.good is.counted.commits_are is.counted.counted in
+      let means = memory_means begun start memory.volume trace commits safe.marks safe.at safe.good is.counted.commits_are is.counted.counted in
+      subst (λ (forest : Forest). IsSome (synced_count (answer_of client op forest))) means (synced_now (node_places begun) begun.layout sound tidy (read_in (as_read (now start))))
 
   synced_safe : BeginsWell begun start → KeepsLeft begun start state state memory.volume → IsSafeSession begun start state memory.volume trace acks → IsSafeSession begun start state memory.volume (trace ++ sync ∷ []) (acks ++ ack ∷ [])
   synced_safe begins here safe = record {
@@ -396,8 +406,8 @@ module _ (laws : FoundKeys) (tells : Type 0) (begun : Found) (start state : Devi
     survive =
         survive_told begun start state trace (acks ++ ack ∷ []) sync
         (survive_acknowledged laws begun start state memory.volume trace acks commits safe.marks ack begins safe.at safe.good is.counted here refl all_durable safe.survive);
-    legal = IsLegal-push whole_opening trace sync safe.legal (sync_is_legal whole_opening trace 0 commits is.counted.counted);
-    exact = EachEntry-push (IsExact whole_opening) trace sync safe.exact (sync_is_exact whole_opening trace 0 commits);
+    legal = IsLegal-push whole_opening trace sync safe.legal (sync_is_legal whole_opening trace client commits op is.counted.counted (answered safe));
+    exact = EachEntry-push (IsExact whole_opening) trace sync safe.exact (sync_is_exact whole_opening trace sync syncs);
   }
 
   -- With a sync that acknowledges all commits it keeps it.

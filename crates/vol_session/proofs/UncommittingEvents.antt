@@ -9,7 +9,7 @@ use Rattle.core_state.specs.States.{State, other_holder}
 use Rattle.core_volume.specs.Volumes.{Volume, halted_at, needs_entry}
 use Rattle.core_actors.specs.declared.answer.Answer.{Answer}
 use Rattle.core_actors.specs.declared.answer.Answer.TheVariants as answers
-use Rattle.core_actors.specs.declared.answer.Halt.{Halt}
+use Rattle.vol_types.specs.declared.failure.Halt.{Halt}
 use Rattle.core_actors.specs.declared.answer.Refusal.{Refusal}
 use Rattle.core_actors.specs.declared.answer.Refusal.TheVariants as refusals
 use Rattle.core_actors.specs.declared.event.Event.{Event}

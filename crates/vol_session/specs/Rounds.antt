@@ -1,5 +1,5 @@
 -- What a work does in a round: the stage that it is told, the event of that stage, and what it comes to.
-use Rattle.std.specs.Prelude.{◌≡◌, ◌≢◌, ◌⊎◌, ◌<◌, true, false, ⊤, Option, Some, None, IfSome, Result, Ok, Err, length, slice_index_or}
+use Rattle.std.specs.Prelude.{◌≡◌, ◌≢◌, ◌⊎◌, ◌<◌, ℕ, true, false, ⊤, Option, Some, None, IfSome, Result, Ok, Err, length, slice_index_or}
 use Rattle.core_state.specs.States.{State, IsState}
 use Rattle.core_volume.specs.Volumes.{KeepParts, Volume, node_stage_of, stage_of}
 use Rattle.core_actors.specs.declared.answer.Answer.{Answer}
@@ -24,17 +24,17 @@ pub record IsSeen (memory : State) : Type 0 where
   pub parts : KeepParts memory.volume
   pub writer : KeepsWriter memory.volume
 
--- What a part of a work leaves, and why it ended early, if it did.
-pub record Goes {D T : Type 0} (state : D → DevicesState) (result : Result T WritebackEnd) (old new : SessionState D) : Type 0 where
-  pub worked : IsWorked old new
+-- What a part of a client's work leaves, and why it ended early, if it did.
+pub record Goes {D T : Type 0} (client : ℕ) (state : D → DevicesState) (result : Result T WritebackEnd) (old new : SessionState D) : Type 0 where
+  pub worked : IsWorked client old new
   pub stops : StopsWith result (state old.core.devices).moment (state new.core.devices).moment old.core.memory.volume new.core.memory.volume
   pub cause : (state new.core.devices).faults ≡ after_writes (stopped_by result) (state old.core.devices).faults
   pub device : IfSome (stopped_by result) (λ dev. dev < length (state old.core.devices).sizes)
   pub goes_on : GoOn (state old.core.devices) (state new.core.devices)
 
--- What a part of a work leaves that ended well.
-abbrev pub GoesWell : {D : Type 0} → (D → DevicesState) → SessionState D → SessionState D → Type 0
-GoesWell state old new = Goes {T = Unit {0}} state (Ok tt) old new
+-- What a part of a client's work leaves that ended well.
+abbrev pub GoesWell : {D : Type 0} → ℕ → (D → DevicesState) → SessionState D → SessionState D → Type 0
+GoesWell client state old new = Goes {T = Unit {0}} client state (Ok tt) old new
 
 -- The stage is the next one of the works: that of the journal, and where this rests that of the nodes.
 abbrev pub IsNext : Stage → Volume → Type 0

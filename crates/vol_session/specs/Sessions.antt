@@ -1,5 +1,5 @@
 -- A session over an open volume: its history and its acknowledgements beside the core, and what its type keeps of them.
-use Rattle.std.specs.Prelude.{◌≡◌, ◌⊎◌, ℕ, ◌+◌, ◌≤◌, true, List, All, ⊤}
+use Rattle.std.specs.Prelude.{◌≡◌, ◌⊎◌, ℕ, ◌+◌, ◌≤◌, true, false, IsSome, List, All, ⊤}
 use Rattle.btree_map.specs.Trees.{keys_in}
 use Rattle.core_actors.specs.Actors.{noted}
 use Rattle.core_state.specs.Events.{intended_by}
@@ -27,7 +27,7 @@ use Rattle.key_meaning.specs.Forest.{Read, forest_in}
 use Rattle.key_meaning.specs.Tidy.{IsTidy}
 use Rattle.plain_forest.specs.Forest.{Forest}
 use Rattle.replay.specs.Mending.{KeepsPast}
-use Rattle.forest_ops.specs.Acknowledged.{AreAcks}
+use Rattle.forest_ops.specs.Acknowledged.{AreAcks, synced_count}
 use Rattle.forest_ops.specs.declared.acks.Ack.{Ack}
 use Rattle.vol_core.specs.Cores.{CoreState}
 use Rattle.vol_core.specs.Rested.{DoCommitsRise}
@@ -66,9 +66,18 @@ pub record IsFailureNow (memory : State) (client : ℕ) (op : Op) (reply : Reply
   pub may : may_fail op reply ≡ true
   pub done : is_changing (class_of op) ≡ true → IfSoundKeys memory (λ keys nodes layout. (read : Read) → is_done (answer_of client op (forest_in keys read)) ≡ true)
 
--- The reply to the client's operation, which changes nothing: that of the forest which the keys in memory mean, or a failure.
+-- The reply to the client's operation is that of the forest which the keys in memory mean, and no failure that it may have.
+pub record IsAnswerNow (memory : State) (client : ℕ) (op : Op) (reply : Reply) : Type 0 where
+  pub unfailed : may_fail op reply ≡ false
+  pub answers : IfSoundKeys memory (λ keys nodes layout. (read : Read) → reply ≡ answer_of client op (forest_in keys read))
+
+-- The reply to the client's operation, which changes nothing: the forest's, or a failure.
 abbrev pub IsToldNow : State → ℕ → Op → Reply → Type 0
-IsToldNow memory client op reply = IfSoundKeys memory (λ keys nodes layout. (read : Read) → reply ≡ answer_of client op (forest_in keys read)) ⊎ IsFailureNow memory client op reply
+IsToldNow memory client op reply = IsAnswerNow memory client op reply ⊎ IsFailureNow memory client op reply
+
+-- The forest that the keys in memory mean answers the client's operation with a number of commits.
+abbrev pub IsSyncedNow : State → ℕ → Op → Type 0
+IsSyncedNow memory client op = IfSoundKeys memory (λ keys nodes layout. (read : Read) → IsSome (synced_count (answer_of client op (forest_in keys read))))
 
 -- An operation that would change the forest fails only where this wouldn't refuse it.
 abbrev pub IsExact : Forest → History → Entry → Type 0

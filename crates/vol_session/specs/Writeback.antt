@@ -1,5 +1,5 @@
 -- What the works on what is durable leave of a session, and why they end early.
-use Rattle.std.specs.Prelude.{◌≡◌, ◌⊎◌, ℕ, ◌≤◌, true, ⊤, Option, Some, None, Result, Ok, Err}
+use Rattle.std.specs.Prelude.{◌≡◌, ◌≢◌, ◌⊎◌, ℕ, ◌≤◌, true, ⊤, Option, Some, None, Result, Ok, Err}
 use Rattle.btree_map.specs.Trees.{keys_in}
 use Rattle.core_volume.specs.Checkpoints.{IsFreezeRefused, IsPlacingRefused, after_refused}
 use Rattle.core_volume.specs.Sealing.{IsSealRefused}
@@ -20,17 +20,18 @@ pub record KeepsTransaction (old new : Actor) : Type 0 where
   pub has_ids : new.has_ids ≡ old.has_ids
   pub intended : new.intended ≡ old.intended
 
--- The works leave keys, commits, the layout, and what client 0 has under way.
-pub record KeepsKeys (old new : State) : Type 0 where
+-- The works that a client drives leave keys, commits, the layout, the turn, and what each client has under way.
+pub record KeepsKeys (client : ℕ) (old new : State) : Type 0 where
   pub keys : keys_in new.volume.trees ≡ keys_in old.volume.trees
   pub commits : commits_of new.volume ≡ commits_of old.volume
   pub layout : new.volume.layout ≡ old.volume.layout
   pub turn : new.turn ≡ old.turn
-  pub actor : KeepsTransaction (mine old 0) (mine new 0)
+  pub actor : KeepsTransaction (mine old client) (mine new client)
+  pub others : (other : ℕ) → other ≢ client → mine new other ≡ mine old other
 
 -- Works leave the history and the acknowledgements, and all that is said above.
-pub record IsWorked {D : Type 0} (old new : SessionState D) : Type 0 where
-  pub memory : KeepsKeys old.core.memory new.core.memory
+pub record IsWorked {D : Type 0} (client : ℕ) (old new : SessionState D) : Type 0 where
+  pub memory : KeepsKeys client old.core.memory new.core.memory
   pub rest : new ≡ record old { core = new.core }
 
 -- the device that failed a work, if one did

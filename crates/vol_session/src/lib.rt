@@ -5,7 +5,7 @@
 //! legal from the forest that was found then; the keys in memory mean the forest after it; and whatever a crash has left at a moment since
 //! mounts as the volume after a prefix of its commits, with all that was acknowledged by then, as far as no torn block opens by chance.
 //!
-//! Two works are driven by client 0: a sync, which makes all commits durable, and a checkpoint, which writes nodes anew so that the journal
+//! Two works are driven by a client: a sync, which makes all commits durable, and a checkpoint, which writes nodes anew so that the journal
 //! can let its entries go. What a run leaves, from the first read of its devices on, are laws over what a session keeps, over the opening of
 //! a volume, and over format.
 #![tactic(auto)]

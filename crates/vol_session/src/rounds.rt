@@ -1,6 +1,6 @@
 ghost use Rattle.std.specs.Prelude.{◌≡◌, ◌≢◌, ◌<◌, IfErr, None, OnOk, false, true};
 ghost use Rattle.core_state.specs.Events.{Fits, stage_for};
-ghost use Rattle.core_state.specs.States.{mine};
+ghost use Rattle.core_state.specs.States.{actor_count, mine};
 ghost use Rattle.core_volume.specs.Volumes.{are_durable, stage_of};
 ghost use Rattle.journal_writer.specs.declared.stage.Stage.TheVariants.{Rest};
 ghost use Rattle.vol_session.specs.Left.{works_left};
@@ -18,16 +18,21 @@ pub(crate) fn see<D: Devices, O: Opening>(session: &Session<D, O>)
     session.memory().see_kept();
 }
 
-/// Asks what a work needs next, and whether the commits are durable that client 0 asks for: all of them, where it has no operation.
-pub(crate) fn ask<D: Devices, O: Opening>(session: &mut Session<D, O>, work: Work) -> (Stage, bool)
+/// Asks what a work needs next, and whether the commits are durable that the client asks for: all of them, where it has no operation.
+pub(crate) fn ask<D: Devices, O: Opening>(
+    session: &mut Session<D, O>,
+    client: u8,
+    work: Work,
+) -> (Stage, bool)
+    requires { client < actor_count }
     ensures stage { result.0 ≡ stage_for work session.old.core.memory.volume }
-    ensures durable { result.1 ≡ are_durable (mine session.old.core.memory 0).operation
+    ensures durable { result.1 ≡ are_durable (mine session.old.core.memory client).operation
         session.old.core.memory.volume }
     ensures volume { session.new.core.memory.volume ≡ session.old.core.memory.volume }
-    ensures goes { GoesWell D.state session.old session.new }
+    ensures goes { GoesWell client D.state session.old session.new }
 {
     see(session);
-    let answer = session.step(Event::Next(work));
+    let answer = session.step(client, Event::Next(work));
     match answer {
         Answer::At { stage, durable } => {
             drop(answer);
@@ -37,14 +42,16 @@ pub(crate) fn ask<D: Devices, O: Opening>(session: &mut Session<D, O>, work: Wor
     }
 }
 
-/// Whether all commits are durable, where client 0 was told so, or the journal rests.
+/// Whether all commits are durable, where the client was told so, or the journal rests.
 pub(crate) fn is_synced<D: Devices, O: Opening>(
     session: &Session<D, O>,
+    client: u8,
     stage: Stage,
     durable: bool,
 ) -> bool
+    requires there { client < actor_count }
     requires stage { stage ≡ stage_of session.now.core.memory.volume }
-    requires durable { durable ≡ are_durable (mine session.now.core.memory 0).operation
+    requires durable { durable ≡ are_durable (mine session.now.core.memory client).operation
         session.now.core.memory.volume }
     ensures synced { result ≡ true → are_durable None session.now.core.memory.volume ≡ true }
     ensures more { result ≡ false → stage ≢ Rest }
@@ -52,38 +59,41 @@ pub(crate) fn is_synced<D: Devices, O: Opening>(
     if stage == Stage::Rest {
         return true;
     }
-    durable && session.memory().actor(0).operation.is_none()
+    durable && session.memory().actor(client).operation.is_none()
 }
 
 /// Asks what is next: for the journal, and where this rests for the nodes.
-pub(crate) fn next_stage<D: Devices, O: Opening>(session: &mut Session<D, O>) -> Stage
+pub(crate) fn next_stage<D: Devices, O: Opening>(session: &mut Session<D, O>, client: u8) -> Stage
+    requires { client < actor_count }
     ensures next { IsNext result session.new.core.memory.volume }
     ensures volume { session.new.core.memory.volume ≡ session.old.core.memory.volume }
-    ensures goes { GoesWell D.state session.old session.new }
+    ensures goes { GoesWell client D.state session.old session.new }
 {
-    let (stage, _) = ask(session, Work::Journal);
+    let (stage, _) = ask(session, client, Work::Journal);
     if stage != Stage::Rest {
         return stage;
     }
-    let (stage, _) = ask(session, Work::Nodes);
+    let (stage, _) = ask(session, client, Work::Nodes);
     stage
 }
 
 /// Makes the event of the next stage, which leaves less to be done. That of the journal's stage is not refused for lack of buckets.
 pub(crate) fn make<D: Devices, O: Opening>(
     session: &mut Session<D, O>,
+    client: u8,
     stage: Stage,
 ) -> Result<(), WritebackEnd>
+    requires there { client < actor_count }
     requires next { IsNext stage session.old.core.memory.volume }
     requires some { stage ≢ Rest }
-    ensures goes { Goes D.state result session.old session.new }
+    ensures goes { Goes client D.state result session.old session.new }
     ensures journal { stage ≡ stage_of session.old.core.memory.volume → IfErr result MayStopSync }
     ensures left { OnOk result (works_left session.new.core.memory.volume
         < works_left session.old.core.memory.volume) }
 {
     see(session);
     match event_of(stage) {
-        Some(event) => make_event(session, event),
+        Some(event) => make_event(session, client, event),
         None => unreachable!(),
     }
 }
@@ -91,17 +101,18 @@ pub(crate) fn make<D: Devices, O: Opening>(
 // Makes an event that is due.
 fn make_event<D: Devices, O: Opening>(
     session: &mut Session<D, O>,
+    client: u8,
     event: Event,
 ) -> Result<(), WritebackEnd>
-    requires fits { Fits session.old.core.memory 0 event }
+    requires fits { Fits session.old.core.memory client event }
     requires due { IsDue event session.old.core.memory.volume }
-    ensures goes { Goes D.state result session.old session.new }
+    ensures goes { Goes client D.state result session.old session.new }
     ensures journal { IsOfJournal event → IfErr result MayStopSync }
     ensures left { OnOk result (works_left session.new.core.memory.volume
         < works_left session.old.core.memory.volume) }
 {
     see(session);
-    let answer = session.step(event);
+    let answer = session.step(client, event);
     see(session);
     outcome_of(answer)
 }

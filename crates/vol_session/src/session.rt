@@ -4,11 +4,12 @@ ghost use Rattle.core_state.specs.Opening.{IsOpened};
 ghost use Rattle.core_volume.specs.Volumes.{are_durable};
 ghost use Rattle.core_actors.specs.declared.event.Event.TheVariants.{Commit};
 ghost use Rattle.dev_model.specs.Frames.{GoOn, after_writes};
-ghost use Rattle.forest_ops.specs.Classes.{may_fail};
+ghost use Rattle.forest_ops.specs.Classes.{class_of, may_fail};
 ghost use Rattle.forest_ops.specs.History.{EachEntry, IsLegal, commit_count, commits};
 ghost use Rattle.fs_plan.specs.Plans.{is_planned};
 ghost use Rattle.geometry.specs.Layouts.{is_layout_of};
 ghost use Rattle.image_view.specs.Found.{node_places};
+ghost use Rattle.forest_ops.specs.declared.operation.Class.TheVariants.{Syncs};
 ghost use Rattle.plain_forest.specs.Forest.{Forest};
 ghost use Rattle.replay.specs.Mending.{KeepsPast};
 ghost use Rattle.replay.specs.Volumes.{found_in};
@@ -18,7 +19,7 @@ ghost use Rattle.vol_core.specs.Left.{failed_by};
 ghost use Rattle.vol_core.specs.Rested.{HasRoomAfterCheckpoint, IsRested};
 ghost use Rattle.vol_core.specs.Room.{HasRoomForNext, LeavesRoom};
 ghost use Rattle.vol_session.specs.Marks.{commits_found, forest_found};
-ghost use Rattle.vol_session.specs.Sessions.{IsCounted, IsExact, IsNoCommit, IsPlanNow, IsToldNow, IsUncommitted};
+ghost use Rattle.vol_session.specs.Sessions.{IsCounted, IsExact, IsNoCommit, IsPlanNow, IsSyncedNow, IsToldNow, IsUncommitted};
 ghost use Rattle.vol_session.specs.Numbers.{HasNumbersLeft, IsFarFromSpent};
 ghost use Rattle.vol_session.specs.Survivors.{BeginsWell, Survive};
 ghost use Rattle.vol_types.specs.declared.positions.Btree.TheVariants.{Extents};
@@ -33,7 +34,7 @@ use std::marker::Model;
 use vol_core::{Answer, Core, Event, Memory, Opening, Unopened};
 use vol_types::SpareList;
 
-/// A session over an open volume, in which client 0 runs operations. It may be sent to another thread.
+/// A session over an open volume, in which clients run operations. It may be sent to another thread.
 ///
 /// Each event is made by `step`, but a commit, which `commit` makes together with its entry in the history.
 #[derive(Drop)]
@@ -134,11 +135,11 @@ impl<D: Devices, O: Opening> Session<D, O> {
         self.acks.reserve(1)
     }
 
-    /// Makes an event of client 0 that commits nothing, and answers it, as `Core::step` does and at its cost.
-    pub fn step(&mut self, event: Event) -> Answer
-        requires fits { Fits self.old.core.memory 0 event }
+    /// Makes an event of a client that commits nothing, and answers it, as `Core::step` does and at its cost.
+    pub fn step(&mut self, client: u8, event: Event) -> Answer
+        requires fits { Fits self.old.core.memory client event }
         requires no_commit { IsNoCommit event }
-        ensures gives { StepGives D.tells D.state self.old.core 0 event result self.new.core }
+        ensures gives { StepGives D.tells D.state self.old.core client event result self.new.core }
         ensures rest { self.new ≡ record self.old { core = self.new.core } }
         ensures goes_on { GoOn (D.state self.old.core.devices) (D.state self.new.core.devices) }
         ensures past { D.tells → KeepsPast (D.state self.old.core.devices)
@@ -151,83 +152,81 @@ impl<D: Devices, O: Opening> Session<D, O> {
         found_btrees_are_a_key_map();
         leaves_are_put_in_place();
         self.core.memory().see_kept();
-        self.core.step(0, event)
+        self.core.step(client, event)
     }
 
-    /// Commits the updates that client 0 intends, and puts the entry of its operation into the history. No device is called. It costs what a
+    /// Commits the updates that a client intends, and puts the entry of its operation into the history. No device is called. It costs what a
     /// `Commit` does, and takes no memory for the entry. An `Err` says why it isn't committed, and gives the operation and its reply back.
-    pub fn commit(&mut self, op: Op, reply: Reply) -> Result<(), Uncommitted>
+    pub fn commit(&mut self, client: u8, op: Op, reply: Reply) -> Result<(), Uncommitted>
+        requires client { client < 16 }
         requires spare { 0 < self.old.spare }
-        requires fits { Fits self.old.core.memory 0 (Commit true) }
+        requires fits { Fits self.old.core.memory client (Commit true) }
         requires planned { is_planned op ≡ true }
         requires commits { (forest : Forest) → commits op reply forest ≡ true }
-        requires unsynced { synced_count reply ≡ None }
-        requires plan { IsPlanNow self.old.core.memory 0 (record {
+        requires plan { IsPlanNow self.old.core.memory client (record {
           op = op;
-          updates = intended_by self.old.core.memory 0;
+          updates = intended_by self.old.core.memory client;
           reply = reply;
+          commits = true;
         }) }
-        ensures made { OnOk result (IsMade self.old.core.memory 0 true self.new.core.memory) }
+        ensures made { OnOk result (IsMade self.old.core.memory client true self.new.core.memory) }
         ensures entry { OnOk result (self.new ≡ record self.old {
           core = self.new.core;
-          trace = self.old.trace ++ record { client = 0; op = op; reply = reply } ∷ [];
+          trace = self.old.trace ++ record { client = client; op = op; reply = reply } ∷ [];
           commits = self.old.commits + 1;
           spare = self.new.spare;
         }) }
-        ensures err { IfErr result (λ not. IsUncommitted self.old.core.memory 0 not.answer
+        ensures err { IfErr result (λ not. IsUncommitted self.old.core.memory client not.answer
             self.new.core.memory × (not.op ≡ op) × (not.reply ≡ reply)
             × (self.new ≡ record self.old { core = self.new.core })) }
         ensures devices { self.new.core.devices ≡ self.old.core.devices }
     {
         waiting_changes_lead_from_durable_keys();
         self.core.memory().see_kept();
-        let given = self.core.step(0, Event::Commit { counted: true });
+        let given = self.core.step(client, Event::Commit { counted: true });
         match given {
             Answer::Done => {
                 drop(given);
                 // The count of commits since format is one of 64 bits, and no less.
                 self.core.memory().see_kept();
                 self.commits += 1;
-                self.trace.push(Entry {
-                    client: 0,
-                    op,
-                    reply,
-                });
+                self.trace.push(Entry { client, op, reply });
                 Ok(())
             }
             answer => Err(Uncommitted { answer, op, reply }),
         }
     }
 
-    /// Puts the entry of an operation of client 0 into the history that changes nothing: its reply is the forest's, or a failure that it may have.
+    /// Puts the entry of an operation of a client into the history that changes nothing: its reply is the forest's, or a failure that it may have.
     /// It takes no memory.
-    pub fn tell(&mut self, op: Op, reply: Reply)
+    pub fn tell(&mut self, client: u8, op: Op, reply: Reply)
+        requires client { client < 16 }
         requires spare { 0 < self.old.spare }
         requires planned { is_planned op ≡ true }
         requires no_commit { (forest : Forest) → commits op reply forest ≡ false }
         requires unsynced { synced_count reply ≡ None }
-        requires told { IsToldNow self.old.core.memory 0 op reply }
+        requires told { IsToldNow self.old.core.memory client op reply }
         ensures { self.new ≡ record self.old {
-          trace = self.old.trace ++ record { client = 0; op = op; reply = reply } ∷ [];
+          trace = self.old.trace ++ record { client = client; op = op; reply = reply } ∷ [];
           spare = self.new.spare;
         } }
     {
-        self.trace.push(Entry {
-            client: 0,
-            op,
-            reply,
-        });
+        self.trace.push(Entry { client, op, reply });
     }
 
-    /// Acknowledges all commits as durable, in the entry of a sync of client 0, and answers how many the session has made. It takes no memory.
-    pub fn acknowledge(&mut self) -> u64
+    /// Acknowledges all commits as durable, in the entry of an operation of a client that syncs, and answers how many the session has made. It takes no memory.
+    pub fn acknowledge(&mut self, client: u8, op: Op) -> u64
+        requires client { client < 16 }
         requires spare { 0 < self.old.spare }
+        requires planned { is_planned op ≡ true }
+        requires class { class_of op ≡ Syncs }
+        requires synced { IsSyncedNow self.old.core.memory client op }
         requires durable { are_durable None self.old.core.memory.volume ≡ true }
         ensures count { result ≡ self.old.commits }
         ensures entry { self.new ≡ record self.old {
           trace = self.old.trace ++ record {
-            client = 0;
-            op = Op.Sync;
+            client = client;
+            op = op;
             reply = Reply.Synced self.old.commits;
           } ∷ [];
           acks = self.old.acks ++ record {
@@ -242,8 +241,8 @@ impl<D: Devices, O: Opening> Session<D, O> {
         let commits = self.commits;
         self.acks.push(Ack { moment, commits });
         self.trace.push(Entry {
-            client: 0,
-            op: Op::Sync,
+            client,
+            op,
             reply: Reply::Synced(commits),
         });
         commits

@@ -1,4 +1,5 @@
 ghost use Rattle.std.specs.Prelude.{◌≡◌, ◌<◌, IfErr, IfSome, None, OnOk, length, true};
+ghost use Rattle.core_state.specs.States.{actor_count};
 ghost use Rattle.core_volume.specs.Volumes.{are_durable};
 ghost use Rattle.dev_model.specs.Frames.{GoOn, after_writes};
 ghost use Rattle.vol_core.specs.Rested.{IsRested};
@@ -10,10 +11,14 @@ use dev_model::Devices;
 use vol_core::{Opening, Stage, Work};
 
 /// Makes all commits durable: entries are written and flushed until they are. It costs what is written, and a flush of each device that has something
-/// unsettled. Where client 0 has no operation and all commits are durable already, no device is called, also where the session has stopped writing.
+/// unsettled. Where the client that asks for it has no operation and all commits are durable already, no device is called, also where the session has stopped writing.
 /// Where it has one, entries are written until the journal rests. It doesn't end for lack of buckets.
-pub fn sync_all<D: Devices, O: Opening>(session: &mut Session<D, O>) -> Result<(), WritebackEnd>
-    ensures worked { IsWorked session.old session.new }
+pub fn sync_all<D: Devices, O: Opening>(
+    session: &mut Session<D, O>,
+    client: u8,
+) -> Result<(), WritebackEnd>
+    requires { client < actor_count }
+    ensures worked { IsWorked client session.old session.new }
     ensures durable { OnOk result (are_durable None session.new.core.memory.volume ≡ true) }
     ensures stops { StopsWith result (D.state session.old.core.devices).moment
         (D.state session.new.core.devices).moment session.old.core.memory.volume
@@ -26,18 +31,22 @@ pub fn sync_all<D: Devices, O: Opening>(session: &mut Session<D, O>) -> Result<(
     ensures goes_on { GoOn (D.state session.old.core.devices) (D.state session.new.core.devices) }
 {
     loop {
-        let (stage, durable) = ask(session, Work::Journal);
-        if is_synced(session, stage, durable) {
+        let (stage, durable) = ask(session, client, Work::Journal);
+        if is_synced(session, client, stage, durable) {
             return Ok(());
         }
-        make(session, stage)?;
+        make(session, client, stage)?;
     }
 }
 
 /// Makes a checkpoint: entries are written until the journal rests, each leaf that pins one is written anew and put in place, and so on until both rest.
 /// It costs what the dirty leaves hold, and some flushes.
-pub fn checkpoint<D: Devices, O: Opening>(session: &mut Session<D, O>) -> Result<(), WritebackEnd>
-    ensures worked { IsWorked session.old session.new }
+pub fn checkpoint<D: Devices, O: Opening>(
+    session: &mut Session<D, O>,
+    client: u8,
+) -> Result<(), WritebackEnd>
+    requires { client < actor_count }
+    ensures worked { IsWorked client session.old session.new }
     ensures rested { OnOk result (IsRested session.new.core.memory.volume) }
     ensures stops { StopsWith result (D.state session.old.core.devices).moment
         (D.state session.new.core.devices).moment session.old.core.memory.volume
@@ -49,10 +58,10 @@ pub fn checkpoint<D: Devices, O: Opening>(session: &mut Session<D, O>) -> Result
     ensures goes_on { GoOn (D.state session.old.core.devices) (D.state session.new.core.devices) }
 {
     loop {
-        let stage = next_stage(session);
+        let stage = next_stage(session, client);
         if stage == Stage::Rest {
             return Ok(());
         }
-        make(session, stage)?;
+        make(session, client, stage)?;
     }
 }

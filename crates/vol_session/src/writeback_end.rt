@@ -1,4 +1,5 @@
-use vol_core::{Halt, NoSpace, Refusal};
+use vol_core::{NoSpace, Refusal};
+use vol_types::Halt;
 
 /// Why a work on what is durable ends before it is done.
 #[derive(Drop)]

@@ -156,8 +156,8 @@ module _ {K X : Type 0} (cmp : K → K → Ordering) where
       by false later = later
 
   -- Each key of the second entries is above each of the first ones.
-  abbrev pub AreApart : List (K × X) → List (K × X) → Type 0
-  AreApart first second = AllByRecursion (λ low. AllByRecursion (λ high. cmp low high ≡ Less) (keys_of second)) (keys_of first)
+  abbrev pub AreKeysBelow : List (K × X) → List (K × X) → Type 0
+  AreKeysBelow first second = AllByRecursion (λ low. AllByRecursion (λ high. cmp low high ≡ Less) (keys_of second)) (keys_of first)
 
   all_first : (P : K → Type 0) (first second : List (K × X)) → AllByRecursion P (keys_of (first ++ second)) → AllByRecursion P (keys_of first) × AllByRecursion P (keys_of second)
   all_first P [] second all = (tt, all)
@@ -168,7 +168,7 @@ module _ {K X : Type 0} (cmp : K → K → Ordering) where
   all_joined P (e ∷ first) second all others = (all.0, all_joined P first second all.1 others)
 
   -- Both parts of a map are maps, and the second is above the first.
-  pub IsMap-parts : (first second : List (K × X)) → IsMap cmp (first ++ second) → IsMap cmp first × IsMap cmp second × AreApart first second
+  pub IsMap-parts : (first second : List (K × X)) → IsMap cmp (first ++ second) → IsMap cmp first × IsMap cmp second × AreKeysBelow first second
   unfolding IsStrictlySortedBy
   IsMap-parts [] second rises = (tt, rises, tt)
   IsMap-parts (e ∷ first) second rises =
@@ -177,7 +177,7 @@ module _ {K X : Type 0} (cmp : K → K → Ordering) where
       ((here.0, later.0), later.1, (here.1, later.2))
 
   -- Two maps of which the second is above the first make a map.
-  pub IsMap-append : (first second : List (K × X)) → IsMap cmp first → IsMap cmp second → AreApart first second → IsMap cmp (first ++ second)
+  pub IsMap-append : (first second : List (K × X)) → IsMap cmp first → IsMap cmp second → AreKeysBelow first second → IsMap cmp (first ++ second)
   unfolding IsStrictlySortedBy
   IsMap-append [] second rises others apart = others
   IsMap-append (e ∷ first) second rises others apart = (all_joined (λ y. cmp e.0 y ≡ Less) first second rises.0 apart.0, IsMap-append first second rises.1 others apart.1)

@@ -9,7 +9,7 @@ ghost use Rattle.vol_types.specs.KeyMaps.{KeyMap, IsKeyMap, GivesLooks, entries_
 ghost use Rattle.vol_types.specs.Layouts.{IsLayout, is_layout};
 ghost use Rattle.vol_types.specs.Lengths.{key_length_of};
 ghost use Rattle.vol_types.specs.Limits.{block_size, bucket_blocks, node_limit};
-ghost use Rattle.vol_types.specs.MapLaws.{AreApart};
+ghost use Rattle.vol_types.specs.MapLaws.{AreKeysBelow};
 ghost use Rattle.vol_types.specs.Maps.{IsMap, put_at, value_at, with_value, without};
 ghost use Rattle.vol_types.specs.Positions.{IsNext, IsWithin, greatest_pos, is_within, least_pos, next_pos, pos_cmp, pos_number};
 ghost use Rattle.vol_types.specs.Ranges.{IsKeyValue, Rise};
@@ -62,9 +62,9 @@ pub fn maps_are_functions<K: Ord, X>()
     ensures put_stays { (key : K) (value : Option X) (entries : List (K × X)) → IsMap K.cmp entries
         → IsMap K.cmp (put_at K.cmp key value entries) }
     ensures parts { (first second : List (K × X)) → IsMap K.cmp (first ++ second)
-        → IsMap K.cmp first × IsMap K.cmp second × AreApart K.cmp first second }
+        → IsMap K.cmp first × IsMap K.cmp second × AreKeysBelow K.cmp first second }
     ensures whole { (first second : List (K × X)) → IsMap K.cmp first → IsMap K.cmp second
-        → AreApart K.cmp first second → IsMap K.cmp (first ++ second) }
+        → AreKeysBelow K.cmp first second → IsMap K.cmp (first ++ second) }
     ensures same { ((x y : K) → K.cmp x y ≡ Equal → x ≡ y) → (one other : List (K × X))
         → IsMap K.cmp one → IsMap K.cmp other
         → ((key : K) → value_at K.cmp key one ≡ value_at K.cmp key other) → one ≡ other }

@@ -20,7 +20,7 @@ mod spare;
 mod values;
 mod widths;
 
-pub use failure::Failed;
+pub use failure::{Failed, Halt};
 pub use keys::{Key, Update, key_length};
 pub use laws::{
     constants_are_defined, key_maps_are_updated, keys_are_short, layouts_are_tested,

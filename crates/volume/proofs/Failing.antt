@@ -6,12 +6,13 @@ use Rattle.std.proofs.lemmas.Bool.Decides.{nat_tests}
 use Rattle.std.proofs.lemmas.List.Elements.{All-nil, All-cons, All-push}
 use Rattle.std.proofs.lemmas.List.Folds.{list_any-append}
 use Rattle.std.proofs.lemmas.List.Sums.{sum_by-append}
-use Rattle.core_actors.specs.declared.answer.Halt.{Halt as MemoryHalt}
+use Rattle.std.proofs.lemmas.Option.{none-some as none_some}
+use Rattle.vol_types.specs.declared.failure.Halt.{Halt}
 use Rattle.dev_model.specs.Devices.{AreFaultCounts, DevicesState, FaultCounts, risen, with_write_fault}
 use Rattle.dev_model.specs.Disk.{changed}
 use Rattle.dev_model.specs.Frames.{GoOn}
 use Rattle.forest_ops.specs.Classes.{class_of, is_changing}
-use Rattle.forest_ops.specs.History.{History, after_all, is_commit, is_done, is_idle}
+use Rattle.forest_ops.specs.History.{History, after_all, commits, is_commit, is_done, is_idle}
 use Rattle.forest_ops.specs.HistoryLaws.{EachEntry-push}
 use Rattle.forest_ops.specs.declared.operation.Entry.{Entry}
 use Rattle.forest_ops.specs.declared.operation.Op.{Op}
@@ -20,15 +21,14 @@ use Rattle.forest_ops.specs.declared.operation.Reply.TheVariants as replies
 use Rattle.image_view.specs.Found.{Found}
 use Rattle.plain_forest.specs.Forest.{Forest}
 use Rattle.forest_ops.specs.Failures.{AgreesWith, AreCounted, Halts, HaveCauses, device_faults, has_failed, has_halted, is_device_fault, is_fault_of, is_halted, is_sync, shows_halt}
-use Rattle.forest_ops.specs.declared.halt.Halt.{Halt}
 use Rattle.vol_session.specs.Marks.{forest_found}
 use Rattle.vol_types.specs.Faults.{RoseBy}
-use Rattle.volume.specs.Serving.{HaltsAs}
-use Rattle.volume.specs.States.{KeepsFailures, halt_told}
+use Rattle.volume.specs.Serving.{HaltsAs, IsWriting}
+use Rattle.volume.specs.States.{KeepsFailures}
 
--- the entry of client 0
-abbrev pub entry_of : Op → Reply → Entry
-entry_of op reply = record { client = 0; op = op; reply = reply }
+-- the entry of a client
+abbrev pub entry_of : ℕ → Op → Reply → Entry
+entry_of client op reply = record { client = client; op = op; reply = reply }
 
 -- the counts after a reply: one call more of a device has failed where it says so
 abbrev pub faults_after : Reply → FaultCounts → FaultCounts
@@ -59,22 +59,8 @@ device_faults-push dev trace entry = count_push (λ e. is_fault_of dev e.reply) 
 
 -- An entry that says of no device that it failed says so of none.
 no_fault_of : (dev : ℕ) (reply : Reply) → is_device_fault reply ≡ false → is_fault_of dev reply ≡ false
-no_fault_of dev replies.Okay works = refl
-no_fault_of dev (replies.More size) works = refl
-no_fault_of dev (replies.Synced count) works = refl
-no_fault_of dev (replies.Content bytes) works = refl
-no_fault_of dev (replies.List names) works = refl
-no_fault_of dev (replies.File number size links) works = refl
-no_fault_of dev (replies.Dir number entries) works = refl
-no_fault_of dev (replies.SubNames names) works = refl
-no_fault_of dev (replies.Used blocks) works = refl
-no_fault_of dev (replies.Refused cause) works = refl
-no_fault_of dev (replies.NoSpace short) works = refl
 no_fault_of dev (replies.DeviceFault failed) works = absurd (false≢true (sym works))
-no_fault_of dev (replies.DataLost lost) works = refl
-no_fault_of dev (replies.Halted failed tick) works = refl
-no_fault_of dev replies.Spent works = refl
-no_fault_of dev replies.NoMemory works = refl
+no_fault_of dev other works = refl
 
 device_faults-same : (dev : ℕ) (trace : History) (entry : Entry) → is_device_fault entry.reply ≡ false → device_faults dev (trace ++ entry ∷ []) ≡ device_faults dev trace
 device_faults-same dev trace entry works =
@@ -96,20 +82,20 @@ no_less (count ∷ counts) (suc dev) zero = omega arith
 no_less (count ∷ counts) (suc dev) (suc other) = no_less counts dev other
 
 -- So the failures that one entry more says of are counted, where its device's count is one more.
-counted_once : (trace : History) (op : Op) (start counts : List ℕ) (dev : ℕ) → dev < length counts → AreCounted trace start counts → AreCounted (trace ++ entry_of op (replies.DeviceFault dev) ∷ []) start (changed dev risen counts)
-counted_once trace op start counts dev within counted other = by (dev == other) refl
+counted_once : (trace : History) (client : ℕ) (op : Op) (start counts : List ℕ) (dev : ℕ) → dev < length counts → AreCounted trace start counts → AreCounted (trace ++ entry_of client op (replies.DeviceFault dev) ∷ []) start (changed dev risen counts)
+counted_once trace client op start counts dev within counted other = by (dev == other) refl
   where
     here : dev ≡ other → RoseBy (device_faults other trace + 1) (slice_index_or start other 0) (slice_index_or (changed dev risen counts) other 0)
     here same = subst (λ (d : ℕ). RoseBy (device_faults d trace + 1) (slice_index_or start d 0) (slice_index_or (changed dev risen counts) d 0)) same (rose_once (slice_index_or start dev 0) (device_faults dev trace) counts dev within (counted dev))
 
-    by : (test : Bool) → (dev == other) ≡ test → RoseBy (device_faults other (trace ++ entry_of op (replies.DeviceFault dev) ∷ [])) (slice_index_or start other 0) (slice_index_or (changed dev risen counts) other 0)
+    by : (test : Bool) → (dev == other) ≡ test → RoseBy (device_faults other (trace ++ entry_of client op (replies.DeviceFault dev) ∷ [])) (slice_index_or start other 0) (slice_index_or (changed dev risen counts) other 0)
     by true is =
         let one : cond {A = ℕ} (dev == other) 1 0 ≡ 1 = ap (λ test. cond {A = ℕ} test 1 0) is in
         let same : dev ≡ other = grind (arith, nat_tests) in
-        omega (arith, device_faults-push other trace (entry_of op (replies.DeviceFault dev)), one, here same)
+        omega (arith, device_faults-push other trace (entry_of client op (replies.DeviceFault dev)), one, here same)
     by false is =
         let none : cond {A = ℕ} (dev == other) 1 0 ≡ 0 = ap (λ test. cond {A = ℕ} test 1 0) is in
-        omega (arith, device_faults-push other trace (entry_of op (replies.DeviceFault dev)), none, counted other, no_less counts dev other)
+        omega (arith, device_faults-push other trace (entry_of client op (replies.DeviceFault dev)), none, counted other, no_less counts dev other)
 
 -- An entry that says of no device that it failed leaves the causes.
 causes-same : (start now : FaultCounts) (trace : History) (entry : Entry) → is_device_fault entry.reply ≡ false → HaveCauses start now trace → HaveCauses start now (trace ++ entry ∷ [])
@@ -123,22 +109,9 @@ has_halted-push trace entry = list_any-append shows_halt trace (entry ∷ [])
 
 -- An entry that shows no halt agrees with any.
 agrees_unshown : (halt : Halt) (op : Op) (reply : Reply) → (is_halted reply || (is_sync op && is_device_fault reply)) ≡ false → AgreesWith halt op reply
-agrees_unshown halt op replies.Okay none = tt
-agrees_unshown halt op (replies.More size) none = tt
-agrees_unshown halt op (replies.Synced count) none = tt
-agrees_unshown halt op (replies.Content bytes) none = tt
-agrees_unshown halt op (replies.List names) none = tt
-agrees_unshown halt op (replies.File number size links) none = tt
-agrees_unshown halt op (replies.Dir number entries) none = tt
-agrees_unshown halt op (replies.SubNames names) none = tt
-agrees_unshown halt op (replies.Used blocks) none = tt
-agrees_unshown halt op (replies.Refused cause) none = tt
-agrees_unshown halt op (replies.NoSpace short) none = tt
 agrees_unshown halt op (replies.DeviceFault dev) none = λ sync. absurd (false≢true (sym none ∙ ap (λ test. test && true) sync))
-agrees_unshown halt op (replies.DataLost lost) none = tt
 agrees_unshown halt op (replies.Halted dev tick) none = absurd (false≢true (sym none))
-agrees_unshown halt op replies.Spent none = tt
-agrees_unshown halt op replies.NoMemory none = tt
+agrees_unshown halt op other none = tt
 
 agree_unshown : (halt : Halt) (trace : History) → has_halted trace ≡ false → All (λ (e : Entry). AgreesWith halt e.op e.reply) trace
 agree_unshown halt [] none = All-nil (λ (e : Entry). AgreesWith halt e.op e.reply)
@@ -150,19 +123,19 @@ agree_unshown halt (entry ∷ trace) none =
     neither true rest is = absurd (false≢true (sym is))
     neither false rest is = (refl, is)
 
--- What an entry that says of no device that it failed shows of the halt: nothing, or that halt, and then it is not done.
-abbrev IsShown : Option Halt → Op → Reply → Type 0
-IsShown None op reply = shows_halt (entry_of op reply) ≡ false
-IsShown (Some halt) op reply = AgreesWith halt op reply × (is_done reply ≡ false)
+-- What an entry that says of no device that it failed shows of the halt: nothing, or that halt.
+abbrev IsShown : Option Halt → ℕ → Op → Reply → Type 0
+IsShown None client op reply = shows_halt (entry_of client op reply) ≡ false
+IsShown (Some halt) client op reply = AgreesWith halt op reply
 
-halts-push : (halted : Option Halt) (start state : DevicesState) (trace : History) (op : Op) (reply : Reply) → Halts halted start state trace → IsShown halted op reply → Halts halted start state (trace ++ entry_of op reply ∷ [])
-halts-push None start state trace op reply halts shown = has_halted-push trace (entry_of op reply) ∙ or_false (has_halted trace) (shows_halt (entry_of op reply)) shown ∙ halts
-halts-push (Some halt) start state trace op reply halts shown = record {
+halts-push : (halted : Option Halt) (start state : DevicesState) (trace : History) (client : ℕ) (op : Op) (reply : Reply) → Halts halted start state trace → IsShown halted client op reply → Halts halted start state (trace ++ entry_of client op reply ∷ [])
+halts-push None start state trace client op reply halts shown = has_halted-push trace (entry_of client op reply) ∙ or_false (has_halted trace) (shows_halt (entry_of client op reply)) shown ∙ halts
+halts-push (Some halt) start state trace client op reply halts shown = record {
   device = halts.device;
   no_sooner = halts.no_sooner;
   no_later = halts.no_later;
   cause = halts.cause;
-  agree = All-push (λ (e : Entry). AgreesWith halt e.op e.reply) trace (entry_of op reply) halts.agree shown.0;
+  agree = All-push (λ (e : Entry). AgreesWith halt e.op e.reply) trace (entry_of client op reply) halts.agree shown;
 }
 
 -- What isn't done is no commit.
@@ -173,10 +146,15 @@ not_done op reply forest not_so = ap (λ (t : Bool). is_changing (class_of op) &
     by true = refl
     by false = refl
 
-no_commit_shown : (opening : Forest) (halted : Option Halt) (start state : DevicesState) (trace : History) (op : Op) (reply : Reply) → Halts halted start state trace → IsShown halted op reply
-    → has_halted trace ≡ true → is_commit (after_all opening trace) (entry_of op reply) ≡ false
-no_commit_shown opening None start state trace op reply halts shown before = absurd (false≢true (sym halts ∙ before))
-no_commit_shown opening (Some halt) start state trace op reply halts shown before = not_done op reply (after_all opening trace) shown.1
+-- What is a commit only where the session writes is none once it has halted.
+no_commit_shown : (opening : Forest) (halted : Option Halt) (start state : DevicesState) (trace : History) (client : ℕ) (op : Op) (reply : Reply) → Halts halted start state trace → IsWriting op reply halted
+    → has_halted trace ≡ true → is_commit (after_all opening trace) (entry_of client op reply) ≡ false
+no_commit_shown opening None start state trace client op reply halts writes before = absurd (false≢true (sym halts ∙ before))
+no_commit_shown opening (Some halt) start state trace client op reply halts writes before = by (commits op reply (after_all opening trace)) refl
+  where
+    by : (commit : Bool) → commits op reply (after_all opening trace) ≡ commit → commits op reply (after_all opening trace) ≡ false
+    by true is = absurd (none_some halt (sym (writes (after_all opening trace) is)))
+    by false is = is
 
 -- While calls succeed, the halt stays.
 halts-later : (halted : Option Halt) (start state later : DevicesState) (trace : History) → GoOn state later → later.faults ≡ state.faults → Halts halted start state trace → Halts halted start later trace
@@ -191,37 +169,37 @@ halts-later (Some halt) start state later trace goes_on same halts = record {
 
 module _ (begun : Found) (start state later : DevicesState) (trace : History) (goes_on : GoOn state later) where
   -- No call failed, and no entry was added.
-  pub failures_later : (old new : Option MemoryHalt) → new ≡ old → later.faults ≡ state.faults → KeepsFailures begun start state old trace → KeepsFailures begun start later new trace
-  failures_later old new same unfailed keeps = subst (λ (halted : Option MemoryHalt). KeepsFailures begun start later halted trace) (sym same) (record {
+  pub failures_later : (old new : Option Halt) → new ≡ old → later.faults ≡ state.faults → KeepsFailures begun start state old trace → KeepsFailures begun start later new trace
+  failures_later old new same unfailed keeps = subst (λ (halted : Option Halt). KeepsFailures begun start later halted trace) (sym same) (record {
     failed = keeps.failed;
     only = unfailed ∙ keeps.only;
-    halts = halts-later (halt_told old) start state later trace goes_on unfailed keeps.halts;
+    halts = halts-later old start state later trace goes_on unfailed keeps.halts;
     no_commit = keeps.no_commit;
     causes = subst (λ (f : FaultCounts). HaveCauses start.faults f trace) (sym unfailed) keeps.causes;
   })
 
   -- No call failed, and the entry says of none; it shows no other halt.
-  failures_entry : (halted : Option MemoryHalt) (op : Op) (reply : Reply) → is_device_fault reply ≡ false → IsShown (halt_told halted) op reply → later.faults ≡ state.faults
-      → KeepsFailures begun start state halted trace → KeepsFailures begun start later halted (trace ++ entry_of op reply ∷ [])
-  failures_entry halted op reply works shown unfailed keeps =
-      let halts : Halts (halt_told halted) start later trace = halts-later (halt_told halted) start state later trace goes_on unfailed keeps.halts in
+  failures_entry : (halted : Option Halt) (client : ℕ) (op : Op) (reply : Reply) → is_device_fault reply ≡ false → IsShown halted client op reply → IsWriting op reply halted → later.faults ≡ state.faults
+      → KeepsFailures begun start state halted trace → KeepsFailures begun start later halted (trace ++ entry_of client op reply ∷ [])
+  failures_entry halted client op reply works shown writes unfailed keeps =
+      let halts : Halts halted start later trace = halts-later halted start state later trace goes_on unfailed keeps.halts in
       let causes : HaveCauses start.faults later.faults trace = subst (λ (f : FaultCounts). HaveCauses start.faults f trace) (sym unfailed) keeps.causes in
       record {
-        failed = keeps.failed ∙ sym (has_failed-same trace (entry_of op reply) works);
+        failed = keeps.failed ∙ sym (has_failed-same trace (entry_of client op reply) works);
         only = unfailed ∙ keeps.only;
-        halts = halts-push (halt_told halted) start later trace op reply halts shown;
-        no_commit = EachEntry-push (λ before e. has_halted before ≡ true → is_commit (after_all (forest_found begun start) before) e ≡ false) trace (entry_of op reply) keeps.no_commit
-            (no_commit_shown (forest_found begun start) (halt_told halted) start later trace op reply halts shown);
-        causes = causes-same start.faults later.faults trace (entry_of op reply) works causes;
+        halts = halts-push halted start later trace client op reply halts shown;
+        no_commit = EachEntry-push (λ before e. has_halted before ≡ true → is_commit (after_all (forest_found begun start) before) e ≡ false) trace (entry_of client op reply) keeps.no_commit
+            (no_commit_shown (forest_found begun start) halted start later trace client op reply halts writes);
+        causes = causes-same start.faults later.faults trace (entry_of client op reply) works causes;
       }
 
   -- A device failed, and the entry says so.
-  failures_failed : (op : Op) (dev tick : ℕ) → GoOn start state → AreFaultCounts state.faults → length state.sizes ≤ 8 → dev < length state.sizes → state.moment ≤ tick → tick ≤ later.moment
+  failures_failed : (client : ℕ) (op : Op) (dev tick : ℕ) → GoOn start state → AreFaultCounts state.faults → length state.sizes ≤ 8 → dev < length state.sizes → state.moment ≤ tick → tick ≤ later.moment
       → later.faults ≡ with_write_fault dev state.faults → KeepsFailures begun start state None trace
-      → KeepsFailures begun start later (Some (record { dev = dev; tick = tick })) (trace ++ entry_of op (replies.DeviceFault dev) ∷ [])
-  failures_failed op dev tick since counts few within no_sooner no_later failed keeps =
+      → KeepsFailures begun start later (Some (record { dev = dev; tick = tick })) (trace ++ entry_of client op (replies.DeviceFault dev) ∷ [])
+  failures_failed client op dev tick since counts few within no_sooner no_later failed keeps =
       let halt : Halt = record { dev = dev; tick = tick } in
-      let entry = entry_of op (replies.DeviceFault dev) in
+      let entry = entry_of client op (replies.DeviceFault dev) in
       let calls : later.faults.calls ≡ changed dev risen state.faults.calls = ap (λ (f : FaultCounts). f.calls) failed in
       let writes : later.faults.writes ≡ changed dev risen state.faults.writes = ap (λ (f : FaultCounts). f.writes) failed in
       let has_calls : dev < length state.faults.calls = omega (arith, within, few, counts.calls) in
@@ -241,15 +219,15 @@ module _ (begun : Found) (start state later : DevicesState) (trace : History) (g
         no_commit = EachEntry-push (λ before e. has_halted before ≡ true → is_commit (after_all (forest_found begun start) before) e ≡ false) trace entry keeps.no_commit
             (λ before. not_done op (replies.DeviceFault dev) (after_all (forest_found begun start) trace) refl);
         causes = record {
-          calls = subst (λ (c : List ℕ). AreCounted (trace ++ entry ∷ []) start.faults.calls c) (sym calls) (counted_once trace op start.faults.calls state.faults.calls dev has_calls keeps.causes.calls);
-          writes = subst (λ (c : List ℕ). AreCounted (trace ++ entry ∷ []) start.faults.writes c) (sym writes) (counted_once trace op start.faults.writes state.faults.writes dev has_writes keeps.causes.writes);
+          calls = subst (λ (c : List ℕ). AreCounted (trace ++ entry ∷ []) start.faults.calls c) (sym calls) (counted_once trace client op start.faults.calls state.faults.calls dev has_calls keeps.causes.calls);
+          writes = subst (λ (c : List ℕ). AreCounted (trace ++ entry ∷ []) start.faults.writes c) (sym writes) (counted_once trace client op start.faults.writes state.faults.writes dev has_writes keeps.causes.writes);
         };
       }
 
-  -- A reply that says nothing of a device or of the halt, and that nothing was done, agrees with any.
-  quiet : (halted : Option MemoryHalt) (op : Op) (reply : Reply) → ((halt : Halt) → AgreesWith halt op reply) → shows_halt (entry_of op reply) ≡ false → is_done reply ≡ false → IsShown (halt_told halted) op reply
-  quiet None op reply agrees shows not_so = shows
-  quiet (Some halt) op reply agrees shows not_so = (agrees (record { dev = halt.dev; tick = halt.tick }), not_so)
+  -- A reply that says nothing of a device or of the halt agrees with any.
+  quiet : (halted : Option Halt) (client : ℕ) (op : Op) (reply : Reply) → ((halt : Halt) → AgreesWith halt op reply) → shows_halt (entry_of client op reply) ≡ false → IsShown halted client op reply
+  quiet None client op reply agrees shows = shows
+  quiet (Some halt) client op reply agrees shows = agrees halt
 
   -- A reply that says of no device that it failed is no sync's that does.
   quiet_one : (op : Op) → (is_sync op && false) ≡ false
@@ -259,34 +237,19 @@ module _ (begun : Found) (start state later : DevicesState) (trace : History) (g
       by true = refl
       by false = refl
 
-  same_halt : (old new : Option MemoryHalt) (op : Op) (reply : Reply) → is_device_fault reply ≡ false → new ≡ old → IsShown (halt_told old) op reply → later.faults ≡ state.faults
-      → KeepsFailures begun start state old trace → KeepsFailures begun start later new (trace ++ entry_of op reply ∷ [])
-  same_halt old new op reply works same shown unfailed keeps =
-      subst (λ (halted : Option MemoryHalt). KeepsFailures begun start later halted (trace ++ entry_of op reply ∷ [])) (sym same) (failures_entry old op reply works shown unfailed keeps)
+  same_halt : (old new : Option Halt) (client : ℕ) (op : Op) (reply : Reply) → is_device_fault reply ≡ false → new ≡ old → IsShown old client op reply → IsWriting op reply old → later.faults ≡ state.faults
+      → KeepsFailures begun start state old trace → KeepsFailures begun start later new (trace ++ entry_of client op reply ∷ [])
+  same_halt old new client op reply works same shown writes unfailed keeps =
+      subst (λ (halted : Option Halt). KeepsFailures begun start later halted (trace ++ entry_of client op reply ∷ [])) (sym same) (failures_entry old client op reply works shown writes unfailed keeps)
 
   -- An operation was answered: what is kept of failures is kept.
-  pub failures_served : GoOn start state → AreFaultCounts state.faults → length state.sizes ≤ 8 → (old new : Option MemoryHalt) (op : Op) (reply : Reply) → later.faults ≡ faults_after reply state.faults
-      → HaltsAs reply state.moment later.moment state.sizes old new → KeepsFailures begun start state old trace → KeepsFailures begun start later new (trace ++ entry_of op reply ∷ [])
-  failures_served since counts few old new op (replies.DeviceFault dev) faults halts keeps =
+  pub failures_served : GoOn start state → AreFaultCounts state.faults → length state.sizes ≤ 8 → (old new : Option Halt) (client : ℕ) (op : Op) (reply : Reply) → later.faults ≡ faults_after reply state.faults
+      → HaltsAs reply state.moment later.moment state.sizes old new → IsWriting op reply old → KeepsFailures begun start state old trace → KeepsFailures begun start later new (trace ++ entry_of client op reply ∷ [])
+  failures_served since counts few old new client op (replies.DeviceFault dev) faults halts writes keeps =
       let tick = halts.1 in
-      subst (λ (halted : Option MemoryHalt). KeepsFailures begun start later halted (trace ++ entry_of op (replies.DeviceFault dev) ∷ [])) (sym halts.2)
-      (failures_failed op dev tick since counts few halts.5 halts.3 halts.4 faults (subst (λ (halted : Option MemoryHalt). KeepsFailures begun start state halted trace) halts.0 keeps))
-  failures_served since counts few old new op (replies.Halted dev tick) faults halts keeps =
-      same_halt old new op (replies.Halted dev tick) refl halts.0
-      (subst (λ (halted : Option MemoryHalt). IsShown (halt_told halted) op (replies.Halted dev tick)) (sym halts.1 ∙ halts.0) ((refl, refl), refl)) faults keeps
-  failures_served since counts few old new op replies.Okay faults halts keeps =
-      same_halt old new op replies.Okay refl halts.0 (subst (λ (halted : Option MemoryHalt). IsShown (halt_told halted) op replies.Okay) (sym halts.1) (quiet_one op)) faults keeps
-  failures_served since counts few old new op (replies.More size) faults halts keeps =
-      same_halt old new op (replies.More size) refl halts.0 (subst (λ (halted : Option MemoryHalt). IsShown (halt_told halted) op (replies.More size)) (sym halts.1) (quiet_one op)) faults keeps
-  failures_served since counts few old new op (replies.Synced count) faults halts keeps = same_halt old new op (replies.Synced count) refl halts (quiet old op (replies.Synced count) (λ halt. tt) (quiet_one op) refl) faults keeps
-  failures_served since counts few old new op (replies.Content bytes) faults halts keeps = same_halt old new op (replies.Content bytes) refl halts (quiet old op (replies.Content bytes) (λ halt. tt) (quiet_one op) refl) faults keeps
-  failures_served since counts few old new op (replies.List names) faults halts keeps = same_halt old new op (replies.List names) refl halts (quiet old op (replies.List names) (λ halt. tt) (quiet_one op) refl) faults keeps
-  failures_served since counts few old new op (replies.File number size links) faults halts keeps = same_halt old new op (replies.File number size links) refl halts (quiet old op (replies.File number size links) (λ halt. tt) (quiet_one op) refl) faults keeps
-  failures_served since counts few old new op (replies.Dir number entries) faults halts keeps = same_halt old new op (replies.Dir number entries) refl halts (quiet old op (replies.Dir number entries) (λ halt. tt) (quiet_one op) refl) faults keeps
-  failures_served since counts few old new op (replies.SubNames names) faults halts keeps = same_halt old new op (replies.SubNames names) refl halts (quiet old op (replies.SubNames names) (λ halt. tt) (quiet_one op) refl) faults keeps
-  failures_served since counts few old new op (replies.Used blocks) faults halts keeps = same_halt old new op (replies.Used blocks) refl halts (quiet old op (replies.Used blocks) (λ halt. tt) (quiet_one op) refl) faults keeps
-  failures_served since counts few old new op (replies.Refused cause) faults halts keeps = same_halt old new op (replies.Refused cause) refl halts (quiet old op (replies.Refused cause) (λ halt. tt) (quiet_one op) refl) faults keeps
-  failures_served since counts few old new op (replies.NoSpace short) faults halts keeps = same_halt old new op (replies.NoSpace short) refl halts (quiet old op (replies.NoSpace short) (λ halt. tt) (quiet_one op) refl) faults keeps
-  failures_served since counts few old new op (replies.DataLost lost) faults halts keeps = same_halt old new op (replies.DataLost lost) refl halts (quiet old op (replies.DataLost lost) (λ halt. tt) (quiet_one op) refl) faults keeps
-  failures_served since counts few old new op replies.Spent faults halts keeps = same_halt old new op replies.Spent refl halts (quiet old op replies.Spent (λ halt. tt) (quiet_one op) refl) faults keeps
-  failures_served since counts few old new op replies.NoMemory faults halts keeps = same_halt old new op replies.NoMemory refl halts (quiet old op replies.NoMemory (λ halt. tt) (quiet_one op) refl) faults keeps
+      subst (λ (halted : Option Halt). KeepsFailures begun start later halted (trace ++ entry_of client op (replies.DeviceFault dev) ∷ [])) (sym halts.2)
+      (failures_failed client op dev tick since counts few halts.5 halts.3 halts.4 faults (subst (λ (halted : Option Halt). KeepsFailures begun start state halted trace) halts.0 keeps))
+  failures_served since counts few old new client op (replies.Halted dev tick) faults halts writes keeps =
+      same_halt old new client op (replies.Halted dev tick) refl halts.0
+      (subst (λ (halted : Option Halt). IsShown halted client op (replies.Halted dev tick)) (sym halts.1 ∙ halts.0) (refl, refl)) writes faults keeps
+  failures_served since counts few old new client op other faults halts writes keeps = same_halt old new client op other refl halts (quiet old client op other (λ halt. tt) (quiet_one op)) writes faults keeps

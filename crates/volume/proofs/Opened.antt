@@ -1,11 +1,11 @@
 -- What is kept between operations is so at the opening, before any of them.
-use Rattle.std.proofs.Common.{◌≡◌, true, false, List, [], Option, None, refl, sym, ap, subst, arith}
+use Rattle.std.proofs.Common.{◌≡◌, ℕ, zero, suc, ◌∙◌, true, false, List, [], Option, None, refl, sym, ap, subst, arith}
 use Rattle.std.specs.Prelude.{replicate, slice_index_or}
 use Rattle.std.proofs.lemmas.List.Elements.{All-nil}
 use Rattle.core_actors.specs.Actors.{holds, idle_actor}
-use Rattle.core_state.specs.States.{State, actor_count}
+use Rattle.core_state.specs.States.{State, actor_count, mine}
 use Rattle.core_actors.specs.declared.actor.Actor.{Actor}
-use Rattle.core_actors.specs.declared.answer.Halt.{Halt}
+use Rattle.vol_types.specs.declared.failure.Halt.{Halt}
 use Rattle.dev_model.specs.Devices.{DevicesState}
 use Rattle.forest_ops.specs.History.{History, after_all, is_commit}
 use Rattle.forest_ops.specs.HistoryLaws.{EachEntry-none}
@@ -27,12 +27,20 @@ none_failed begun start = record {
   causes = record { calls = λ dev. omega arith; writes = λ dev. omega arith };
 }
 
+-- Among idle actors each is idle.
+idle_among : (count client : ℕ) → slice_index_or (replicate count idle_actor) client idle_actor ≡ idle_actor
+idle_among zero client = refl
+idle_among (suc count) zero = refl
+idle_among (suc count) (suc client) = idle_among count client
+
 module _ (memory : State) (writes : memory.volume.halted ≡ None) (idle : memory.actors ≡ replicate actor_count idle_actor) (free : memory.turn ≡ None) where
-  -- Client 0 has nothing under way.
+  -- No actor has anything under way.
+  idle_one : (client : ℕ) → mine memory client ≡ idle_actor
+  idle_one client = ap (λ (actors : List Actor). slice_index_or actors client idle_actor) idle ∙ idle_among actor_count client
+
   rests : IsAtRest memory
   rests = record {
-    operation = ap (λ (actors : List Actor). (slice_index_or actors 0 idle_actor).operation) idle;
-    holds_nothing = ap (λ (actors : List Actor). holds (slice_index_or actors 0 idle_actor)) idle;
+    clients = λ client few. record { operation = ap (λ (actor : Actor). actor.operation) (idle_one client); holds_nothing = ap holds (idle_one client) };
     turn = free;
   }
 

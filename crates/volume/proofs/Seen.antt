@@ -1,5 +1,5 @@
--- A plan by the looks of client 0 holds for the keys in memory.
-use Rattle.std.proofs.Common.{◌≡◌, ◌^◌, Bool, true, false, cond, Some, None, List, [], ◌∷◌, ◌++◌, refl, sym, ap, ◌∙◌, subst}
+-- A plan by the looks of a client holds for the keys in memory.
+use Rattle.std.proofs.Common.{◌≡◌, ℕ, ◌^◌, Bool, true, false, cond, Some, None, List, [], ◌∷◌, ◌++◌, refl, sym, ap, ◌∙◌, subst}
 use Rattle.std.specs.Prelude.{◌&&◌, ◌==◌, All, IfSome, nat_lt}
 use Rattle.std.proofs.lemmas.Bool.{eq-eqb, lt-ltb}
 use Rattle.std.proofs.lemmas.List.Elements.{All-head, All-tail}
@@ -60,21 +60,23 @@ ids_are : (keys : KeyMap) (has : Bool) → snaps_of keys ≡ id_trees keys → I
 ids_are keys true same = same
 ids_are keys false same = tt
 
--- What holds of each key map that gives the looks of client 0, and whose ids it was told, holds of the keys in memory.
-pub plan_now : (memory : State) → IsState memory → (plan : Plan)
-    → ((keys : KeyMap) (nodes : List Place) (layout : Layout) → IsGiven keys (mine memory 0).looks (ids_told memory) → IsSound keys nodes layout → IsTidy keys → IsPlanOf keys nodes layout 0 plan)
-    → IsPlanNow memory 0 plan
-plan_now memory is plan holds nodes layout sound tidy =
+-- What holds of each key map that gives the looks of a client, and whose ids it was told, holds of the keys in memory.
+pub plan_now : (memory : State) → IsState memory → (client : ℕ) (plan : Plan)
+    → ((keys : KeyMap) (nodes : List Place) (layout : Layout) → IsGiven keys (mine memory client).looks (ids_told memory client) → IsSound keys nodes layout → IsTidy keys → IsPlanOf keys nodes layout client plan)
+    → IsPlanNow memory client plan
+plan_now memory is client plan holds nodes layout sound tidy =
     let keys = keys_in memory.volume.trees in
     holds keys nodes layout (record {
       is_map = keys_are_map memory is;
-      gives = (is.each 0).looks;
-      ids = ids_are keys (mine memory 0).has_ids (sound_ids keys nodes layout sound tidy);
+      gives = (is.each client).looks;
+      ids = ids_are keys (mine memory client).has_ids (sound_ids keys nodes layout sound tidy);
     }) sound tidy
 
 -- So it is of the session that a view showed.
-pub plan_shown : {D : Type 0} (kept : State) (session view : SessionState D) (plan : Plan) → kept ≡ session.core.memory → IsState kept → session ≡ view
-    → ((keys : KeyMap) (nodes : List Place) (layout : Layout) → IsGiven keys (mine view.core.memory 0).looks (ids_told view.core.memory) → IsSound keys nodes layout → IsTidy keys → IsPlanOf keys nodes layout 0 plan)
-    → IsPlanNow session.core.memory 0 plan
-plan_shown {D} kept session view plan same is shown holds =
-    subst (λ (s : SessionState D). IsPlanNow s.core.memory 0 plan) (sym shown) (plan_now view.core.memory (subst (λ (s : SessionState D). IsState s.core.memory) shown (subst IsState same is)) plan holds)
+pub plan_shown : {D : Type 0} (kept : State) (session view : SessionState D) (asking client : ℕ) (plan : Plan) → asking ≡ client → kept ≡ session.core.memory → IsState kept → session ≡ view
+    → ((keys : KeyMap) (nodes : List Place) (layout : Layout) → IsGiven keys (mine view.core.memory client).looks (ids_told view.core.memory client) → IsSound keys nodes layout → IsTidy keys → IsPlanOf keys nodes layout asking plan)
+    → IsPlanNow session.core.memory client plan
+plan_shown {D} kept session view asking client plan asks same is shown holds =
+    subst (λ (s : SessionState D). IsPlanNow s.core.memory client plan) (sym shown)
+    (plan_now view.core.memory (subst (λ (s : SessionState D). IsState s.core.memory) shown (subst IsState same is)) client plan
+    (λ keys nodes layout given sound tidy. subst (λ (n : ℕ). IsPlanOf keys nodes layout n plan) asks (holds keys nodes layout given sound tidy)))

@@ -1,5 +1,5 @@
 -- No entry says that a number is used up, where what was found is far from that and left room in the ring, and the session is short; and so it is after a call.
-use Rattle.std.proofs.Common.{◌≡◌, ◌<◌, ◌^◌, [], ◌∷◌, ◌++◌, length, subst, ⊎_elim, arith}
+use Rattle.std.proofs.Common.{◌≡◌, ℕ, true, ◌<◌, ◌^◌, [], ◌∷◌, ◌++◌, length, subst, ⊎_elim, arith}
 use Rattle.std.proofs.lemmas.List.{length-append}
 use Rattle.std.proofs.lemmas.List.Elements.{All-push}
 use Rattle.core_volume.specs.Checkpoints.{IsFreezeRefused, IsPlacingRefused}
@@ -9,12 +9,15 @@ use Rattle.core_actors.specs.declared.answer.Refusal.{Refusal}
 use Rattle.core_actors.specs.declared.answer.Refusal.TheVariants as refusals
 use Rattle.dev_model.specs.Devices.{DevicesState, FaultCounts}
 use Rattle.dev_model.specs.Frames.{GoOn}
+use Rattle.forest_ops.specs.Classes.{class_of}
 use Rattle.forest_ops.specs.History.{History}
+use Rattle.forest_ops.specs.declared.operation.Class.TheVariants.{Syncs}
 use Rattle.forest_ops.specs.declared.operation.Entry.{Entry}
 use Rattle.forest_ops.specs.declared.operation.Op.{Op}
 use Rattle.forest_ops.specs.declared.operation.Op.TheVariants.{Sync}
 use Rattle.forest_ops.specs.declared.operation.Reply.{Reply}
 use Rattle.forest_ops.specs.declared.operation.Reply.TheVariants.{Spent}
+use Rattle.fs_plan.specs.Plans.{is_planned}
 use Rattle.image_view.specs.Found.{Found}
 use Rattle.vol_core.specs.Room.{HasRoomForNext, LeavesRoom}
 use Rattle.vol_core.proofs.Stages.{sealing_is_free}
@@ -23,6 +26,7 @@ use Rattle.vol_session.specs.Survivors.{BeginsWell}
 use Rattle.vol_session.specs.Writeback.{IsForeign, LacksNumber}
 use Rattle.volume.specs.Answers.{HasCause, IsCommitSpent, IsNumberSpent, IsOfRing, IsRingSpent}
 use Rattle.volume.specs.States.{AreUnspent, BeganWithRoom}
+use Rattle.volume.proofs.Replying.{planned_sync}
 
 -- The works on what is durable lack no number that is left.
 not_lacking : (volume : Volume) → HasNumbersLeft volume → LacksNumber volume → ⊥
@@ -32,12 +36,12 @@ not_lacking volume left lacks =
     (λ other. ⊎_elim (λ (freeze : IsFreezeRefused lacks.node volume refusals.Spent). freeze.1 left.birth) (λ (place : IsPlacingRefused volume refusals.Spent). place.1 left.placing) other)
     lacks.lacks
 
--- Where each number is left, a number that is used up is a sync's, which has no room in the ring.
-only_sync : (op : Op) (volume : Volume) → HasNumbersLeft volume → IsNumberSpent op volume → op ≡ Sync
-only_sync op volume left spent =
+-- Where each number is left, a number that is used up is that of an operation that syncs, which has no room in the ring.
+only_syncs : (client : ℕ) (op : Op) (volume : Volume) → HasNumbersLeft volume → IsNumberSpent client op volume → class_of op ≡ Syncs
+only_syncs client op volume left spent =
     ⊎_elim
-    (λ (commit : IsCommitSpent op volume). absurd (commit.spent (left.commit commit.updates commit.fit)))
-    (λ other. ⊎_elim (λ (lacks : LacksNumber volume). absurd (not_lacking volume left lacks)) (λ (ring : IsRingSpent op volume). ring.sync) other)
+    (λ (commit : IsCommitSpent client op volume). absurd (commit.spent (left.commit commit.updates commit.fit)))
+    (λ other. ⊎_elim (λ (lacks : LacksNumber volume). absurd (not_lacking volume left lacks)) (λ (ring : IsRingSpent op volume). ring.syncs) other)
     spent
 
 -- The session was as far from the end at an earlier moment.
@@ -61,10 +65,10 @@ finds_room volume room refusals.Spent of_ring foreign = of_ring
 finds_room volume room (refusals.NoSpace none) of_ring foreign = of_ring
 
 -- Where each number is left and the next entry finds room, none is used up.
-none_spent : (op : Op) (volume : Volume) → HasNumbersLeft volume → HasRoomForNext volume → IsNumberSpent op volume → ⊥
-none_spent op volume left room spent =
+none_spent : (client : ℕ) (op : Op) (volume : Volume) → HasNumbersLeft volume → HasRoomForNext volume → IsNumberSpent client op volume → ⊥
+none_spent client op volume left room spent =
     ⊎_elim
-    (λ (commit : IsCommitSpent op volume). commit.spent (left.commit commit.updates commit.fit))
+    (λ (commit : IsCommitSpent client op volume). commit.spent (left.commit commit.updates commit.fit))
     (λ other. ⊎_elim (λ (lacks : LacksNumber volume). not_lacking volume left lacks) (λ (ring : IsRingSpent op volume). finds_room volume room ring.refusal ring.of_ring ring.foreign) other)
     spent
 
@@ -73,16 +77,16 @@ abbrev IsUnspent : Type 0 → Found → DevicesState → Entry → Type 0
 IsUnspent tells begun start entry = entry.reply ≡ Spent → (entry.op ≡ Sync) × ¬ BeganWithRoom tells begun start
 
 -- After a call that was answered, with its cause, it is so.
-pub unspent_served : (tells : Type 0) (begun : Found) (start old new : DevicesState) (trace : History) (op : Op) (reply : Reply) (volume : Volume) (before after : FaultCounts) → GoOn old new → HasCause op reply volume before after
-    → (IsFarFromSpent begun start new → length (trace ++ record { client = 0; op = op; reply = reply } ∷ []) < 2 ^ 31 → HasNumbersLeft volume) → (tells → BeginsWell begun start → LeavesRoom begun → HasRoomForNext volume)
-    → AreUnspent tells begun start old trace → AreUnspent tells begun start new (trace ++ record { client = 0; op = op; reply = reply } ∷ [])
-unspent_served tells begun start old new trace op reply volume before after goes cause left room unspent far few =
-    let entry : Entry = record { client = 0; op = op; reply = reply } in
+pub unspent_served : (tells : Type 0) (begun : Found) (start old new : DevicesState) (trace : History) (client : ℕ) (op : Op) (reply : Reply) (volume : Volume) (before after : FaultCounts) → is_planned op ≡ true → GoOn old new → HasCause client op reply volume before after
+    → (IsFarFromSpent begun start new → length (trace ++ record { client = client; op = op; reply = reply } ∷ []) < 2 ^ 31 → HasNumbersLeft volume) → (tells → BeginsWell begun start → LeavesRoom begun → HasRoomForNext volume)
+    → AreUnspent tells begun start old trace → AreUnspent tells begun start new (trace ++ record { client = client; op = op; reply = reply } ∷ [])
+unspent_served tells begun start old new trace client op reply volume before after planned goes cause left room unspent far few =
+    let entry : Entry = record { client = client; op = op; reply = reply } in
     let longer = length-append trace (entry ∷ []) in
     All-push (IsUnspent tells begun start) trace entry (unspent (far_before begun start old new goes far) (omega (arith, longer, few)))
     (λ spent.
-    let number = (subst (λ (r : Reply). HasCause op r volume before after) spent cause).1 in
-    (only_sync op volume (left far few) number, λ (began : BeganWithRoom tells begun start). none_spent op volume (left far few) (room began.told began.well began.room) number))
+    let number = (subst (λ (r : Reply). HasCause client op r volume before after) spent cause).1 in
+    (planned_sync op planned (only_syncs client op volume (left far few) number), λ (began : BeganWithRoom tells begun start). none_spent client op volume (left far few) (room began.told began.well began.room) number))
 
 -- Where time went on, it is so still.
 pub unspent_later : (tells : Type 0) (begun : Found) (start old new : DevicesState) (trace : History) → GoOn old new → AreUnspent tells begun start old trace → AreUnspent tells begun start new trace

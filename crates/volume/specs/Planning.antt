@@ -1,9 +1,9 @@
--- What stays of a session while an operation of client 0 is planned.
+-- What stays of a session while an operation of a client is planned.
 use Rattle.std.specs.Prelude.{◌≡◌, ℕ, if◌then◌else◌, Option, Some, None, List, []}
 use Rattle.btree_map.specs.Trees.{keys_in}
 use Rattle.dirty_nodes.specs.Ids.{id_trees}
 use Rattle.core_state.specs.States.{State, mine}
-use Rattle.core_actors.specs.declared.answer.Halt.{Halt}
+use Rattle.vol_types.specs.declared.failure.Halt.{Halt}
 use Rattle.dev_model.specs.Devices.{DevicesState, no_fault_counts}
 use Rattle.forest_ops.specs.History.{History}
 use Rattle.forest_ops.specs.declared.acks.Ack.{Ack}
@@ -46,11 +46,16 @@ nothing_standing = record {
   devices = record { sizes = []; moment = 0; disks = λ _. []; faults = no_fault_counts };
 }
 
--- Client 0 has an operation under way, and all that stays is as when its planning began.
-pub record IsPlanning {D : Type 0} (state : D → DevicesState) (begun : Standing) (session : SessionState D) : Type 0 where
-  pub under : IsUnderWay session.core.memory
+-- The client has an operation under way, and all that stays is as when its planning began.
+pub record IsPlanning {D : Type 0} (client : ℕ) (state : D → DevicesState) (begun : Standing) (session : SessionState D) : Type 0 where
+  pub under : IsUnderWay session.core.memory client
   pub stands : standing_in state session ≡ begun
 
--- the trees of snapshot ids that client 0 was told, if it has looked at them
-abbrev pub ids_told : State → Option Snaps
-ids_told memory = if (mine memory 0).has_ids then Some (id_trees (keys_in memory.volume.trees)) else None
+-- Who asks is this client, which has its operation under way.
+pub record IsAsking {D : Type 0} (asking client : ℕ) (state : D → DevicesState) (begun : Standing) (session : SessionState D) : Type 0 where
+  pub client_is : asking ≡ client
+  pub planning : IsPlanning client state begun session
+
+-- the trees of snapshot ids that a client was told, if it has looked at them
+abbrev pub ids_told : State → ℕ → Option Snaps
+ids_told memory client = if (mine memory client).has_ids then Some (id_trees (keys_in memory.volume.trees)) else None

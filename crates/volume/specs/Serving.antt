@@ -1,5 +1,5 @@
 -- How the parts of a call move a session, and what an operation leaves of it.
-use Rattle.std.specs.Prelude.{◌≡◌, ◌⊎◌, ℕ, ◌<◌, ◌≤◌, ⊤, Bool, true, false, not, Option, Some, None, IsSome, List, [], ◌∷◌, ◌++◌, length}
+use Rattle.std.specs.Prelude.{◌≡◌, ◌≢◌, ◌⊎◌, ℕ, ◌<◌, ◌≤◌, ⊤, Bool, true, false, not, Option, Some, None, IsSome, is_some, List, [], ◌∷◌, ◌++◌, length}
 use Rattle.btree_map.specs.Trees.{keys_in}
 use Rattle.core_volume.specs.Commits.{AreIntended}
 use Rattle.core_state.specs.Events.{intended_by}
@@ -8,35 +8,35 @@ use Rattle.core_state.specs.States.{State, mine, other_holder}
 use Rattle.core_volume.specs.Volumes.{Volume}
 use Rattle.core_actors.specs.declared.answer.Answer.{Answer}
 use Rattle.core_actors.specs.declared.answer.Answer.TheVariants as answers
-use Rattle.core_actors.specs.declared.answer.Halt.{Halt as MemoryHalt}
+use Rattle.vol_types.specs.declared.failure.Halt.{Halt}
 use Rattle.core_actors.specs.declared.answer.Refusal.{Refusal}
 use Rattle.core_actors.specs.declared.answer.Refusal.TheVariants as refusals
 use Rattle.dev_model.specs.Devices.{DevicesState}
 use Rattle.dev_model.specs.Frames.{GoOn}
-use Rattle.forest_ops.specs.Classes.{class_of}
-use Rattle.forest_ops.specs.History.{commits}
+use Rattle.forest_ops.specs.Acknowledged.{synced_count}
+use Rattle.forest_ops.specs.History.{commits, is_done}
 use Rattle.forest_ops.specs.Steps.{answer_of}
-use Rattle.forest_ops.specs.declared.operation.Class.TheVariants.{Changes}
 use Rattle.forest_ops.specs.declared.operation.Op.{Op}
 use Rattle.forest_ops.specs.declared.operation.Reply.{Reply}
 use Rattle.forest_ops.specs.declared.operation.Reply.TheVariants as replies
 use Rattle.fs_plan.specs.Plans.{is_planned}
 use Rattle.key_meaning.specs.Forest.{Read, forest_in}
 use Rattle.plain_forest.specs.Forest.{Forest}
-use Rattle.forest_ops.specs.declared.halt.Halt.{Halt}
 use Rattle.vol_core.specs.Rested.{IsRested}
 use Rattle.vol_session.specs.Sessions.{IfSoundKeys, IsPlanNow, SessionState}
 use Rattle.vol_session.specs.declared.writeback_end.WritebackEnd.{WritebackEnd}
 use Rattle.vol_session.specs.declared.writeback_end.WritebackEnd.TheVariants as stops
 use Rattle.volume.specs.Answers.{HasCause, IsAnswered, nothing_short}
-use Rattle.volume.specs.States.{IsAtRest}
+use Rattle.volume.specs.States.{IsAtRest, IsIdle}
 
--- Client 0 has an operation under way, and no other actor has the turn.
-pub record IsUnderWay (memory : State) : Type 0 where
-  pub operation : IsSome (mine memory 0).operation
-  pub turn : other_holder 0 memory.turn ≡ None
+-- The client has an operation under way, no other actor has the turn, and no other client has anything under way.
+pub record IsUnderWay (memory : State) (client : ℕ) : Type 0 where
+  pub there : client < 16
+  pub operation : IsSome (mine memory client).operation
+  pub turn : other_holder client memory.turn ≡ None
+  pub others : (other : ℕ) → other < 16 → other ≢ client → IsIdle (mine memory other)
 
--- Only what client 0 has under way has changed.
+-- Only what a client has under way has changed.
 pub record IsStepped {D : Type 0} (old new : SessionState D) : Type 0 where
   pub rest : new ≡ record old { core = new.core }
   pub volume : new.core.memory.volume ≡ old.core.memory.volume
@@ -50,32 +50,35 @@ pub record IsMoved {D : Type 0} (state : D → DevicesState) (old new : SessionS
   pub unfailed : (state new.core.devices).faults ≡ (state old.core.devices).faults
   pub goes_on : GoOn (state old.core.devices) (state new.core.devices)
 
--- The entry has joined the history, client 0 has nothing under way, and nothing else has changed.
-pub record IsEntered {D : Type 0} (op : Op) (reply : Reply) (old new : SessionState D) : Type 0 where
-  pub entry : new ≡ record old { core = new.core; trace = old.trace ++ record { client = 0; op = op; reply = reply } ∷ []; spare = new.spare }
+-- The entry has joined the history, no client has anything under way, and nothing else has changed.
+pub record IsEntered {D : Type 0} (client : ℕ) (op : Op) (reply : Reply) (old new : SessionState D) : Type 0 where
+  pub entry : new ≡ record old { core = new.core; trace = old.trace ++ record { client = client; op = op; reply = reply } ∷ []; spare = new.spare }
   pub volume : new.core.memory.volume ≡ old.core.memory.volume
   pub devices : new.core.devices ≡ old.core.devices
   pub rest : IsAtRest new.core.memory
 
 -- What a reply shows of the halt, between two moments of devices of these sizes: the session stopped writing with a failure that is told, and at no other
--- reply; it had stopped as is told; and no change is done once it has.
-abbrev pub HaltsAs : Reply → (before after : ℕ) → List ℕ → (old new : Option MemoryHalt) → Type 0
+-- reply; and it had stopped as is told.
+abbrev pub HaltsAs : Reply → (before after : ℕ) → List ℕ → (old new : Option Halt) → Type 0
 HaltsAs (replies.DeviceFault dev) before after sizes old new =
     (old ≡ None) × (tick : ℕ) × (new ≡ Some (record { dev = dev; tick = tick })) × (before ≤ tick) × (tick ≤ after) × (dev < length sizes)
 HaltsAs (replies.Halted dev tick) before after sizes old new = (new ≡ old) × (new ≡ Some (record { dev = dev; tick = tick }))
-HaltsAs replies.Okay before after sizes old new = (new ≡ old) × (old ≡ None)
-HaltsAs (replies.More size) before after sizes old new = (new ≡ old) × (old ≡ None)
 HaltsAs reply before after sizes old new = new ≡ old
 
--- The operation was answered, with a cause, and client 0 has nothing under way.
-pub record IsServed {D : Type 0} (state : D → DevicesState) (op : Op) (reply : Reply) (old new : SessionState D) : Type 0 where
-  pub answered : IsAnswered state op reply old new
-  pub cause : HasCause op reply new.core.memory.volume (state old.core.devices).faults (state new.core.devices).faults
+-- A commit is made only where the session hasn't stopped writing.
+abbrev pub IsWriting : Op → Reply → Option Halt → Type 0
+IsWriting op reply halted = (forest : Forest) → commits op reply forest ≡ true → halted ≡ None
+
+-- The client's operation was answered, with a cause, and no client has anything under way.
+pub record IsServed {D : Type 0} (state : D → DevicesState) (client : ℕ) (op : Op) (reply : Reply) (old new : SessionState D) : Type 0 where
+  pub answered : IsAnswered state client op reply old new
+  pub cause : HasCause client op reply new.core.memory.volume (state old.core.devices).faults (state new.core.devices).faults
   pub halts : HaltsAs reply (state old.core.devices).moment (state new.core.devices).moment (state old.core.devices).sizes old.core.memory.volume.halted new.core.memory.volume.halted
+  pub writes : IsWriting op reply old.core.memory.volume.halted
   pub rest : IsAtRest new.core.memory
   pub goes_on : GoOn (state old.core.devices) (state new.core.devices)
 
--- There was no memory to answer it: the history stands, no call failed, the session didn't stop writing, and client 0 has nothing under way.
+-- There was no memory to answer it: the history stands, no call failed, the session didn't stop writing, and no client has anything under way.
 pub record IsUnserved {D : Type 0} (state : D → DevicesState) (old new : SessionState D) : Type 0 where
   pub same : new ≡ record old { core = new.core; spare = new.spare }
   pub halted : new.core.memory.volume.halted ≡ old.core.memory.volume.halted
@@ -83,35 +86,37 @@ pub record IsUnserved {D : Type 0} (state : D → DevicesState) (old new : Sessi
   pub rest : IsAtRest new.core.memory
   pub goes_on : GoOn (state old.core.devices) (state new.core.devices)
 
--- The operation can be planned, and changes the forest wherever it is done.
-pub record IsChange (op : Op) : Type 0 where
+-- The operation can be planned, and with this reply it is a commit in every forest.
+pub record IsChange (op : Op) (reply : Reply) : Type 0 where
   pub planned : is_planned op ≡ true
-  pub changes : class_of op ≡ Changes
-  pub commits : (forest : Forest) → commits op replies.Okay forest ≡ true
+  pub commits : (forest : Forest) → commits op reply forest ≡ true
 
--- The forest that the keys in memory mean, sound and tidy as they are, would do the operation of client 0.
-abbrev pub IsDoneNow : State → Op → Type 0
-IsDoneNow memory op = IfSoundKeys memory (λ keys nodes layout. (read : Read) → replies.Okay ≡ answer_of 0 op (forest_in keys read))
+-- The forest that the keys in memory mean, sound and tidy as they are, would do the client's operation.
+abbrev pub IsDoneNow : State → ℕ → Op → Type 0
+IsDoneNow memory client op = IfSoundKeys memory (λ keys nodes layout. (read : Read) → is_done (answer_of client op (forest_in keys read)) ≡ true)
 
--- The reply is one that the forest gives where it changes nothing: it refuses the operation, or lists names.
-abbrev pub IsForests : Reply → Type 0
-IsForests (replies.Refused cause) = ⊤
-IsForests (replies.List names) = ⊤
-IsForests other = ⊥
+-- The client intends updates that fit an entry of the journal and are its plan's: with them the keys in memory mean the forest after the commit.
+pub record IsIntended (memory : State) (client : ℕ) (op : Op) (reply : Reply) : Type 0 where
+  pub under : IsUnderWay memory client
+  pub change : IsChange op reply
+  pub intended : IsSome (mine memory client).intended
+  pub fit : AreIntended memory.volume.layout.metadata_replicas (intended_by memory client)
+  pub now : IsPlanNow memory client (record { op = op; updates = intended_by memory client; reply = reply; commits = true })
 
--- Client 0 intends updates that fit an entry of the journal and make the change: with them the keys in memory mean the forest after it.
-pub record IsIntended (memory : State) (op : Op) : Type 0 where
-  pub under : IsUnderWay memory
-  pub change : IsChange op
-  pub intended : IsSome (mine memory 0).intended
-  pub fit : AreIntended memory.volume.layout.metadata_replicas (intended_by memory 0)
-  pub now : IsPlanNow memory 0 (record { op = op; updates = intended_by memory 0; reply = replies.Okay })
+-- The client intends the updates of a commit of the operation, whatever its reply.
+pub record HasIntent (memory : State) (client : ℕ) (op : Op) : Type 0 where
+  pub reply : Reply
+  pub intended : IsIntended memory client op reply
 
--- What client 0 intends wasn't committed: it is refused, or there was no memory.
-abbrev pub IsUnmade : State → Answer → Type 0
-IsUnmade memory (answers.Refused refusal) = IsRefused memory.volume (intended_by memory 0) true refusal
-IsUnmade memory answers.NoMemory = ⊤
-IsUnmade memory other = ⊥
+-- What the client intends wasn't committed: it is refused, or there was no memory.
+abbrev pub IsUnmade : State → ℕ → Answer → Type 0
+IsUnmade memory client (answers.Refused refusal) = IsRefused memory.volume (intended_by memory client) true refusal
+IsUnmade memory client answers.NoMemory = ⊤
+IsUnmade memory client other = ⊥
+
+-- whether a reply says how many commits are durable
+abbrev pub is_synced : Reply → Bool
+is_synced reply = is_some (synced_count reply)
 
 -- whether a checkpoint may make the room that a refused commit lacks: in the ring, or in buckets, where it would free some
 abbrev pub lacks_room : Refusal → Bool
@@ -145,8 +150,3 @@ TellsSync stops.Spent reply = reply ≡ replies.Spent
 TellsSync (stops.NoSpace none) reply = ⊥
 TellsSync (stops.Foreign refusal) reply = reply ≡ replies.Spent
 TellsSync stops.NoMemory reply = ⊥
-
--- the halt that a refusal tells, if it tells one
-abbrev pub halt_refused : Refusal → Option Halt
-halt_refused (refusals.Halted halt) = Some (record { dev = halt.dev; tick = halt.tick })
-halt_refused other = None

@@ -1,8 +1,9 @@
--- What a volume keeps between its operations, beside what its session keeps: the failures that its history tells, and what client 0 has under way, which is nothing.
+-- What a volume keeps between its operations, beside what its session keeps: the failures that its history tells, and what its clients have under way, which is nothing.
 use Rattle.std.specs.Prelude.{◌≡◌, ◌<◌, ◌^◌, ℕ, All, false, Option, None, length, option_map, is_some}
 use Rattle.core_actors.specs.Actors.{holds}
+use Rattle.core_actors.specs.declared.actor.Actor.{Actor}
 use Rattle.core_state.specs.States.{State, mine}
-use Rattle.core_actors.specs.declared.answer.Halt.{Halt as MemoryHalt}
+use Rattle.vol_types.specs.declared.failure.Halt.{Halt}
 use Rattle.dev_model.specs.Devices.{DevicesState}
 use Rattle.dev_model.specs.Frames.{after_writes}
 use Rattle.forest_ops.specs.History.{History}
@@ -11,32 +12,31 @@ use Rattle.forest_ops.specs.declared.operation.Op.TheVariants.{Sync}
 use Rattle.forest_ops.specs.declared.operation.Reply.TheVariants.{Spent}
 use Rattle.image_view.specs.Found.{Found}
 use Rattle.forest_ops.specs.Failures.{Halts, HaveCauses, NoCommitAfterHalt, has_failed}
-use Rattle.forest_ops.specs.declared.halt.Halt.{Halt}
 use Rattle.vol_session.specs.Marks.{forest_found}
 use Rattle.vol_core.specs.Room.{LeavesRoom}
 use Rattle.vol_session.specs.Numbers.{IsFarFromSpent}
 use Rattle.vol_session.specs.Survivors.{BeginsWell}
 
--- how a session stopped writing, in the words of histories
-abbrev pub halt_told : Option MemoryHalt → Option Halt
-halt_told halted = option_map (λ (halt : MemoryHalt). record { dev = halt.dev; tick = halt.tick }) halted
-
 -- the device that failed, if the session has stopped writing
-abbrev pub halted_device : Option MemoryHalt → Option ℕ
-halted_device halted = option_map (λ (halt : MemoryHalt). halt.dev) halted
+abbrev pub halted_device : Option Halt → Option ℕ
+halted_device halted = option_map (λ (halt : Halt). halt.dev) halted
 
--- Client 0 has nothing under way, and nobody has the turn.
+-- An actor has nothing under way.
+pub record IsIdle (actor : Actor) : Type 0 where
+  pub operation : actor.operation ≡ None
+  pub holds_nothing : holds actor ≡ false
+
+-- None of the 16 clients has anything under way, and nobody has the turn.
 pub record IsAtRest (memory : State) : Type 0 where
-  pub operation : (mine memory 0).operation ≡ None
-  pub holds_nothing : holds (mine memory 0) ≡ false
+  pub clients : (client : ℕ) → client < 16 → IsIdle (mine memory client)
   pub turn : memory.turn ≡ None
 
 -- The session has stopped writing exactly where an entry says that a device failed, and then one call of that device has failed, a write or a flush, and else none has.
 -- The entries agree with the halt, none after it is a commit, and each failure has a cause.
-pub record KeepsFailures (begun : Found) (start state : DevicesState) (halted : Option MemoryHalt) (trace : History) : Type 0 where
+pub record KeepsFailures (begun : Found) (start state : DevicesState) (halted : Option Halt) (trace : History) : Type 0 where
   pub failed : is_some halted ≡ has_failed trace
   pub only : state.faults ≡ after_writes (halted_device halted) start.faults
-  pub halts : Halts (halt_told halted) start state trace
+  pub halts : Halts halted start state trace
   pub no_commit : NoCommitAfterHalt (forest_found begun start) trace
   pub causes : HaveCauses start.faults state.faults trace
 

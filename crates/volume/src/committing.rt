@@ -3,11 +3,13 @@ ghost use Rattle.core_volume.specs.Commits.{AreIntended};
 ghost use Rattle.core_state.specs.Events.{intended_by};
 ghost use Rattle.core_volume.specs.Rulings.{IsRefused};
 ghost use Rattle.core_state.specs.States.{mine};
-ghost use Rattle.forest_ops.specs.declared.operation.Reply.TheVariants.{Okay};
+ghost use Rattle.forest_ops.specs.Classes.{class_of, is_changing};
+ghost use Rattle.forest_ops.specs.History.{is_done};
+ghost use Rattle.fs_plan.specs.Plans.{IsOfItsClass, is_planned};
 ghost use Rattle.vol_core.specs.Rested.{IsRested};
 ghost use Rattle.vol_session.specs.Sessions.{IsPlanNow};
 ghost use Rattle.vol_session.specs.Writeback.{stopped_by};
-ghost use Rattle.volume.specs.Serving.{IsChange, IsDoneNow, IsEntered, IsHelpless, IsIntended, IsServed, IsStepped, IsUnderWay, IsUnmade, IsUnserved, TellsStop, lacks_room, may_be_helped};
+ghost use Rattle.volume.specs.Serving.{HasIntent, IsDoneNow, IsEntered, IsHelpless, IsIntended, IsServed, IsStepped, IsUnderWay, IsUnmade, IsUnserved, TellsStop, lacks_room, may_be_helped};
 ghost use Rattle.volume.specs.States.{IsAtRest};
 
 use crate::serving::{end, fail, lack, nothing_short};
@@ -15,39 +17,48 @@ use dev_model::Devices;
 use forest_ops::{Op, Reply};
 use fs_plan::Plan;
 use std::alloc::{AllocError, Global};
-use vol_core::{Answer, Event, Halt, Opening, Refusal};
+use vol_core::{Answer, Event, Opening, Refusal};
 use vol_session::{Session, Uncommitted, WritebackEnd, checkpoint};
-use vol_types::Updates;
+use vol_types::{Halt, Updates};
 
-/// Makes the change that a plan of client 0's operation says. Where the journal or the buckets are short, a checkpoint is made first.
+/// Makes the commit that a plan of a client's operation says. Where the journal or the buckets are short, a checkpoint is made first.
 pub(crate) fn make<D: Devices, O: Opening>(
     alloc: Global,
     session: &mut Session<D, O>,
+    client: u8,
     plan: Plan,
 ) -> Result<Reply, AllocError>
     requires spare { 0 < session.old.spare }
-    requires under { IsUnderWay session.old.core.memory }
-    requires change { IsChange plan.op }
-    requires okay { plan.reply ≡ Okay }
-    requires now { IsPlanNow session.old.core.memory 0 plan }
-    ensures served { IfOk result (λ reply. IsServed D.state plan.op reply session.old session.new) }
+    requires under { IsUnderWay session.old.core.memory client }
+    requires planned { is_planned plan.op ≡ true }
+    requires class { IsOfItsClass plan }
+    requires commits { plan.commits ≡ true }
+    requires now { IsPlanNow session.old.core.memory client plan }
+    ensures served { IfOk result (λ reply. IsServed D.state client plan.op reply session.old
+        session.new) }
     ensures unserved { OnErr result (IsUnserved D.state session.old session.new) }
 {
     // What isn't handed on is dropped by name, here and below: that spares the proof the drop of each variant on each way out.
-    let Plan { op, updates, reply } = plan;
-    drop(reply);
-    if !intend(session, updates) {
-        return lack(alloc, session, op, nothing_short(alloc));
+    let Plan {
+        op,
+        updates,
+        reply,
+        commits: _,
+    } = plan;
+    if !intend(session, client, updates) {
+        drop(reply);
+        return lack(alloc, session, client, op, nothing_short(alloc));
     }
-    commit(alloc, session, op)
+    commit(alloc, session, client, op, reply)
 }
 
-// Client 0 intends these updates, if they may be intended.
-fn intend<D: Devices, O: Opening>(session: &mut Session<D, O>, updates: Updates) -> bool
-    requires { IsUnderWay session.old.core.memory }
+// A client intends these updates, if they may be intended.
+fn intend<D: Devices, O: Opening>(session: &mut Session<D, O>, client: u8, updates: Updates) -> bool
+    requires { IsUnderWay session.old.core.memory client }
     ensures stepped { IsStepped session.old session.new }
-    ensures under { IsUnderWay session.new.core.memory }
-    ensures intended { result ≡ true → (mine session.new.core.memory 0).intended ≡ Some updates }
+    ensures under { IsUnderWay session.new.core.memory client }
+    ensures intended { result ≡ true
+        → (mine session.new.core.memory client).intended ≡ Some updates }
     ensures fit { result ≡ true
         → AreIntended session.new.core.memory.volume.layout.metadata_replicas updates }
     ensures unfit { result ≡ false
@@ -55,32 +66,51 @@ fn intend<D: Devices, O: Opening>(session: &mut Session<D, O>, updates: Updates)
 {
     session.memory().see_kept();
     let intent = Event::Intend(updates);
-    if !session.memory().may(0, &intent) {
+    if !session.memory().may(client, &intent) {
         return false;
     }
-    drop(session.step(intent));
+    drop(session.step(client, intent));
     true
 }
 
-// Commits the change that client 0 intends.
+// Commits the change that a client intends.
 fn commit<D: Devices, O: Opening>(
     alloc: Global,
     session: &mut Session<D, O>,
+    client: u8,
     op: Op,
+    reply: Reply,
 ) -> Result<Reply, AllocError>
     requires spare { 0 < session.old.spare }
-    requires intended { IsIntended session.old.core.memory op }
-    ensures served { IfOk result (λ reply. IsServed D.state op reply session.old session.new) }
+    requires intended { IsIntended session.old.core.memory client op reply }
+    ensures served { IfOk result (λ reply. IsServed D.state client op reply session.old
+        session.new) }
     ensures unserved { OnErr result (IsUnserved D.state session.old session.new) }
 {
     session.memory().see_kept();
-    let committed = session.commit(op, Reply::Okay);
+    let told = done_reply(&reply);
+    let committed = session.commit(client, op, reply);
     match committed {
         Ok(()) => {
             drop(committed);
-            Ok(Reply::Okay)
+            Ok(told)
         }
-        Err(not) => settle(alloc, session, not),
+        Err(not) => {
+            drop(told);
+            settle(alloc, session, client, not)
+        }
+    }
+}
+
+// The same reply, which says that a change was done. It takes no memory.
+fn done_reply(reply: &Reply) -> Reply
+    requires { is_done reply.now ≡ true }
+    ensures { result ≡ reply.now }
+{
+    match reply {
+        Reply::Okay => Reply::Okay,
+        Reply::More(size) => Reply::More(*size),
+        _ => unreachable!(),
     }
 }
 
@@ -88,21 +118,23 @@ fn commit<D: Devices, O: Opening>(
 fn settle<D: Devices, O: Opening>(
     alloc: Global,
     session: &mut Session<D, O>,
+    client: u8,
     not: Uncommitted,
 ) -> Result<Reply, AllocError>
     requires spare { 0 < session.old.spare }
-    requires intended { IsIntended session.old.core.memory not.op }
-    requires unmade { IsUnmade session.old.core.memory not.answer }
-    ensures served { IfOk result (λ reply. IsServed D.state not.op reply session.old session.new) }
+    requires intended { IsIntended session.old.core.memory client not.op not.reply }
+    requires unmade { IsUnmade session.old.core.memory client not.answer }
+    ensures served { IfOk result (λ reply. IsServed D.state client not.op reply session.old
+        session.new) }
     ensures unserved { OnErr result (IsUnserved D.state session.old session.new) }
 {
     let Uncommitted { answer, op, reply } = not;
-    drop(reply);
     if may_be_helped(&answer) {
         drop(answer);
-        return try_again(alloc, session, op);
+        return try_again(alloc, session, client, op, reply);
     }
-    fail_uncommitted(alloc, session, op, answer)
+    drop(reply);
+    fail_uncommitted(alloc, session, client, op, answer)
 }
 
 // Whether a commit that is answered so may be made after a checkpoint.
@@ -130,20 +162,22 @@ fn lacks_room(refusal: &Refusal) -> bool
 fn fail_uncommitted<D: Devices, O: Opening>(
     alloc: Global,
     session: &mut Session<D, O>,
+    client: u8,
     op: Op,
     answer: Answer,
 ) -> Result<Reply, AllocError>
     requires spare { 0 < session.old.spare }
-    requires intended { IsIntended session.old.core.memory op }
-    requires unmade { IsUnmade session.old.core.memory answer }
+    requires intended { HasIntent session.old.core.memory client op }
+    requires unmade { IsUnmade session.old.core.memory client answer }
     requires helpless { IsHelpless session.old.core.memory.volume (may_be_helped answer) }
-    ensures served { IfOk result (λ reply. IsServed D.state op reply session.old session.new) }
+    ensures served { IfOk result (λ reply. IsServed D.state client op reply session.old
+        session.new) }
     ensures unserved { OnErr result (IsUnserved D.state session.old session.new) }
 {
     match answer {
-        Answer::Refused(refusal) => refuse(alloc, session, op, refusal),
+        Answer::Refused(refusal) => refuse(alloc, session, client, op, refusal),
         Answer::NoMemory => {
-            end(session);
+            end(session, client);
             drop(answer);
             drop(op);
             Err(AllocError)
@@ -156,78 +190,91 @@ fn fail_uncommitted<D: Devices, O: Opening>(
 fn refuse<D: Devices, O: Opening>(
     alloc: Global,
     session: &mut Session<D, O>,
+    client: u8,
     op: Op,
     refusal: Refusal,
 ) -> Result<Reply, AllocError>
     requires spare { 0 < session.old.spare }
-    requires intended { IsIntended session.old.core.memory op }
+    requires intended { HasIntent session.old.core.memory client op }
     requires refused { IsRefused session.old.core.memory.volume
-        (intended_by session.old.core.memory 0) true refusal }
+        (intended_by session.old.core.memory client) true refusal }
     requires helpless { IsHelpless session.old.core.memory.volume (lacks_room refusal) }
-    ensures served { IfOk result (λ reply. IsServed D.state op reply session.old session.new) }
+    ensures served { IfOk result (λ reply. IsServed D.state client op reply session.old
+        session.new) }
     ensures unserved { OnErr result (IsUnserved D.state session.old session.new) }
 {
     match refusal {
         Refusal::Halted(halt) => {
             drop(refusal);
-            Ok(fail_halted(session, op, halt))
+            Ok(fail_halted(session, client, op, halt))
         }
         Refusal::Spent => {
             drop(refusal);
-            Ok(fail_spent(session, op))
+            Ok(fail_spent(session, client, op))
         }
         Refusal::NeedSplit(_) => {
             drop(refusal);
-            lack(alloc, session, op, nothing_short(alloc))
+            lack(alloc, session, client, op, nothing_short(alloc))
         }
         Refusal::RingFull(_) => {
             drop(refusal);
-            lack(alloc, session, op, nothing_short(alloc))
+            lack(alloc, session, client, op, nothing_short(alloc))
         }
-        Refusal::NoSpace(none) => lack(alloc, session, op, none.short),
+        Refusal::NoSpace(none) => lack(alloc, session, client, op, none.short),
     }
 }
 
-// Commits the change that client 0 intends, after a checkpoint.
+// Commits the change that a client intends, after a checkpoint.
 fn try_again<D: Devices, O: Opening>(
     alloc: Global,
     session: &mut Session<D, O>,
+    client: u8,
     op: Op,
+    reply: Reply,
 ) -> Result<Reply, AllocError>
     requires spare { 0 < session.old.spare }
-    requires intended { IsIntended session.old.core.memory op }
-    ensures served { IfOk result (λ reply. IsServed D.state op reply session.old session.new) }
+    requires intended { IsIntended session.old.core.memory client op reply }
+    ensures served { IfOk result (λ reply. IsServed D.state client op reply session.old
+        session.new) }
     ensures unserved { OnErr result (IsUnserved D.state session.old session.new) }
 {
-    match checkpoint(session) {
-        Ok(()) => commit_at_rest(alloc, session, op),
-        Err(stop) => give_up(alloc, session, op, stop),
+    match checkpoint(session, client) {
+        Ok(()) => commit_at_rest(alloc, session, client, op, reply),
+        Err(stop) => {
+            drop(reply);
+            give_up(alloc, session, client, op, stop)
+        }
     }
 }
 
-// Commits the change that client 0 intends, as both works rest.
+// Commits the change that a client intends, as both works rest.
 fn commit_at_rest<D: Devices, O: Opening>(
     alloc: Global,
     session: &mut Session<D, O>,
+    client: u8,
     op: Op,
+    reply: Reply,
 ) -> Result<Reply, AllocError>
     requires spare { 0 < session.old.spare }
-    requires intended { IsIntended session.old.core.memory op }
+    requires intended { IsIntended session.old.core.memory client op reply }
     requires rested { IsRested session.old.core.memory.volume }
-    ensures served { IfOk result (λ reply. IsServed D.state op reply session.old session.new) }
+    ensures served { IfOk result (λ reply. IsServed D.state client op reply session.old
+        session.new) }
     ensures unserved { OnErr result (IsUnserved D.state session.old session.new) }
 {
     session.memory().see_kept();
-    let committed = session.commit(op, Reply::Okay);
+    let told = done_reply(&reply);
+    let committed = session.commit(client, op, reply);
     match committed {
         Ok(()) => {
             drop(committed);
-            Ok(Reply::Okay)
+            Ok(told)
         }
         Err(not) => {
+            drop(told);
             let Uncommitted { answer, op, reply } = not;
             drop(reply);
-            fail_uncommitted(alloc, session, op, answer)
+            fail_uncommitted(alloc, session, client, op, answer)
         }
     }
 }
@@ -236,13 +283,14 @@ fn commit_at_rest<D: Devices, O: Opening>(
 fn give_up<D: Devices, O: Opening>(
     alloc: Global,
     session: &mut Session<D, O>,
+    client: u8,
     op: Op,
     stop: WritebackEnd,
 ) -> Result<Reply, AllocError>
     requires spare { 0 < session.old.spare }
-    requires intended { IsIntended session.old.core.memory op }
+    requires intended { HasIntent session.old.core.memory client op }
     ensures tells { IfOk result (TellsStop stop) }
-    ensures entered { IfOk result (λ reply. IsEntered op reply session.old session.new) }
+    ensures entered { IfOk result (λ reply. IsEntered client op reply session.old session.new) }
     ensures unfailed { OnErr result (stopped_by {T = Unit {0}} (Err stop) ≡ None) }
     ensures stepped { OnErr result (IsStepped session.old session.new) }
     ensures rest { OnErr result (IsAtRest session.new.core.memory) }
@@ -250,24 +298,24 @@ fn give_up<D: Devices, O: Opening>(
     match stop {
         WritebackEnd::DeviceFault(dev) => {
             drop(stop);
-            fail(session, op, Reply::DeviceFault(dev));
+            fail(session, client, op, Reply::DeviceFault(dev));
             Ok(Reply::DeviceFault(dev))
         }
         WritebackEnd::Halted(halt) => {
             drop(stop);
-            Ok(fail_halted(session, op, halt))
+            Ok(fail_halted(session, client, op, halt))
         }
         WritebackEnd::Spent => {
             drop(stop);
-            Ok(fail_spent(session, op))
+            Ok(fail_spent(session, client, op))
         }
-        WritebackEnd::NoSpace(none) => lack(alloc, session, op, none.short),
+        WritebackEnd::NoSpace(none) => lack(alloc, session, client, op, none.short),
         WritebackEnd::Foreign(_) => {
             drop(stop);
-            lack(alloc, session, op, nothing_short(alloc))
+            lack(alloc, session, client, op, nothing_short(alloc))
         }
         WritebackEnd::NoMemory => {
-            end(session);
+            end(session, client);
             drop(stop);
             drop(op);
             Err(AllocError)
@@ -276,16 +324,23 @@ fn give_up<D: Devices, O: Opening>(
 }
 
 // A change fails, as the session has stopped writing.
-fn fail_halted<D: Devices, O: Opening>(session: &mut Session<D, O>, op: Op, halt: Halt) -> Reply
+fn fail_halted<D: Devices, O: Opening>(
+    session: &mut Session<D, O>,
+    client: u8,
+    op: Op,
+    halt: Halt,
+) -> Reply
     requires spare { 0 < session.old.spare }
-    requires under { IsUnderWay session.old.core.memory }
-    requires change { IsChange op }
-    requires done { IsDoneNow session.old.core.memory op }
-    ensures entered { IsEntered op result session.old session.new }
+    requires under { IsUnderWay session.old.core.memory client }
+    requires planned { is_planned op ≡ true }
+    requires changes { is_changing (class_of op) ≡ true }
+    requires done { IsDoneNow session.old.core.memory client op }
+    ensures entered { IsEntered client op result session.old session.new }
     ensures reply { result ≡ Reply.Halted halt.dev halt.tick }
 {
     fail(
         session,
+        client,
         op,
         Reply::Halted {
             dev: halt.dev,
@@ -299,14 +354,15 @@ fn fail_halted<D: Devices, O: Opening>(session: &mut Session<D, O>, op: Op, halt
 }
 
 // A change fails, as a number isn't left.
-fn fail_spent<D: Devices, O: Opening>(session: &mut Session<D, O>, op: Op) -> Reply
+fn fail_spent<D: Devices, O: Opening>(session: &mut Session<D, O>, client: u8, op: Op) -> Reply
     requires spare { 0 < session.old.spare }
-    requires under { IsUnderWay session.old.core.memory }
-    requires change { IsChange op }
-    requires done { IsDoneNow session.old.core.memory op }
-    ensures entered { IsEntered op result session.old session.new }
+    requires under { IsUnderWay session.old.core.memory client }
+    requires planned { is_planned op ≡ true }
+    requires changes { is_changing (class_of op) ≡ true }
+    requires done { IsDoneNow session.old.core.memory client op }
+    ensures entered { IsEntered client op result session.old session.new }
     ensures reply { result ≡ Reply.Spent }
 {
-    fail(session, op, Reply::Spent);
+    fail(session, client, op, Reply::Spent);
     Reply::Spent
 }

@@ -1,105 +1,170 @@
-ghost use Rattle.std.specs.Prelude.{◌≡◌, ◌<◌, ◌≢◌, true, false, IfOk, OnErr};
-ghost use Rattle.core_state.specs.States.{mine};
-ghost use Rattle.forest_ops.specs.History.{is_done};
-ghost use Rattle.forest_ops.specs.declared.operation.Op.TheVariants.{Sync};
-ghost use Rattle.forest_ops.specs.declared.operation.Reply.TheVariants.{DeviceFault, Okay};
-ghost use Rattle.fs_plan.specs.Plans.{MayReply, is_planned};
-ghost use Rattle.vol_session.specs.Sessions.{IsFailureNow, IsPlanNow};
+ghost use Rattle.std.specs.Prelude.{◌≡◌, ◌<◌, true, false, IfOk, OnErr};
+ghost use Rattle.forest_ops.specs.Classes.{class_of, is_changing};
+ghost use Rattle.forest_ops.specs.declared.operation.Class.TheVariants.{Syncs};
+ghost use Rattle.fs_plan.specs.Plans.{IsBounded, IsOfItsClass, is_planned};
+ghost use Rattle.vol_session.specs.Sessions.{IsFailureNow, IsPlanNow, IsSyncedNow};
 ghost use Rattle.vol_session.specs.Writeback.{MayStopSync};
 ghost use Rattle.volume.specs.Answers.{nothing_short};
-ghost use Rattle.volume.specs.Serving.{IsChange, IsDoneNow, IsEntered, IsForests, IsServed, IsStepped, IsUnderWay, IsUnserved, TellsSync, halt_refused};
-ghost use Rattle.volume.specs.States.{IsAtRest, halt_told};
+ghost use Rattle.volume.specs.Serving.{IsDoneNow, IsEntered, IsServed, IsStepped, IsUnderWay, IsUnserved, TellsSync, is_synced};
+ghost use Rattle.volume.specs.States.{IsAtRest};
 
 use crate::committing::make;
 use crate::planner::planned;
 use dev_model::Devices;
-use forest_ops::{Halt, Op, Reply};
+use forest_ops::{Op, Reply};
 use fs_plan::Plan;
 use std::alloc::{AllocError, Global};
-use vol_core::{Answer, Event, Opening, Refusal};
+use vol_core::{Event, Opening};
 use vol_session::{Session, WritebackEnd, sync_all};
 use vol_types::{Counts, Duplicate, Short};
 
-/// Answers an operation of client 0, where the history has room for its entry.
+/// Answers an operation of a client, where the history has room for its entry: it is planned, and then committed, or told, or all commits are made durable.
 pub(crate) fn answer<D: Devices, O: Opening>(
     alloc: Global,
     session: &mut Session<D, O>,
+    client: u8,
     op: Op,
 ) -> Result<Reply, AllocError>
+    requires client { client < 16 }
     requires spare { 0 < session.old.spare }
     requires rest { IsAtRest session.old.core.memory }
     requires planned { is_planned op ≡ true }
-    ensures served { IfOk result (λ reply. IsServed D.state op reply session.old session.new) }
+    requires bounded { IsBounded op }
+    ensures served { IfOk result (λ reply. IsServed D.state client op reply session.old
+        session.new) }
     ensures unserved { OnErr result (IsUnserved D.state session.old session.new) }
 {
-    match op {
-        Op::Sync => sync(session),
-        op => operate(alloc, session, op),
+    begin(session, client);
+    match planned(alloc, session, client, op) {
+        Ok(plan) => carry_out(alloc, session, client, plan),
+        Err(error) => {
+            end(session, client);
+            Err(error)
+        }
     }
 }
 
-/// How the session stopped writing, if it did. No device is called, and it takes no memory.
-pub(crate) fn halt_of<D: Devices, O: Opening>(session: &mut Session<D, O>) -> Option<Halt>
-    ensures halted { result ≡ halt_told session.old.core.memory.volume.halted }
-    ensures rest { session.new ≡ record session.old { core = session.new.core } }
-    ensures devices { session.new.core.devices ≡ session.old.core.devices }
-{
-    // A settling is refused where it has stopped.
-    match session.step(Event::Settle) {
-        Answer::Refused(refusal) => halt_in(refusal),
-        _ => None,
-    }
-}
-
-// The halt that a refusal tells, if it tells one.
-fn halt_in(refusal: Refusal) -> Option<Halt>
-    ensures { result ≡ halt_refused refusal }
-{
-    match refusal {
-        Refusal::Halted(halt) => Some(Halt {
-            dev: halt.dev,
-            tick: halt.tick,
-        }),
-        _ => None,
-    }
-}
-
-// Answers a sync: all commits are made durable.
-fn sync<D: Devices, O: Opening>(session: &mut Session<D, O>) -> Result<Reply, AllocError>
-    requires spare { 0 < session.old.spare }
-    requires rest { IsAtRest session.old.core.memory }
-    ensures served { IfOk result (λ reply. IsServed D.state Sync reply session.old session.new) }
-    ensures unserved { OnErr result (IsUnserved D.state session.old session.new) }
-{
-    match sync_all(session) {
-        Ok(()) => Ok(Reply::Synced(session.acknowledge())),
-        Err(stop) => stop_sync(session, stop),
-    }
-}
-
-// A sync fails, as the work on the journal ended early.
-fn stop_sync<D: Devices, O: Opening>(
+// Carries a plan out: a commit is made, an operation that syncs makes all commits durable, and the forest's reply to anything else is told.
+fn carry_out<D: Devices, O: Opening>(
+    alloc: Global,
     session: &mut Session<D, O>,
-    stop: WritebackEnd,
+    client: u8,
+    plan: Plan,
 ) -> Result<Reply, AllocError>
     requires spare { 0 < session.old.spare }
+    requires under { IsUnderWay session.old.core.memory client }
+    requires planned { is_planned plan.op ≡ true }
+    requires now { IsPlanNow session.old.core.memory client plan }
+    requires class { IsOfItsClass plan }
+    ensures served { IfOk result (λ reply. IsServed D.state client plan.op reply session.old
+        session.new) }
+    ensures unserved { OnErr result (IsUnserved D.state session.old session.new) }
+{
+    if plan.commits {
+        return make(alloc, session, client, plan);
+    }
+    if is_synced(&plan.reply) {
+        return sync_after(session, client, plan);
+    }
+    match plan.reply.copy(alloc) {
+        Ok(reply) => {
+            tell(session, client, plan);
+            Ok(reply)
+        }
+        Err(error) => {
+            end(session, client);
+            drop(plan);
+            Err(error)
+        }
+    }
+}
+
+// Whether a reply says how many commits are durable.
+fn is_synced(reply: &Reply) -> bool
+    ensures { result ≡ is_synced reply.now }
+{
+    matches!(reply, Reply::Synced(_))
+}
+
+// Answers an operation that the forest answers with a number of commits, as its plan says.
+fn sync_after<D: Devices, O: Opening>(
+    session: &mut Session<D, O>,
+    client: u8,
+    plan: Plan,
+) -> Result<Reply, AllocError>
+    requires spare { 0 < session.old.spare }
+    requires under { IsUnderWay session.old.core.memory client }
+    requires planned { is_planned plan.op ≡ true }
+    requires now { IsPlanNow session.old.core.memory client plan }
+    requires class { IsOfItsClass plan }
+    requires synced { is_synced plan.reply ≡ true }
+    ensures served { IfOk result (λ reply. IsServed D.state client plan.op reply session.old
+        session.new) }
+    ensures unserved { OnErr result (IsUnserved D.state session.old session.new) }
+{
+    let Plan {
+        op,
+        updates,
+        reply,
+        commits: _,
+    } = plan;
+    drop(updates);
+    drop(reply);
+    end(session, client);
+    sync(session, client, op)
+}
+
+// Answers an operation that syncs: all commits are made durable.
+fn sync<D: Devices, O: Opening>(
+    session: &mut Session<D, O>,
+    client: u8,
+    op: Op,
+) -> Result<Reply, AllocError>
+    requires client { client < 16 }
+    requires spare { 0 < session.old.spare }
     requires rest { IsAtRest session.old.core.memory }
+    requires planned { is_planned op ≡ true }
+    requires syncs { class_of op ≡ Syncs }
+    requires synced { IsSyncedNow session.old.core.memory client op }
+    ensures served { IfOk result (λ reply. IsServed D.state client op reply session.old
+        session.new) }
+    ensures unserved { OnErr result (IsUnserved D.state session.old session.new) }
+{
+    match sync_all(session, client) {
+        Ok(()) => Ok(Reply::Synced(session.acknowledge(client, op))),
+        Err(stop) => stop_sync(session, client, op, stop),
+    }
+}
+
+// An operation that syncs fails, as the work on the journal ended early.
+fn stop_sync<D: Devices, O: Opening>(
+    session: &mut Session<D, O>,
+    client: u8,
+    op: Op,
+    stop: WritebackEnd,
+) -> Result<Reply, AllocError>
+    requires client { client < 16 }
+    requires spare { 0 < session.old.spare }
+    requires rest { IsAtRest session.old.core.memory }
+    requires planned { is_planned op ≡ true }
+    requires syncs { class_of op ≡ Syncs }
     requires journal { MayStopSync stop }
     ensures tells { IfOk result (TellsSync stop) }
-    ensures entered { IfOk result (λ reply. IsEntered Sync reply session.old session.new) }
+    ensures entered { IfOk result (λ reply. IsEntered client op reply session.old session.new) }
     ensures none { OnErr result (stop ≡ WritebackEnd.NoMemory) }
     ensures same { OnErr result (session.new ≡ session.old) }
 {
     match stop {
         WritebackEnd::DeviceFault(dev) => {
             drop(stop);
-            session.tell(Op::Sync, Reply::DeviceFault(dev));
+            session.tell(client, op, Reply::DeviceFault(dev));
             Ok(Reply::DeviceFault(dev))
         }
         WritebackEnd::Halted(halt) => {
             drop(stop);
             session.tell(
-                Op::Sync,
+                client,
+                op,
                 Reply::Halted {
                     dev: halt.dev,
                     tick: halt.tick,
@@ -112,135 +177,97 @@ fn stop_sync<D: Devices, O: Opening>(
         }
         WritebackEnd::Spent => {
             drop(stop);
-            session.tell(Op::Sync, Reply::Spent);
+            session.tell(client, op, Reply::Spent);
             Ok(Reply::Spent)
         }
         WritebackEnd::Foreign(_) => {
             drop(stop);
-            session.tell(Op::Sync, Reply::Spent);
+            session.tell(client, op, Reply::Spent);
             Ok(Reply::Spent)
         }
         WritebackEnd::NoMemory => {
             drop(stop);
+            drop(op);
             Err(AllocError)
         }
         WritebackEnd::NoSpace(_) => unreachable!(),
     }
 }
 
-// Answers an operation that looks at what is stored: it is planned, and then told, or committed.
-fn operate<D: Devices, O: Opening>(
-    alloc: Global,
-    session: &mut Session<D, O>,
-    op: Op,
-) -> Result<Reply, AllocError>
+// Tells the forest's reply to an operation that is no commit, and has ended then.
+fn tell<D: Devices, O: Opening>(session: &mut Session<D, O>, client: u8, plan: Plan)
     requires spare { 0 < session.old.spare }
-    requires rest { IsAtRest session.old.core.memory }
-    requires planned { is_planned op ≡ true }
-    requires unsynced { op ≢ Sync }
-    ensures served { IfOk result (λ reply. IsServed D.state op reply session.old session.new) }
-    ensures unserved { OnErr result (IsUnserved D.state session.old session.new) }
-{
-    begin(session);
-    match planned(alloc, session, op) {
-        Ok(plan) => carry_out(alloc, session, plan),
-        Err(error) => {
-            end(session);
-            Err(error)
-        }
-    }
-}
-
-// Carries a plan out: a change is made, and the forest's reply to anything else is told.
-fn carry_out<D: Devices, O: Opening>(
-    alloc: Global,
-    session: &mut Session<D, O>,
-    plan: Plan,
-) -> Result<Reply, AllocError>
-    requires spare { 0 < session.old.spare }
-    requires under { IsUnderWay session.old.core.memory }
+    requires under { IsUnderWay session.old.core.memory client }
     requires planned { is_planned plan.op ≡ true }
-    requires unsynced { plan.op ≢ Sync }
-    requires now { IsPlanNow session.old.core.memory 0 plan }
-    requires reply { MayReply plan.op plan.reply plan.updates }
-    ensures served { IfOk result (λ reply. IsServed D.state plan.op reply session.old session.new) }
-    ensures unserved { OnErr result (IsUnserved D.state session.old session.new) }
+    requires class { IsOfItsClass plan }
+    requires no_commit { plan.commits ≡ false }
+    requires unsynced { is_synced plan.reply ≡ false }
+    requires now { IsPlanNow session.old.core.memory client plan }
+    ensures { IsEntered client plan.op plan.reply session.old session.new }
 {
-    if plan.reply.is_done() {
-        return make(alloc, session, plan);
-    }
-    match plan.reply.copy(alloc) {
-        Ok(reply) => {
-            tell(session, plan);
-            Ok(reply)
-        }
-        Err(error) => {
-            end(session);
-            drop(plan);
-            Err(error)
-        }
-    }
-}
-
-// Tells the forest's reply to an operation, which has ended then.
-fn tell<D: Devices, O: Opening>(session: &mut Session<D, O>, plan: Plan)
-    requires spare { 0 < session.old.spare }
-    requires under { IsUnderWay session.old.core.memory }
-    requires planned { is_planned plan.op ≡ true }
-    requires forests { IsForests plan.reply }
-    requires now { IsPlanNow session.old.core.memory 0 plan }
-    ensures { IsEntered plan.op plan.reply session.old session.new }
-{
-    let Plan { op, updates, reply } = plan;
+    let Plan {
+        op,
+        updates,
+        reply,
+        commits: _,
+    } = plan;
     drop(updates);
-    session.tell(op, reply);
-    end(session);
+    session.tell(client, op, reply);
+    end(session, client);
 }
 
-// Client 0 begins an operation.
-fn begin<D: Devices, O: Opening>(session: &mut Session<D, O>)
-    requires { IsAtRest session.old.core.memory }
+// A client begins an operation.
+fn begin<D: Devices, O: Opening>(session: &mut Session<D, O>, client: u8)
+    requires client { client < 16 }
+    requires rest { IsAtRest session.old.core.memory }
     ensures stepped { IsStepped session.old session.new }
-    ensures under { IsUnderWay session.new.core.memory }
+    ensures under { IsUnderWay session.new.core.memory client }
 {
     session.memory().see_kept();
-    drop(session.step(Event::Begin { first: true }));
+    drop(session.step(client, Event::Begin { first: true }));
 }
 
-/// Client 0 ends its operation.
-pub(crate) fn end<D: Devices, O: Opening>(session: &mut Session<D, O>)
-    requires { IsUnderWay session.old.core.memory }
+/// A client ends its operation.
+pub(crate) fn end<D: Devices, O: Opening>(session: &mut Session<D, O>, client: u8)
+    requires { IsUnderWay session.old.core.memory client }
     ensures stepped { IsStepped session.old session.new }
     ensures rest { IsAtRest session.new.core.memory }
 {
     session.memory().see_kept();
-    drop(session.step(Event::Finish));
+    drop(session.step(client, Event::Finish));
 }
 
-/// The operation of client 0 fails: its reply joins the history, and it has ended. It takes no memory.
-pub(crate) fn fail<D: Devices, O: Opening>(session: &mut Session<D, O>, op: Op, reply: Reply)
+/// The operation of a client fails: its reply joins the history, and it has ended. It takes no memory.
+pub(crate) fn fail<D: Devices, O: Opening>(
+    session: &mut Session<D, O>,
+    client: u8,
+    op: Op,
+    reply: Reply,
+)
     requires spare { 0 < session.old.spare }
-    requires under { IsUnderWay session.old.core.memory }
+    requires under { IsUnderWay session.old.core.memory client }
     requires planned { is_planned op ≡ true }
-    requires failure { IsFailureNow session.old.core.memory 0 op reply }
-    ensures { IsEntered op reply session.old session.new }
+    requires failure { IsFailureNow session.old.core.memory client op reply }
+    ensures { IsEntered client op reply session.old session.new }
 {
-    session.tell(op, reply);
-    end(session);
+    session.tell(client, op, reply);
+    end(session, client);
 }
 
-/// The change of client 0 fails for want of space. An `Err` is out of memory; it has ended then too.
+/// The change of a client fails for want of space. An `Err` is out of memory; it has ended then too.
 pub(crate) fn lack<D: Devices, O: Opening>(
     alloc: Global,
     session: &mut Session<D, O>,
+    client: u8,
     op: Op,
     short: Short,
 ) -> Result<Reply, AllocError>
     requires spare { 0 < session.old.spare }
-    requires under { IsUnderWay session.old.core.memory }
-    requires change { IsChange op }
-    requires done { IsDoneNow session.old.core.memory op }
-    ensures entered { IfOk result (λ reply. IsEntered op reply session.old session.new) }
+    requires under { IsUnderWay session.old.core.memory client }
+    requires planned { is_planned op ≡ true }
+    requires changes { is_changing (class_of op) ≡ true }
+    requires done { IsDoneNow session.old.core.memory client op }
+    ensures entered { IfOk result (λ reply. IsEntered client op reply session.old session.new) }
     ensures reply { IfOk result (λ reply. reply ≡ Reply.NoSpace short) }
     ensures stepped { OnErr result (IsStepped session.old session.new) }
     ensures rest { OnErr result (IsAtRest session.new.core.memory) }
@@ -248,11 +275,11 @@ pub(crate) fn lack<D: Devices, O: Opening>(
     let reply = Reply::NoSpace(short);
     match reply.copy(alloc) {
         Ok(told) => {
-            fail(session, op, told);
+            fail(session, client, op, told);
             Ok(reply)
         }
         Err(error) => {
-            end(session);
+            end(session, client);
             drop(reply);
             drop(op);
             Err(error)

@@ -1,8 +1,8 @@
-ghost use Rattle.std.specs.Prelude.{◌≡◌, [], IfErr, IfOk, OnErr, is_some, true};
+ghost use Rattle.std.specs.Prelude.{◌≡◌, ◌<◌, [], IfErr, IfOk, OnErr, is_some, true};
 ghost use Rattle.core_state.specs.Opening.{IsOpened};
 ghost use Rattle.dev_model.specs.Frames.{GoOn, after_writes};
 ghost use Rattle.forest_ops.specs.History.{EachEntry, IsLegal, commit_count};
-ghost use Rattle.fs_plan.specs.Plans.{is_planned};
+ghost use Rattle.fs_plan.specs.Plans.{IsBounded, is_planned};
 ghost use Rattle.geometry.specs.Layouts.{is_layout_of};
 ghost use Rattle.image_view.specs.Found.{node_places};
 ghost use Rattle.replay.specs.Mending.{KeepsPast};
@@ -13,16 +13,17 @@ ghost use Rattle.vol_session.specs.Marks.{forest_found};
 ghost use Rattle.vol_session.specs.Sessions.{IsExact};
 ghost use Rattle.vol_session.specs.Survivors.{BeginsWell, Survive};
 ghost use Rattle.volume.specs.Answers.{AcknowledgesAll, HasCause, IsAnswered};
-ghost use Rattle.volume.specs.States.{AreUnspent, halt_told, halted_device};
+ghost use Rattle.volume.specs.States.{AreUnspent, halted_device};
 
-use crate::serving::{answer, halt_of};
+use crate::serving::answer;
 use dev_model::Devices;
-use forest_ops::{Acks, Halt, Op, Reply, Trace};
+use forest_ops::{Acks, Op, Reply, Trace};
 use replay::Loaded;
 use std::alloc::{AllocError, Global};
 use std::marker::Model;
 use vol_core::{Opening, Unopened};
 use vol_session::Session;
+use vol_types::Halt;
 
 /// A volume that is open, with the history of its session. It may be sent to another thread.
 #[derive(Drop)]
@@ -85,16 +86,19 @@ impl<D: Devices, O: Opening> VolState<D, O> {
         self.session.commits()
     }
 
-    /// Answers an operation of client 0: its entry joins the history, and its reply is handed back. An `Err` says that it is out of memory, which no reply says, and
+    /// Answers an operation of a client: its entry joins the history, and its reply is handed back. An `Err` says that it is out of memory, which no reply says, and
     /// leaves the history and the acknowledgements as they were. A sync acknowledges all commits before it.
     ///
     /// A change or a listing costs the looks of its plan; a change calls devices only where the journal or the buckets are short, and then makes a checkpoint. A sync writes and
     /// flushes what isn't durable. A listing is copied once, for the history.
-    pub fn call(&mut self, op: Op) -> Result<Reply, AllocError>
-        requires { is_planned op ≡ true }
-        ensures answers { IfOk result (λ reply. IsAnswered D.state op reply self.old self.new) }
-        ensures cause { IfOk result (λ reply. HasCause op reply self.new.core.memory.volume
-            (D.state self.old.core.devices).faults (D.state self.new.core.devices).faults) }
+    pub fn call(&mut self, client: u8, op: Op) -> Result<Reply, AllocError>
+        requires client { client < 16 }
+        requires planned { is_planned op ≡ true }
+        requires bounded { IsBounded op }
+        ensures answers { IfOk result (λ reply. IsAnswered D.state client op reply self.old
+            self.new) }
+        ensures cause { IfOk result (λ reply. HasCause client op reply
+            self.new.core.memory.volume (D.state self.old.core.devices).faults (D.state self.new.core.devices).faults) }
         ensures synced { IfOk result (AcknowledgesAll (commit_count
             (forest_found O.found O.start) self.old.trace)) }
         ensures err { OnErr result (self.new ≡ record self.old
@@ -109,7 +113,7 @@ impl<D: Devices, O: Opening> VolState<D, O> {
             drop(op);
             return Err(error);
         }
-        let result = answer(self.alloc, &mut self.session, op);
+        let result = answer(self.alloc, &mut self.session, client, op);
         self.session.see_numbers();
         self.session.see_room();
         result
@@ -125,7 +129,7 @@ impl<D: Devices, O: Opening> VolState<D, O> {
         ensures devices { result.devices ≡ self.core.devices }
         ensures trace { result.trace ≡ self.trace }
         ensures acks { result.acks ≡ self.acks }
-        ensures halted { result.halted ≡ halt_told self.core.memory.volume.halted }
+        ensures halted { result.halted ≡ self.core.memory.volume.halted }
         ensures failed { is_some result.halted ≡ has_failed result.trace }
         ensures only { (D.state result.devices).faults ≡ after_writes
             (halted_device self.core.memory.volume.halted) O.start.faults }
@@ -144,12 +148,9 @@ impl<D: Devices, O: Opening> VolState<D, O> {
         ensures goes_on { GoOn O.start (D.state result.devices) }
         ensures past { D.tells → KeepsPast O.start (D.state result.devices) }
     {
-        let VolState {
-            alloc: _,
-            mut session,
-        } = self;
+        let VolState { alloc: _, session } = self;
         session.see_history();
-        let halted = halt_of(&mut session);
+        let halted = session.memory().halted();
         let (devices, trace, acks) = session.into_parts();
         Finished {
             devices,

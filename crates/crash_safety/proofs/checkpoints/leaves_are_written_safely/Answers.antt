@@ -4,12 +4,8 @@ use Rattle.crash_safety.proofs.PlacedLeaves.{placed_kept}
 use Rattle.crash_safety.proofs.WrittenLeaf.{PartLaws, written_kept, written_safely}
 use Rattle.crash_safety.proofs.checkpoints.leaves_are_written_safely.Goals as goal
 
-pub returns-clause-freezes : goal.returns-clause-freezes
-returns-clause-freezes c f writing state l fresh keeps free leaf places born planned none =
-    frozen_kept f writing state l fresh keeps free places c.nodes_hold_keys_up_to_an_entry.ensures.durable leaf born planned none
-
-pub returns-clause-writes : goal.returns-clause-writes
-returns-clause-writes c f image writing asked written bases durable first old new l earlier fresh failed safe keeps list less is are =
+pub returns : goal.returns
+returns c =
     let laws : PartLaws = record {
       outside = c.nodes_lie_apart.ensures.outside;
       off = c.nodes_lie_apart.ensures.node_parts;
@@ -18,13 +14,13 @@ returns-clause-writes c f image writing asked written bases durable first old ne
       next = c.node_parts_stand.ensures.next;
       failed = c.node_parts_stand.ensures.failed;
       safe = c.node_parts_are_written_safely.ensures;
-    } in (
-      written_safely laws f writing old new l earlier fresh failed keeps list less is image asked written bases durable first safe are,
-      written_kept laws f writing old new l earlier fresh failed keeps list less is,
-    )
-
-pub returns-clause-places : goal.returns-clause-places
-returns-clause-places c f writing state l seq keeps settled whole may behind behind_next = placed_kept c.node_parts_stand.ensures.written f writing state settled seq behind behind_next l keeps whole may
-
-pub returns-clause-gives_up : goal.returns-clause-gives_up
-returns-clause-gives_up c = given_up_kept
+    } in
+    record {
+      freezes = λ f writing state l fresh keeps free leaf places born planned none. frozen_kept f writing state l fresh keeps free places c.nodes_hold_keys_up_to_an_entry.ensures.durable leaf born planned none;
+      writes = λ f image writing asked written bases durable first old new l earlier fresh failed safe keeps list less is are. (
+        written_safely laws f writing old new l earlier fresh failed keeps list less is image asked written bases durable first safe are,
+        written_kept laws f writing old new l earlier fresh failed keeps list less is,
+      );
+      places = λ f writing state l seq keeps settled whole may behind behind_next. placed_kept c.node_parts_stand.ensures.written f writing state settled seq behind behind_next l keeps whole may;
+      gives_up = given_up_kept;
+    }

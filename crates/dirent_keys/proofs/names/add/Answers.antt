@@ -1,7 +1,7 @@
 use Rattle.std.proofs.Common.{sym, ap, ◌∙◌, subst, refl, Some}
 use Rattle.std.specs.Ordering.{nat_cmp}
 use Rattle.std.specs.Prelude.{IsSome, length, nat_le}
-use Rattle.dirent_keys.proofs.Looks.{seen_before}
+use Rattle.dirent_keys.proofs.Looks.{looks_then, seen_before}
 use Rattle.dirent_keys.proofs.Seeing.{whiteout_fits}
 use Rattle.dirent_keys.proofs.Stepping.{addition_fits, addition_seen, among_is, crowded, done, exists, fits_placed, links_placed, updates_placed}
 use Rattle.dirent_keys.specs.Links.{names_value, with_link}
@@ -73,3 +73,13 @@ returns-clause-fits g c named keys seen fits =
     (among_is c.as_slice.result.now a.name.now c.as_slice-2.result.now links c.is_among.result _ c.as_slice.ensures c.as_slice-2.ensures c.is_among.ensures c.if-is_among.false)
     (ap (λ ls. nat_le names_per_slot (length ls)) (sym c.as_slice-3.ensures) ∙ sym c.is_full.ensures ∙ c.if-is_full.false) fits))
     (fits_placed own a.id a.dir a.name.now stands (Some White) (Some White) refl (whiteout_fits a.dir _ a.id))
+
+pub returns-clause-looks : goal.returns-clause-looks
+returns-clause-looks g c =
+    let made = g.V.View.made in
+    looks_then (made c.args.view.now) (made c.links_at.new.view) (made c.updates_to_show.new.view) c.in_ok-links.ensures.looks c.in_ok-updates.ensures.looks
+
+pub returns-in_err-updates-clause-looks : goal.returns-in_err-updates-clause-looks
+returns-in_err-updates-clause-looks g c =
+    let made = g.V.View.made in
+    looks_then (made c.args.view.now) (made c.links_at.new.view) (made c.updates_to_show.new.view) c.in_ok-links.ensures.looks c.in_err-updates.ensures.looks

@@ -1,7 +1,7 @@
 use Rattle.std.proofs.Common.{sym, ap, ◌∙◌, subst, refl, Some}
 use Rattle.std.specs.Ordering.{nat_cmp}
 use Rattle.std.specs.Prelude.{IsSome}
-use Rattle.dirent_keys.proofs.Looks.{seen_before}
+use Rattle.dirent_keys.proofs.Looks.{looks_then, seen_before}
 use Rattle.dirent_keys.proofs.Seeing.{whiteout_fits}
 use Rattle.dirent_keys.proofs.Stepping.{among_is, fits_placed, links_placed, removal_fits, removal_seen, removes, removes_nothing, updates_placed}
 use Rattle.dirent_keys.specs.Links.{names_value, without_name}
@@ -56,3 +56,13 @@ returns-clause-fits g c keys seen fits =
     (fits_placed own a.id a.dir a.name.now stands (names_value c.without_name-left.result) (names_value (without_name a.name.now links)) (ap names_value left)
     (removal_fits keys a.id a.dir a.name.now links (links_placed own a.id a.dir a.name.now stands keys links (c.in_ok-links.ensures.links keys before)) fits))
     (fits_placed own a.id a.dir a.name.now stands (Some White) (Some White) refl (whiteout_fits a.dir _ a.id))
+
+pub returns-clause-looks : goal.returns-clause-looks
+returns-clause-looks g c =
+    let made = g.V.View.made in
+    looks_then (made c.args.view.now) (made c.links_at.new.view) (made c.updates_to_show.new.view) c.in_ok-links.ensures.looks c.in_ok-updates.ensures.looks
+
+pub returns-in_err-updates-clause-looks : goal.returns-in_err-updates-clause-looks
+returns-in_err-updates-clause-looks g c =
+    let made = g.V.View.made in
+    looks_then (made c.args.view.now) (made c.links_at.new.view) (made c.updates_to_show.new.view) c.in_ok-links.ensures.looks c.in_err-updates.ensures.looks

@@ -1,5 +1,8 @@
-use Rattle.std.proofs.Common.{◌∙◌, ap, subst, sym}
+use Rattle.std.proofs.Common.{◌∙◌, ap, length, subst, sym}
+use Rattle.std.proofs.lemmas.List.Sums.{sum_by_push}
+use Rattle.vol_types.specs.declared.queries.Look.{Look}
 use Rattle.extent_ops.specs.Looking.{AreExtentsUpTo, reach}
+use Rattle.file_plan.specs.Bounds.{keys_seen}
 use Rattle.file_plan.proofs.Io.{carried}
 use Rattle.file_plan.proofs.Looked.{last_look, may_look}
 use Rattle.file_plan.proofs.blocks.covering_keys.Goals as goal
@@ -13,3 +16,8 @@ returns-clause-found g c = carried c.find.result _ _
 
 pub returns-clause-look : goal.returns-clause-look
 returns-clause-look g c = may_look c.find.result c.reach.result _ _ _ (c.reach.ensures ∙ ap (reach c.args.number c.args.first c.args.last) c.longest-longest.ensures) c.find.ensures.ok c.find.ensures.err
+
+pub returns-clause-seen : goal.returns-clause-seen
+returns-clause-seen g c = carried c.find.result _ _
+    (λ found made. ap keys_seen made ∙ sum_by_push (λ (look : Look). length look.answer) (g.V.View.made c.args.view.now) (record { query = c.reach.result; answer = found }))
+    c.find.ensures.ok

@@ -1,5 +1,5 @@
 use Rattle.std.proofs.Common.{◌∙◌}
-use Rattle.file_plan.proofs.Io.{ap_read, io_read, nothing_read}
+use Rattle.file_plan.proofs.Io.{ap_read, io_read, looks_stay, looks_then, nothing_read}
 use Rattle.file_plan.proofs.Looked.{is_there, no_bytes, none_shows, not_there, one_shows, read_bytes, reads_none, reads_one, seen_same}
 use Rattle.file_plan.proofs.blocks.shown_block.Goals as goal
 
@@ -59,3 +59,9 @@ returns-clause-reads g c = λ keys seen range.
     (one_shows keys c.args.id c.args.number c.args.block _ c.in-Some.pointers c.in-Some.digest c.in-Some.is
     (c.in_ok-pointers.ensures keys c.args.number before.is_seen.is_map before.is_seen.ids
     (c.in_ok-keys.ensures.found keys _ before range) range.places))
+
+pub returns-in_err-block-clause-looks : goal.returns-in_err-block-clause-looks
+returns-in_err-block-clause-looks g c = looks_then _ (g.V.View.made c.covering_keys.new.view) _ c.covering_keys.ensures.looks (looks_stay _ _ c.block.ensures.looks)
+
+pub returns-clause-looks : goal.returns-clause-looks
+returns-clause-looks g c = looks_then _ (g.V.View.made c.covering_keys.new.view) _ c.covering_keys.ensures.looks (looks_stay _ _ c.block.ensures.looks)

@@ -1,10 +1,11 @@
-use Rattle.std.proofs.Common.{◌≡◌, ◌-◌, ◌≤◌, sym, ap, ◌∙◌, subst, arith}
+use Rattle.std.proofs.Common.{◌≡◌, ◌-◌, ◌≤◌, length, refl, sym, ap, ◌∙◌, subst, arith}
 use Rattle.std.specs.Prelude.{◌&&◌, All, nat_le, nat_lt}
 use Rattle.snap_tree.specs.Snaps.{IsSnapTree}
 use Rattle.vol_types.specs.KeyMaps.{with_updates}
 use Rattle.key_meaning.specs.Checks.{AreBlocksPlaced}
 use Rattle.extent_ops.specs.Content.{AreOfContent, IsNear, TakesBlocks, hidden_if, is_covered_above}
 use Rattle.file_plan.specs.Sizes.{blocks_up_to, cut_size}
+use Rattle.file_plan.proofs.Io.{looks_stay}
 use Rattle.file_plan.proofs.Losing.{cut_blocks, cut_bytes, nothing_less, nothing_lost}
 use Rattle.file_plan.proofs.Taking.{no_updates, same_range}
 use Rattle.file_plan.proofs.changing.cut.Goals as goal
@@ -103,3 +104,26 @@ returns-clause-placed g c = λ keys nodes layout seen range fresh placed may.
     c.in_ok-punch.ensures.placed keys c.args.number nodes layout seen.is_seen.is_map range.places
     (c.in_ok-keys.ensures.found keys _ seen range)
     placed
+
+pub returns-then-end-first-clause-looks : goal.returns-then-end-first-clause-looks
+returns-then-end-first-clause-looks g c = looks_stay _ _ refl
+
+pub returns-then-end-first-clause-few : goal.returns-then-end-first-clause-few
+returns-then-end-first-clause-few g c = λ keys seen had. omega (arith, ap length c.new.ensures)
+
+pub returns-clause-few : goal.returns-clause-few
+returns-clause-few g c = λ keys seen had.
+    let first_is : c.blocks_up_to-first.result ≡ blocks_up_to (cut_size c.args.size c.args.new) = c.blocks_up_to-first.ensures.is ∙ ap blocks_up_to c.cut_size.ensures.is in
+    let few = c.in_ok-punch.ensures.few_by_blocks keys c.args.number seen.is_seen.is_map had.once (let fits = c.ranges.size in omega (arith, c.if-end-first.false))
+    (c.in_ok-keys.ensures.found keys _ seen had.in_range) in
+    let end_is = c.blocks_up_to-end.ensures.is in
+    omega (arith, few, first_is, end_is, c.if-end-first.false)
+
+pub returns-then-end-first-clause-few_by_keys : goal.returns-then-end-first-clause-few_by_keys
+returns-then-end-first-clause-few_by_keys g c = omega (arith, ap length c.new.ensures)
+
+pub returns-clause-few_by_keys : goal.returns-clause-few_by_keys
+returns-clause-few_by_keys g c =
+    let few = c.in_ok-punch.ensures.few in
+    let seen = c.in_ok-keys.ensures.seen in
+    omega (arith, few, seen)

@@ -1,10 +1,11 @@
-use Rattle.std.proofs.Common.{◌≡◌, ◌+◌, ◌≤◌, [], sym, ◌∙◌, subst}
+use Rattle.std.proofs.Common.{◌≡◌, ◌+◌, ◌≤◌, [], length, refl, sym, ap, ◌∙◌, subst, arith}
 use Rattle.std.specs.Prelude.{All, is_some}
 use Rattle.snap_tree.specs.Snaps.{IsSnapTree}
 use Rattle.vol_types.specs.KeyMaps.{with_updates}
 use Rattle.vol_types.specs.declared.keys.Key.{Key}
 use Rattle.key_meaning.specs.Checks.{AreBlocksPlaced}
 use Rattle.extent_ops.specs.Content.{AreFresh, AreFreshWithin, AreOfContent, given_by}
+use Rattle.file_plan.proofs.Io.{looks_stay}
 use Rattle.file_plan.proofs.Putting.{fresh_show, if_none, nothing_put, nothing_shows, put_blocks, put_bytes}
 use Rattle.file_plan.proofs.Taking.{no_updates}
 use Rattle.file_plan.proofs.changing.put.Goals as goal
@@ -93,3 +94,33 @@ returns-clause-placed g c = λ keys nodes layout seen range fresh placed may.
     c.in_ok-overwrite.ensures.placed keys c.args.number c.args.first last nodes layout seen.is_seen.is_map range.places within
     (c.in_ok-keys.ensures.found keys _ seen range)
     placed may
+
+pub returns-in_default-clause-looks : goal.returns-in_default-clause-looks
+returns-in_default-clause-looks g c = looks_stay _ _ refl
+
+pub returns-in_default-clause-few : goal.returns-in_default-clause-few
+returns-in_default-clause-few g c = λ keys size seen had fresh. omega (arith, ap length c.new.ensures)
+
+pub returns-clause-few : goal.returns-clause-few
+returns-clause-few g c = λ keys size seen had fresh.
+    let last = c.in-Some.last in
+    let within : AreFreshWithin c.args.number c.args.id c.args.first last c.args.extents.now = record {
+      fresh = fresh;
+      within = subst (All (λ (key : Key). key.pos.offset ≤ last + 1)) c.as_slice.ensures (c.in-Some.ensures.within c.args.number c.args.id c.args.first (subst (AreFresh c.args.number c.args.id c.args.first) (sym c.as_slice.ensures) fresh));
+    } in
+    c.in_ok-overwrite.ensures.few_by_blocks keys c.args.number c.args.first last seen.is_seen.is_map had.once within
+    (c.in_ok-keys.ensures.found keys _ seen had.in_range)
+
+pub returns-in_default-clause-few_by_keys : goal.returns-in_default-clause-few_by_keys
+returns-in_default-clause-few_by_keys g c = λ fresh. omega (arith, ap length c.new.ensures)
+
+pub returns-clause-few_by_keys : goal.returns-clause-few_by_keys
+returns-clause-few_by_keys g c = λ fresh.
+    let last = c.in-Some.last in
+    let within : AreFreshWithin c.args.number c.args.id c.args.first last c.args.extents.now = record {
+      fresh = fresh;
+      within = subst (All (λ (key : Key). key.pos.offset ≤ last + 1)) c.as_slice.ensures (c.in-Some.ensures.within c.args.number c.args.id c.args.first (subst (AreFresh c.args.number c.args.id c.args.first) (sym c.as_slice.ensures) fresh));
+    } in
+    let few = c.in_ok-overwrite.ensures.few c.args.number c.args.first last within in
+    let seen = c.in_ok-keys.ensures.seen in
+    omega (arith, few, seen)

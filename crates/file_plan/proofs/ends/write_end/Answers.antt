@@ -2,7 +2,7 @@ use Rattle.std.proofs.Common.{◌/◌, [], ◌∷◌, ap, sym, ◌∙◌, arith}
 use Rattle.std.specs.Prelude.{is_some}
 use Rattle.vol_types.specs.Limits.{block_size}
 use Rattle.file_plan.proofs.Fresh.{run_gives}
-use Rattle.file_plan.proofs.Io.{carried, held_before, reads_go_on}
+use Rattle.file_plan.proofs.Io.{carried, held_before, io_then, looks_stay, looks_then, reads_go_on}
 use Rattle.file_plan.proofs.Looked.{reads_then, seen_same}
 use Rattle.file_plan.proofs.Written.{nothing_written}
 use Rattle.file_plan.proofs.ends.write_end.Goals as goal
@@ -49,3 +49,9 @@ returns-in-Some-clause-written g c = carried c.write_run.result _ _
       written = written;
     })
     c.write_run.ensures.written
+
+pub returns-in-Some-clause-io : goal.returns-in-Some-clause-io
+returns-in-Some-clause-io g c = io_then _ (g.V.Contents.io c.end_block.new.view) _ (reads_go_on _ _ c.end_block.ensures.io) c.write_run.ensures.io
+
+pub returns-in-Some-clause-looks : goal.returns-in-Some-clause-looks
+returns-in-Some-clause-looks g c = looks_then _ (g.V.View.made c.end_block.new.view) _ c.end_block.ensures.looks (looks_stay _ _ c.write_run.ensures.looks)

@@ -2,6 +2,7 @@ use Rattle.std.proofs.Common.{◌≡◌, ℕ, List, length, sym, subst, ◌∙�
 use Rattle.std.proofs.lemmas.List.{take-append-drop}
 use Rattle.vol_types.specs.Limits.{block_size}
 use Rattle.vol_types.specs.declared.keys.Key.{Key}
+use Rattle.file_plan.proofs.Io.{io_then}
 use Rattle.file_plan.proofs.Written.{RunSoFar, next_ones, none_so_far, not_empty, one_more}
 use Rattle.file_plan.proofs.runs.write_run.Goals as goal
 
@@ -21,3 +22,13 @@ loop-rest-preserved g c =
     c.loop-rest.invariant (sym (take-append-drop c.min.result c.loop-rest.rest.now) ∙ (λ i. sym c.split_at.ensures.front i ++ sym c.split_at.ensures.back i)) (not_empty c.loop-rest.rest.now c.is_empty.result c.is_empty.ensures c.loop-rest-test.true)
     (λ more. let least = c.min.ensures in let front = c.split_at.ensures.front_len in let back = c.split_at.ensures.back_len in omega (arith, least, front, back, more))
     c.in_ok-key.ensures.written c.in_ok-key.ensures.holds c.in_ok-key.ensures.io c.in_ok-key.ensures.looks c.in_ok-key.ensures.ids c.in_ok-key.ensures.longest)
+
+pub returns-in_err-key-clause-io : goal.returns-in_err-key-clause-io
+returns-in_err-key-clause-io g c =
+    let io = g.V.Contents.io in
+    io_then (io c.args.view.now) (io c.loop-rest.view) (io c.write_extent.new.view) c.loop-rest.invariant.io c.write_extent.ensures.io
+
+pub returns-in_err-push-clause-io : goal.returns-in_err-push-clause-io
+returns-in_err-push-clause-io g c =
+    let io = g.V.Contents.io in
+    io_then (io c.args.view.now) (io c.loop-rest.view) (io c.write_extent.new.view) c.loop-rest.invariant.io c.write_extent.ensures.io

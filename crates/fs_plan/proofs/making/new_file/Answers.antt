@@ -1,7 +1,7 @@
 -- With a number the file gets it, and without one it is refused.
 use Rattle.std.proofs.Common.{◌∙◌, ap, sym}
 use Rattle.fs_plan.proofs.Looks.{carried, gave_before}
-use Rattle.fs_plan.specs.Making.{file_drawn, spent_file}
+use Rattle.fs_plan.specs.Updating.{file_drawn, spent_file}
 use Rattle.fs_plan.proofs.making.new_file.Goals as goal
 
 pub returns-in-Drawn-clause-made : goal.returns-in-Drawn-clause-made

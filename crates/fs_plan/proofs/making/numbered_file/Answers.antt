@@ -2,9 +2,9 @@
 use Rattle.std.proofs.Common.{Some, ◌++◌, ◌∙◌, ap, sym, subst}
 use Rattle.std.specs.Prelude.{All, Ok}
 use Rattle.std.proofs.lemmas.List.Elements.{All-append}
-use Rattle.fs_plan.proofs.Filed.{done_has, new_inode_fits}
+use Rattle.fs_plan.proofs.Filed.{done_has}
 use Rattle.fs_plan.proofs.Looks.{seen_before}
-use Rattle.fs_plan.specs.Making.{with_inode_of}
+use Rattle.fs_plan.specs.Updating.{with_inode_of}
 use Rattle.key_view.specs.Changes.{updates_to_see}
 use Rattle.vol_types.specs.declared.positions.Btree.TheVariants.{Inodes}
 use Rattle.vol_types.specs.Standing.{IsUpdate}
@@ -15,7 +15,7 @@ pub returns-in_ok-joined-in-Done-clause-made : goal.returns-in_ok-joined-in-Done
 returns-in_ok-joined-in-Done-clause-made g c = λ keys seen.
     let a = c.args in
     let before = seen_before keys (g.V.View.made c.add.new.view) (g.V.View.made c.set.new.view) a.tree.now c.in_ok-inode-in-Done.ensures.looks seen in
-    ap (λ us. Ok us) (c.in_ok-joined-in-Done.ensures ∙ ap (λ us. a.counted ++ (us ++ c.in-Done.named)) (c.in_ok-inode-in-Done.ensures.updates keys seen ∙ ap (λ p. updates_to_see keys Inodes 0 a.number a.id (Some (values.Inode p))) c.new_inode.ensures))
+    ap (λ us. Ok us) (c.in_ok-joined-in-Done.ensures ∙ ap (λ us. a.counted ++ (us ++ c.in-Done.named)) (c.in_ok-inode-in-Done.ensures.updates keys seen ∙ ap (λ p. updates_to_see keys Inodes 0 a.number a.id (Some (values.Inode p))) c.new_inode.ensures.inode))
     ∙ ap (with_inode_of a.id a.number a.counted) (sym c.in-Done.is ∙ c.in_ok-named.ensures.step keys before)
 
 pub returns-in_ok-joined-in-Done-clause-fits : goal.returns-in_ok-joined-in-Done-clause-fits
@@ -23,4 +23,4 @@ returns-in_ok-joined-in-Done-clause-fits g c = λ counted named keys seen shows.
     let before = seen_before keys (g.V.View.made c.add.new.view) (g.V.View.made c.set.new.view) c.args.tree.now c.in_ok-inode-in-Done.ensures.looks seen in
     subst (All IsUpdate) (sym c.in_ok-joined-in-Done.ensures)
     (All-append IsUpdate c.args.counted (c.in_ok-inode-in-Done.inode ++ c.in-Done.named) counted (All-append IsUpdate c.in_ok-inode-in-Done.inode c.in-Done.named
-    (c.in_ok-inode-in-Done.ensures.fits (new_inode_fits c.new_inode.result c.new_inode.ensures)) (done_has _ c.in-Done.is (c.in_ok-named.ensures.fits named) keys before shows)))
+    (c.in_ok-inode-in-Done.ensures.fits c.new_inode.ensures.in_range) (done_has _ c.in-Done.is (c.in_ok-named.ensures.fits named) keys before shows)))

@@ -6,4 +6,4 @@ use Rattle.fs_plan.proofs.planning.plan.Goals as goal
 
 pub returns-in-Sync-clause-plan : goal.returns-in-Sync-clause-plan
 returns-in-Sync-clause-plan g c = λ keys nodes layout given sound tidy.
-    idle_plan keys nodes layout c.args.client Sync c.new.result _ (λ forest. refl) c.new.ensures (λ read. refl) sound tidy
+    idle_plan keys nodes layout c.args.client Sync c.new.result _ (λ forest. refl) c.new.ensures refl (λ forest. refl) (λ read. refl) sound tidy

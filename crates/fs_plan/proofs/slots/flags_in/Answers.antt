@@ -4,7 +4,8 @@ use Rattle.std.specs.Prelude.{IfSome}
 use Rattle.fs_plan.proofs.Bounds.{slot_fits}
 use Rattle.fs_plan.proofs.Gathered.{gathered_all, gathered_next, gathered_to}
 use Rattle.fs_plan.proofs.Looks.{looks_then, seen_before}
-use Rattle.fs_plan.specs.Listing.{HasNoSlot, with_links}
+use Rattle.dirent_keys.specs.Slots.{HasNoSlot}
+use Rattle.fs_plan.specs.Listing.{with_links}
 use Rattle.key_meaning.specs.Forest.{links_of}
 use Rattle.vol_types.specs.Maps.{value_at}
 use Rattle.vol_types.specs.Ranges.{name_cmp}

@@ -2,34 +2,31 @@
 use Rattle.std.proofs.Common.{◌∙◌, ◌+◌, sym, ap, ℕ, drop, arith}
 use Rattle.std.specs.Prelude.{Result}
 use Rattle.forest_ops.specs.Refusals.{◌>>=◌}
-use Rattle.forest_ops.specs.Walking.{walk}
 use Rattle.forest_ops.specs.declared.operation.Cause.{Cause}
 use Rattle.fs_plan.proofs.Looks.{looks_then, seen_before}
 use Rattle.fs_plan.proofs.Walked.{walk_step}
-use Rattle.key_meaning.specs.Forest.{tree_of}
+use Rattle.fs_plan.specs.Looking.{lead_to}
 use Rattle.fs_plan.proofs.walking.walk.Goals as goal
 
 pub returns-in-Err-clause-found : goal.returns-in-Err-clause-found
-returns-in-Err-clause-found g c = λ keys read seen.
+returns-in-Err-clause-found g c = λ keys seen.
     let made = g.V.View.made in
     let a = c.args in
-    let tree = tree_of keys read a.sub.now in
     let before = seen_before keys (made c.loop-name.view) (made c.named.new.view) a.tree.now c.in_ok-next.ensures.looks seen in
-    ap (λ (to : Result ℕ Cause). to >>= (λ next. walk tree (drop (c.loop-name.name-index + 1) a.names.now) next)) (sym c.in-Err.is ∙ c.in_ok-next.ensures.found keys read seen)
-    ∙ sym (walk_step tree a.names.now c.loop-name.name-index (c.loop-name.name-index + 1) c.loop-name.number c.name-item.result c.loop-name-test.true (omega arith) c.name-item.is)
-    ∙ c.loop-name.invariant.0 keys read before
+    ap (λ (to : Result ℕ Cause). to >>= (λ next. lead_to keys a.sub.now.id (drop (c.loop-name.name-index + 1) a.names.now) next)) (sym c.in-Err.is ∙ c.in_ok-next.ensures.found keys seen)
+    ∙ sym (walk_step keys a.sub.now.id a.names.now c.loop-name.name-index (c.loop-name.name-index + 1) c.loop-name.number c.name-item.result c.loop-name-test.true (omega arith) c.name-item.is)
+    ∙ c.loop-name.invariant.0 keys before
 
 pub loop-name-preserved : goal.loop-name-preserved
 loop-name-preserved g c =
     let made = g.V.View.made in
     let a = c.args in
     let looks = c.in_ok-next.ensures.looks in (
-      (λ keys read seen.
-          let tree = tree_of keys read a.sub.now in
+      (λ keys seen.
           let before = seen_before keys (made c.loop-name.view) (made c.named.new.view) a.tree.now looks seen in
-          ap (λ (to : Result ℕ Cause). to >>= (λ next. walk tree (drop (c.loop-name.name-index + 1) a.names.now) next)) (sym c.in-Ok.is ∙ c.in_ok-next.ensures.found keys read seen)
-          ∙ sym (walk_step tree a.names.now c.loop-name.name-index (c.loop-name.name-index + 1) c.loop-name.number c.name-item.result c.loop-name-test.true (omega arith) c.name-item.is)
-          ∙ c.loop-name.invariant.0 keys read before),
+          ap (λ (to : Result ℕ Cause). to >>= (λ next. lead_to keys a.sub.now.id (drop (c.loop-name.name-index + 1) a.names.now) next)) (sym c.in-Ok.is ∙ c.in_ok-next.ensures.found keys seen)
+          ∙ sym (walk_step keys a.sub.now.id a.names.now c.loop-name.name-index (c.loop-name.name-index + 1) c.loop-name.number c.name-item.result c.loop-name-test.true (omega arith) c.name-item.is)
+          ∙ c.loop-name.invariant.0 keys before),
       looks_then (made a.view.now) (made c.loop-name.view) (made c.named.new.view) c.loop-name.invariant.1 looks,
       c.in_ok-next.ensures.ids ∙ c.loop-name.invariant.2,
     )

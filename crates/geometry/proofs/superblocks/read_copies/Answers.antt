@@ -36,3 +36,18 @@ loop-dev-preserved g c =
       read = only_read_then D.tells (D.state c.args.devices.now) (D.state c.loop-dev.devices) (D.state c.read_counting.new.devices) c.loop-dev.invariant.read c.read_counting.ensures.read;
       faults = c.in_ok-copy.ensures.cause ∙ c.loop-dev.invariant.faults;
     }
+
+pub returns-in_err-copy-clause-read : goal.returns-in_err-copy-clause-read
+returns-in_err-copy-clause-read g c =
+    let D = g.D.Devices in
+    only_read_then D.tells (D.state c.args.devices.now) (D.state c.loop-dev.devices) (D.state c.read_counting.new.devices) c.loop-dev.invariant.read c.read_counting.ensures.read
+
+pub returns-in_err-push-in-Some-clause-read : goal.returns-in_err-push-in-Some-clause-read
+returns-in_err-push-in-Some-clause-read g c =
+    let D = g.D.Devices in
+    only_read_then D.tells (D.state c.args.devices.now) (D.state c.loop-dev.devices) (D.state c.read_counting.new.devices) c.loop-dev.invariant.read c.read_counting.ensures.read
+
+pub returns-in-None-clause-read : goal.returns-in-None-clause-read
+returns-in-None-clause-read g c =
+    let D = g.D.Devices in
+    only_read_then D.tells (D.state c.args.devices.now) (D.state c.loop-dev.devices) (D.state c.read_counting.new.devices) c.loop-dev.invariant.read c.read_counting.ensures.read

@@ -1,5 +1,5 @@
 use Rattle.std.proofs.Common.{◌≡◌, ◌++◌, ◌∙◌, [], true, false, ap, map}
-use Rattle.key_triggers.proofs.Looking.{gave_before}
+use Rattle.key_triggers.proofs.Looking.{gave_before, goes_further}
 use Rattle.key_triggers.specs.Changes.{values_after, values_before}
 use Rattle.key_triggers.specs.Expanding.{owners_of, tallies_of}
 use Rattle.key_triggers.specs.Owners.{held_by, left_by, owner_update}
@@ -23,3 +23,33 @@ returns-clause-updates g c keys gives =
     let owners : c.in_ok-owners.owners ≡ map owner_update (owners_of keys updates) = c.in_ok-owners.ensures ∙ (λ i. map owner_update (held_by (after i) (left_by (before i) []))) in
     let first : c.append.new.self ≡ map (stamped keys) updates ++ map (live_update keys) (tallies_of keys updates) = c.in_ok-append.ensures.ok ∙ (λ i. stamps i ++ lives i) in
     c.in_ok-append-2.ensures.ok ∙ (λ i. first i ++ owners i)
+
+pub returns-in_err-all-clause-looks : goal.returns-in_err-all-clause-looks
+returns-in_err-all-clause-looks g c =
+    let made = g.V.View.made in
+    goes_further (made c.args.view.now) (made c.values_before.new.view) (made c.stamp_all.new.view) c.values_before.ensures.looks c.stamp_all.ensures.looks
+
+pub returns-in_err-lives-clause-looks : goal.returns-in_err-lives-clause-looks
+returns-in_err-lives-clause-looks g c =
+    let made = g.V.View.made in
+    goes_further (made c.args.view.now) (made c.stamp_all.new.view) (made c.live_updates.new.view) (goes_further (made c.args.view.now) (made c.values_before.new.view) (made c.stamp_all.new.view) c.values_before.ensures.looks c.stamp_all.ensures.looks) c.live_updates.ensures.looks
+
+pub returns-in_err-owners-clause-looks : goal.returns-in_err-owners-clause-looks
+returns-in_err-owners-clause-looks g c =
+    let made = g.V.View.made in
+    goes_further (made c.args.view.now) (made c.stamp_all.new.view) (made c.live_updates.new.view) (goes_further (made c.args.view.now) (made c.values_before.new.view) (made c.stamp_all.new.view) c.values_before.ensures.looks c.stamp_all.ensures.looks) c.live_updates.ensures.looks
+
+pub returns-in_err-append-clause-looks : goal.returns-in_err-append-clause-looks
+returns-in_err-append-clause-looks g c =
+    let made = g.V.View.made in
+    goes_further (made c.args.view.now) (made c.stamp_all.new.view) (made c.live_updates.new.view) (goes_further (made c.args.view.now) (made c.values_before.new.view) (made c.stamp_all.new.view) c.values_before.ensures.looks c.stamp_all.ensures.looks) c.live_updates.ensures.looks
+
+pub returns-in_err-append-2-clause-looks : goal.returns-in_err-append-2-clause-looks
+returns-in_err-append-2-clause-looks g c =
+    let made = g.V.View.made in
+    goes_further (made c.args.view.now) (made c.stamp_all.new.view) (made c.live_updates.new.view) (goes_further (made c.args.view.now) (made c.values_before.new.view) (made c.stamp_all.new.view) c.values_before.ensures.looks c.stamp_all.ensures.looks) c.live_updates.ensures.looks
+
+pub returns-clause-looks : goal.returns-clause-looks
+returns-clause-looks g c =
+    let made = g.V.View.made in
+    goes_further (made c.args.view.now) (made c.stamp_all.new.view) (made c.live_updates.new.view) (goes_further (made c.args.view.now) (made c.values_before.new.view) (made c.stamp_all.new.view) c.values_before.ensures.looks c.stamp_all.ensures.looks) c.live_updates.ensures.looks

@@ -9,7 +9,7 @@ use Rattle.key_triggers.specs.Tallies.{live_update}
 use Rattle.key_triggers.proofs.Fitting.{expanded_fit}
 use Rattle.key_triggers.proofs.Following.{generations_new}
 use Rattle.key_triggers.proofs.Space.{back_new, blocks_counted, blocks_placed, extent_at, generations_all}
-use Rattle.key_triggers.proofs.Zeros.{expanded_keys, lives_of_space, owners_of_space}
+use Rattle.key_triggers.proofs.Zeros.{expanded_keys, lives_of_space, owners_of_space, space_at_zero}
 use Rattle.vol_types.specs.KeyMaps.{is_update_of}
 use Rattle.vol_types.specs.declared.keys.Update.{Update}
 use Rattle.vol_types.specs.declared.positions.Btree.TheVariants.{Alloc, Backptrs}
@@ -23,6 +23,7 @@ returns c = record {
     space = map (live_update keys) (tallies_of keys updates) ++ map owner_update (owners_of keys updates);
     are = append_assoc (map (stamped keys) updates) (map (live_update keys) (tallies_of keys updates)) (map owner_update (owners_of keys updates));
     only_space = All-append IsSpaceUpdate (map (live_update keys) (tallies_of keys updates)) (map owner_update (owners_of keys updates)) (lives_of_space keys (tallies_of keys updates)) (owners_of_space (owners_of keys updates));
+    at_zero = space_at_zero keys updates;
   };
   fits = expanded_fit;
   follows = λ keys updates nodes layout may. record {

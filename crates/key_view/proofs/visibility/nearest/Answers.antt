@@ -58,3 +58,23 @@ loop-owner-preserved g c =
       goes_further (made a.view.now) (made c.loop-owner.view) (made c.next_own.new.view) c.loop-owner.invariant.1 looks,
       c.in_ok-owner.ensures.ids ∙ c.loop-owner.invariant.2,
     )
+
+pub returns-in_err-owner-clause-looks : goal.returns-in_err-owner-clause-looks
+returns-in_err-owner-clause-looks g c =
+    let made = g.V.View.made in
+    goes_further (made c.args.view.now) (made c.loop-owner.view) (made c.next_own.new.view) c.loop-owner.invariant.1 c.next_own.ensures.looks
+
+pub returns-in_default-clause-looks : goal.returns-in_default-clause-looks
+returns-in_default-clause-looks g c =
+    let made = g.V.View.made in
+    goes_further (made c.args.view.now) (made c.loop-owner.view) (made c.next_own.new.view) c.loop-owner.invariant.1 c.next_own.ensures.looks
+
+pub returns-in-Some-shown_if-clause-looks : goal.returns-in-Some-shown_if-clause-looks
+returns-in-Some-shown_if-clause-looks g c =
+    let made = g.V.View.made in
+    goes_further (made c.args.view.now) (made c.loop-owner.view) (made c.next_own.new.view) c.loop-owner.invariant.1 c.next_own.ensures.looks
+
+pub returns-then-owner-clause-looks : goal.returns-then-owner-clause-looks
+returns-then-owner-clause-looks g c =
+    let made = g.V.View.made in
+    goes_further (made c.args.view.now) (made c.loop-owner.view) (made c.next_own.new.view) c.loop-owner.invariant.1 c.next_own.ensures.looks

@@ -135,3 +135,8 @@ pub returns-clause-no_block : goal.returns-clause-no_block
 returns-clause-no_block g c tells f on layouts needs =
     let D = g.D.Devices in
     subst (λ (l : Layout). BringsNoBlock l (as_read (now (D.state c.args.devices.now))) (as_read (now (D.state c.loop-index.devices)))) layouts (c.loop-index.invariant.mended tells f on layouts needs).no_block
+
+pub returns-in_err-mend_entry-clause-goes_on : goal.returns-in_err-mend_entry-clause-goes_on
+returns-in_err-mend_entry-clause-goes_on g c =
+    let D = g.D.Devices in
+    go_on_then (D.state c.args.devices.now) (D.state c.loop-index.devices) (D.state c.mend_entry.new.devices) c.loop-index.invariant.goes_on c.mend_entry.ensures.goes_on

@@ -1,5 +1,6 @@
 use Rattle.std.proofs.Common.{◌+◌}
 use Rattle.dev_model.specs.Devices.{now}
+use Rattle.dev_model.specs.FrameLaws.{go_on_then}
 use Rattle.image_view.specs.Found.{with_session}
 use Rattle.replay.proofs.Opened.{in_order_begun, is_ready, keeps_begun, keeps_both, past_then}
 use Rattle.replay.proofs.opening.begin_and_mend.Goals as goal
@@ -67,3 +68,13 @@ returns-clause-past g c tells f on layouts sessions needs =
     let crashes = c.begin_session.ensures.crashes tells f on.on layouts sessions in
     let begun = c.in_ok-next.ensures.begun tells f on.on layouts sessions in
     past_then (D.state c.args.devices.now) (D.state c.begin_session.new.devices) (D.state c.mend_journal.new.devices) crashes.later crashes.past (c.mend_journal.ensures.elsewhere tells begun.quiet).past
+
+pub returns-in_err-mend_journal-clause-goes_on : goal.returns-in_err-mend_journal-clause-goes_on
+returns-in_err-mend_journal-clause-goes_on g c =
+    let D = g.D.Devices in
+    go_on_then (D.state c.args.devices.now) (D.state c.begin_session.new.devices) (D.state c.mend_journal.new.devices) c.begin_session.ensures.goes_on c.mend_journal.ensures.goes_on
+
+pub returns-clause-goes_on : goal.returns-clause-goes_on
+returns-clause-goes_on g c =
+    let D = g.D.Devices in
+    go_on_then (D.state c.args.devices.now) (D.state c.begin_session.new.devices) (D.state c.mend_journal.new.devices) c.begin_session.ensures.goes_on c.mend_journal.ensures.goes_on

@@ -1,13 +1,13 @@
 use Rattle.std.proofs.Common.{◌≡◌, ◌++◌, ap, ◌∙◌, ℕ, sym}
 use Rattle.std.specs.Prelude.{codes, decimal}
 use Rattle.shell.specs.Outcome.{refusal_line}
-use Rattle.shell.specs.declared.early_end.Refusal.{Refusal}
-use Rattle.shell.specs.declared.early_end.Refusal.TheVariants.{BadLayout, BadNode, MissingEntry, Mixed, NoEntry, NoSuper, Unsound, Version}
+use Rattle.shell.specs.declared.early_end.MountRefusal.{MountRefusal}
+use Rattle.shell.specs.declared.early_end.MountRefusal.TheVariants.{BadLayout, BadNode, MissingEntry, Mixed, NoEntry, NoSuper, Unsound, Version}
 use Rattle.shell.proofs.EarlyEnds.{given_as, prefix_as}
 use Rattle.shell.proofs.early_end.print_refusal.Goals as goal
 
 -- the line of a check that fails
-check_line : (refusal : Refusal) (check number : ℕ) → refusal ≡ Unsound check → number ≡ check → codes "mount refused 8 check " ++ decimal number ++ codes "\n" ≡ refusal_line refusal
+check_line : (refusal : MountRefusal) (check number : ℕ) → refusal ≡ Unsound check → number ≡ check → codes "mount refused 8 check " ++ decimal number ++ codes "\n" ≡ refusal_line refusal
 check_line refusal check number is same = ap (λ (n : ℕ). codes "mount refused 8 check " ++ decimal n ++ codes "\n") same ∙ ap refusal_line (sym is)
 
 pub returns-in-NoSuper-clause-ok : goal.returns-in-NoSuper-clause-ok

@@ -5,14 +5,7 @@ use Rattle.vol_core.proofs.laws.open_volumes_have_laws.Goals as goal
 
 pub returns : goal.returns
 returns c = record {
-  journal = record {
-    begins = c.entries_are_written_safely.ensures.begins;
-    same_nodes = c.entries_with_new_nodes_are_written_safely.ensures.same_nodes;
-    writes = c.entries_with_new_nodes_are_written_safely.ensures.writes;
-    flushes = c.entries_with_new_nodes_are_written_safely.ensures.flushes;
-    settles = c.entries_with_new_nodes_are_written_safely.ensures.settles;
-    whole = c.entries_with_new_nodes_are_written_safely.ensures.whole;
-  };
+  journal = c.entries_are_written_safely.ensures;
   places_of_entries = record {
     ends = λ image f finds index low.
         let entry = slice_index_or f.needed index f.last in
@@ -21,12 +14,7 @@ returns c = record {
         made.1.end ∙ ap (λ n. entry.number + n) (c.mended_entries_stay_whole.ensures.sealed f.layout (area_of image) entry made.0 made.1).count;
     base = c.crashes_leave_the_next_entry_or_not.ensures.base;
   };
-  flags = record {
-    begins = c.flushed_devices_are_settled.ensures.begins;
-    writes = c.flushed_devices_are_settled.ensures.writes;
-    flushes = c.flushed_devices_are_settled.ensures.flushes;
-    settled = c.flushed_devices_are_settled.ensures.settled;
-  };
+  flags = c.flushed_devices_are_settled.ensures;
   keys = record {
     empty = c.waiting_changes_lead_from_durable_keys.ensures.empty;
     joined = c.waiting_changes_lead_from_durable_keys.ensures.joined;
@@ -34,21 +22,8 @@ returns c = record {
     settled = c.waiting_changes_lead_from_durable_keys.ensures.settled;
     durable = c.waiting_changes_lead_from_durable_keys.ensures.durable;
   };
-  entries = record {
-    begins = c.entries_of_leaves_are_safe.ensures.begins;
-    same = c.entries_of_leaves_are_safe.ensures.same;
-    pins = c.entries_of_leaves_are_safe.ensures.pins;
-    seals = c.entries_of_leaves_are_safe.ensures.seals;
-    parts = c.entries_of_leaves_are_safe.ensures.parts;
-    flushes = c.entries_of_leaves_are_safe.ensures.flushes;
-    settles = c.entries_of_leaves_are_safe.ensures.settles;
-  };
-  leaves = record {
-    freezes = c.leaves_are_written_safely.ensures.freezes;
-    writes = c.leaves_are_written_safely.ensures.writes;
-    places = c.leaves_are_written_safely.ensures.places;
-    gives_up = c.leaves_are_written_safely.ensures.gives_up;
-  };
+  entries = c.entries_of_leaves_are_safe.ensures;
+  leaves = c.leaves_are_written_safely.ensures;
   pins = record {
     each = c.changed_pins_are_known.ensures.each;
   };

@@ -2,7 +2,7 @@
 use Rattle.std.proofs.Common.{◌≡◌, ◌≤◌, ◌∙◌, List, ℕ, length, arith, sym, ap}
 use Rattle.dev_model.specs.Disk.{as_read, sizes_of}
 use Rattle.dev_model.specs.Devices.{now}
-use Rattle.dev_model.specs.FrameLaws.{stay_here}
+use Rattle.dev_model.specs.FrameLaws.{only_read_here, stay_here}
 use Rattle.vol_format.proofs.Stepping.{read_count}
 use Rattle.vol_format.proofs.Formatted.{formatted}
 use Rattle.vol_format.proofs.FreshMeaning.{AreMeant}
@@ -106,3 +106,24 @@ returns-clause-past g c tells =
     let cleared = (c.in_ok-clear_supers.ensures.formats tells start stays places c.in_ok-fresh.fresh).reached.0 in
     let formats = c.lay_out.ensures.formats tells start cleared (sym (c.clear_supers.ensures.goes_on.sizes ∙ c.find_spares.ensures.read.sizes ∙ agree)) in
     formats.leaves.past
+
+pub returns-in_err-blank-clause-memory : goal.returns-in_err-blank-clause-memory
+returns-in_err-blank-clause-memory g c = λ _. only_read_here g.D.Devices.tells (g.D.Devices.state c.args.devices.now)
+
+pub returns-in_err-session-clause-memory : goal.returns-in_err-session-clause-memory
+returns-in_err-session-clause-memory g c = λ _. only_read_here g.D.Devices.tells (g.D.Devices.state c.args.devices.now)
+
+pub returns-in_err-fresh-clause-memory : goal.returns-in_err-fresh-clause-memory
+returns-in_err-fresh-clause-memory g c = λ _. only_read_here g.D.Devices.tells (g.D.Devices.state c.args.devices.now)
+
+pub returns-in_err-firsts-clause-memory : goal.returns-in_err-firsts-clause-memory
+returns-in_err-firsts-clause-memory g c = λ _. only_read_here g.D.Devices.tells (g.D.Devices.state c.args.devices.now)
+
+pub returns-in_err-seconds-clause-memory : goal.returns-in_err-seconds-clause-memory
+returns-in_err-seconds-clause-memory g c = λ _. only_read_here g.D.Devices.tells (g.D.Devices.state c.args.devices.now)
+
+pub returns-in_err-spares-clause-memory : goal.returns-in_err-spares-clause-memory
+returns-in_err-spares-clause-memory g c = λ _. c.find_spares.ensures.read
+
+pub returns-in_err-others-clause-memory : goal.returns-in_err-others-clause-memory
+returns-in_err-others-clause-memory g c = λ _. c.find_spares.ensures.read

@@ -1,25 +1,32 @@
 use Rattle.std.proofs.Common.{refl}
 use Rattle.volume.proofs.Acting.{done_still, plan_intended}
 use Rattle.volume.proofs.Lacking.{entry_is_full}
-use Rattle.volume.proofs.Replying.{plan_is_done}
+use Rattle.volume.proofs.Replying.{change_changes, change_is_done, plan_changes, plan_is_done}
 use Rattle.volume.proofs.Served.{lack_result, served_later, stepped_moves}
 use Rattle.volume.proofs.committing.make.Goals as goal
 
+pub lack-requires-clause-changes : goal.lack-requires-clause-changes
+lack-requires-clause-changes g c = change_changes c.args.plan.op c.args.plan.reply (plan_changes c.args.plan c.requires.planned c.requires.class c.requires.commits)
+
 pub lack-requires-clause-done : goal.lack-requires-clause-done
 lack-requires-clause-done g c =
-    done_still c.args.plan.op c.args.session.now.core.memory c.intend.new.session.core.memory c.intend.ensures.stepped.volume (plan_is_done c.args.session.now.core.memory c.args.plan c.requires.okay c.requires.now)
+    let change = plan_changes c.args.plan c.requires.planned c.requires.class c.requires.commits in
+    done_still c.args.client c.args.plan.op c.args.session.now.core.memory c.intend.new.session.core.memory c.intend.ensures.stepped.volume
+    (plan_is_done c.args.session.now.core.memory c.args.client c.args.plan (change_is_done c.args.plan.op c.args.plan.reply change) c.requires.now)
 
 pub commit-requires-clause-intended : goal.commit-requires-clause-intended
 commit-requires-clause-intended g c =
-    plan_intended c.args.plan c.args.session.now.core.memory c.intend.new.session.core.memory c.intend.ensures.stepped.volume c.intend.ensures.under (c.intend.ensures.intended c.if-not-intend.false) (c.intend.ensures.fit c.if-not-intend.false) c.requires.change c.requires.okay c.requires.now
+    plan_intended c.args.client c.args.plan c.args.session.now.core.memory c.intend.new.session.core.memory c.intend.ensures.stepped.volume c.intend.ensures.under (c.intend.ensures.intended c.if-not-intend.false)
+    (c.intend.ensures.fit c.if-not-intend.false) (plan_changes c.args.plan c.requires.planned c.requires.class c.requires.commits) c.requires.commits c.requires.now
 
 pub returns-then-not-intend-clause-served : goal.returns-then-not-intend-clause-served
 returns-then-not-intend-clause-served g c =
     let state = g.D.Devices.state in
+    let client = c.args.client in
     let old = c.args.session.now in
     let mid = c.intend.new.session in
     let op = c.args.plan.op in
     let short = c.nothing_short.result in
-    served_later state c.lack.result op op old mid c.lack.new.session (stepped_moves state old mid c.intend.ensures.stepped) refl
-    (lack_result state c.lack.result op short mid c.lack.new.session
-    (entry_is_full c.args.plan old.core.memory mid.core.memory short c.intend.ensures.stepped.volume c.requires.okay c.requires.now c.nothing_short.ensures (c.intend.ensures.unfit c.if-not-intend.true)) c.lack.ensures.entered c.lack.ensures.reply)
+    served_later state client c.lack.result op op old mid c.lack.new.session (stepped_moves state client old mid c.intend.ensures.stepped) refl
+    (lack_result state client c.lack.result op short mid c.lack.new.session
+    (entry_is_full client c.args.plan old.core.memory mid.core.memory short c.intend.ensures.stepped.volume c.requires.commits c.requires.now c.nothing_short.ensures (c.intend.ensures.unfit c.if-not-intend.true)) c.lack.ensures.entered c.lack.ensures.reply)

@@ -4,50 +4,65 @@ use Rattle.core_volume.specs.Rulings.{IsRefused}
 use Rattle.core_actors.specs.declared.answer.Refusal.{Refusal}
 use Rattle.volume.specs.Serving.{IsHelpless, lacks_room}
 use Rattle.volume.proofs.Lacking.{buckets_are_full, commit_is_spent, leaf_is_full, ring_is_full}
-use Rattle.volume.proofs.Replying.{intended_is_done}
+use Rattle.volume.proofs.Replying.{change_changes, intended_is_done}
 use Rattle.volume.proofs.Served.{lack_result, spent_served}
 use Rattle.volume.proofs.committing.refuse.Goals as goal
 
+pub fail_halted-requires-clause-changes : goal.fail_halted-requires-clause-changes
+fail_halted-requires-clause-changes g c = change_changes c.args.op c.requires.intended.reply c.requires.intended.intended.change
+
 pub fail_halted-requires-clause-done : goal.fail_halted-requires-clause-done
-fail_halted-requires-clause-done g c = intended_is_done c.args.session.now.core.memory c.args.op c.requires.intended
+fail_halted-requires-clause-done g c = intended_is_done c.args.session.now.core.memory c.args.client c.args.op c.requires.intended.reply c.requires.intended.intended
+
+pub fail_spent-requires-clause-changes : goal.fail_spent-requires-clause-changes
+fail_spent-requires-clause-changes g c = change_changes c.args.op c.requires.intended.reply c.requires.intended.intended.change
 
 pub fail_spent-requires-clause-done : goal.fail_spent-requires-clause-done
-fail_spent-requires-clause-done g c = intended_is_done c.args.session.now.core.memory c.args.op c.requires.intended
+fail_spent-requires-clause-done g c = intended_is_done c.args.session.now.core.memory c.args.client c.args.op c.requires.intended.reply c.requires.intended.intended
+
+pub lack-requires-clause-changes : goal.lack-requires-clause-changes
+lack-requires-clause-changes g c = change_changes c.args.op c.requires.intended.reply c.requires.intended.intended.change
 
 pub lack-requires-clause-done : goal.lack-requires-clause-done
-lack-requires-clause-done g c = intended_is_done c.args.session.now.core.memory c.args.op c.requires.intended
+lack-requires-clause-done g c = intended_is_done c.args.session.now.core.memory c.args.client c.args.op c.requires.intended.reply c.requires.intended.intended
+
+pub lack-requires-in-RingFull-clause-changes : goal.lack-requires-in-RingFull-clause-changes
+lack-requires-in-RingFull-clause-changes g c = change_changes c.args.op c.requires.intended.reply c.requires.intended.intended.change
 
 pub lack-requires-in-RingFull-clause-done : goal.lack-requires-in-RingFull-clause-done
-lack-requires-in-RingFull-clause-done g c = intended_is_done c.args.session.now.core.memory c.args.op c.requires.intended
+lack-requires-in-RingFull-clause-done g c = intended_is_done c.args.session.now.core.memory c.args.client c.args.op c.requires.intended.reply c.requires.intended.intended
+
+pub lack-requires-in-NoSpace-clause-changes : goal.lack-requires-in-NoSpace-clause-changes
+lack-requires-in-NoSpace-clause-changes g c = change_changes c.args.op c.requires.intended.reply c.requires.intended.intended.change
 
 pub lack-requires-in-NoSpace-clause-done : goal.lack-requires-in-NoSpace-clause-done
-lack-requires-in-NoSpace-clause-done g c = intended_is_done c.args.session.now.core.memory c.args.op c.requires.intended
+lack-requires-in-NoSpace-clause-done g c = intended_is_done c.args.session.now.core.memory c.args.client c.args.op c.requires.intended.reply c.requires.intended.intended
 
 pub returns-in-RingFull-clause-served : goal.returns-in-RingFull-clause-served
 returns-in-RingFull-clause-served g c =
     let memory = c.args.session.now.core.memory in
-    let refused = subst (λ (refusal : Refusal). IsRefused memory.volume (intended_by memory 0) true refusal) c.in-RingFull.is c.requires.refused in
+    let refused = subst (λ (refusal : Refusal). IsRefused memory.volume (intended_by memory c.args.client) true refusal) c.in-RingFull.is c.requires.refused in
     let helpless = subst (λ (refusal : Refusal). IsHelpless memory.volume (lacks_room refusal)) c.in-RingFull.is c.requires.helpless in
-    lack_result g.D.Devices.state c.lack-in-RingFull.result c.args.op c.nothing_short-in-RingFull.result c.args.session.now c.lack-in-RingFull.new.session
-    (ring_is_full memory c.args.op c.requires.intended c.in-RingFull.field-0 c.nothing_short-in-RingFull.result c.nothing_short-in-RingFull.ensures helpless refused) c.lack-in-RingFull.ensures.entered c.lack-in-RingFull.ensures.reply
+    lack_result g.D.Devices.state c.args.client c.lack-in-RingFull.result c.args.op c.nothing_short-in-RingFull.result c.args.session.now c.lack-in-RingFull.new.session
+    (ring_is_full memory c.args.client c.args.op c.requires.intended c.in-RingFull.field-0 c.nothing_short-in-RingFull.result c.nothing_short-in-RingFull.ensures helpless refused) c.lack-in-RingFull.ensures.entered c.lack-in-RingFull.ensures.reply
 
 pub returns-in-NoSpace-clause-served : goal.returns-in-NoSpace-clause-served
 returns-in-NoSpace-clause-served g c =
     let memory = c.args.session.now.core.memory in
-    let refused = subst (λ (refusal : Refusal). IsRefused memory.volume (intended_by memory 0) true refusal) c.in-NoSpace.is c.requires.refused in
+    let refused = subst (λ (refusal : Refusal). IsRefused memory.volume (intended_by memory c.args.client) true refusal) c.in-NoSpace.is c.requires.refused in
     let helpless = subst (λ (refusal : Refusal). IsHelpless memory.volume (lacks_room refusal)) c.in-NoSpace.is c.requires.helpless in
-    lack_result g.D.Devices.state c.lack-in-NoSpace.result c.args.op c.in-NoSpace.none.short c.args.session.now c.lack-in-NoSpace.new.session
-    (buckets_are_full memory c.args.op c.requires.intended c.in-NoSpace.none helpless refused) c.lack-in-NoSpace.ensures.entered c.lack-in-NoSpace.ensures.reply
+    lack_result g.D.Devices.state c.args.client c.lack-in-NoSpace.result c.args.op c.in-NoSpace.none.short c.args.session.now c.lack-in-NoSpace.new.session
+    (buckets_are_full memory c.args.client c.args.op c.requires.intended c.in-NoSpace.none helpless refused) c.lack-in-NoSpace.ensures.entered c.lack-in-NoSpace.ensures.reply
 
 pub returns-in-NeedSplit-clause-served : goal.returns-in-NeedSplit-clause-served
 returns-in-NeedSplit-clause-served g c =
     let memory = c.args.session.now.core.memory in
-    let refused = subst (λ (refusal : Refusal). IsRefused memory.volume (intended_by memory 0) true refusal) c.in-NeedSplit.is c.requires.refused in
-    lack_result g.D.Devices.state c.lack.result c.args.op c.nothing_short.result c.args.session.now c.lack.new.session
-    (leaf_is_full memory c.args.op c.requires.intended c.in-NeedSplit.field-0 c.nothing_short.result c.nothing_short.ensures refused) c.lack.ensures.entered c.lack.ensures.reply
+    let refused = subst (λ (refusal : Refusal). IsRefused memory.volume (intended_by memory c.args.client) true refusal) c.in-NeedSplit.is c.requires.refused in
+    lack_result g.D.Devices.state c.args.client c.lack.result c.args.op c.nothing_short.result c.args.session.now c.lack.new.session
+    (leaf_is_full memory c.args.client c.args.op c.requires.intended c.in-NeedSplit.field-0 c.nothing_short.result c.nothing_short.ensures refused) c.lack.ensures.entered c.lack.ensures.reply
 
 pub returns-in-Spent-clause-served : goal.returns-in-Spent-clause-served
 returns-in-Spent-clause-served g c =
     let memory = c.args.session.now.core.memory in
-    let refused = subst (λ (refusal : Refusal). IsRefused memory.volume (intended_by memory 0) true refusal) c.in-Spent.is c.requires.refused in
-    spent_served g.D.Devices.state c.args.op c.fail_spent.result c.args.session.now c.fail_spent.new.session c.fail_spent.ensures.reply (commit_is_spent memory c.args.op c.requires.intended refused) c.fail_spent.ensures.entered
+    let refused = subst (λ (refusal : Refusal). IsRefused memory.volume (intended_by memory c.args.client) true refusal) c.in-Spent.is c.requires.refused in
+    spent_served g.D.Devices.state c.args.client c.args.op c.fail_spent.result c.args.session.now c.fail_spent.new.session c.fail_spent.ensures.reply (commit_is_spent memory c.args.client c.args.op c.requires.intended refused) c.fail_spent.ensures.entered

@@ -7,5 +7,5 @@ use Rattle.volume.proofs.serving.lack.Goals as goal
 
 pub fail-requires-clause-failure : goal.fail-requires-clause-failure
 fail-requires-clause-failure g c =
-    subst (λ (reply : Reply). IsFailureNow c.args.session.now.core.memory 0 c.args.op reply) (sym c.in-Ok.ensures)
-    (change_fails c.args.session.now.core.memory c.args.op (NoSpace c.args.short) c.requires.change refl c.requires.done)
+    subst (λ (reply : Reply). IsFailureNow c.args.session.now.core.memory c.args.client c.args.op reply) (sym c.in-Ok.ensures)
+    (change_fails c.args.session.now.core.memory c.args.client c.args.op (NoSpace c.args.short) c.requires.changes refl c.requires.done)

@@ -8,6 +8,7 @@ use Rattle.node_store.specs.Faults.{node_fault_device}
 use Rattle.node_store.specs.declared.fault.NodeFault.{NodeFault}
 use Rattle.node_writeback.specs.NodeWrites.{WritesNodePart}
 use Rattle.core_state.specs.Devices.{WritesNode}
+use Rattle.core_state.specs.Events.{WriteSetGives}
 use Rattle.core_state.specs.States.{State}
 use Rattle.core_volume.specs.Volumes.{Volume, node_stage_of}
 use Rattle.core_actors.specs.declared.answer.Answer.TheVariants as answers
@@ -66,3 +67,11 @@ unreachable-requires-in-Err-NoMemory g c =
     let stage : c.node_stage.result ≡ WriteSet c.args.node = search rules in
     let some = some-left c.self.inside.volume c.args.node (sym c.node_stage.ensures ∙ stage) in
     no_want_of_memory c.self.inside.volume.work.unfinished c.in-Err-NoMemory.field-0 some c.in-Err-NoMemory.ensures.named c.in-Err-NoMemory.field-0-is
+
+pub returns-in-Ok-clause-gives : goal.returns-in-Ok-clause-gives
+returns-in-Ok-clause-gives g c =
+    let inside = c.self.inside in
+    let stage : c.node_stage.result ≡ WriteSet c.args.node = search rules in
+    let writes : inside.volume.halted ≡ None = search rules in
+    subst (λ (s : State). WriteSetGives c.args.node (g.D.Devices.state c.write_node.new.devices).moment s c.args.actor answers.Done (record { volume = c.write_node.new.self; actors = inside.actors.items; turn = inside.turn })) c.self.view_is
+    (record { writes = writes; stage_is = sym c.node_stage.ensures ∙ stage }, ap (λ (v : Volume). record { volume = v; actors = inside.actors.items; turn = inside.turn }) c.in-Ok.ensures.ok)

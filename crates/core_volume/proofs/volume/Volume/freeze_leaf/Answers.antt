@@ -1,5 +1,5 @@
 -- A leaf that is due is the only one of its btree, and what is written of it may stand; a volume in which it was frozen is kept.
-use Rattle.std.proofs.Common.{◌≡◌, ◌∙◌, Some, None, ap, arith, subst, sym}
+use Rattle.std.proofs.Common.{◌≡◌, ◌∙◌, ◌≤◌, ℕ, Some, None, ap, arith, subst, sym}
 use Rattle.std.specs.Prelude.{option_copied}
 use Rattle.std.specs.Ordering.{nat_cmp}
 use Rattle.birth_index.specs.Births.{levels_of}
@@ -7,13 +7,16 @@ use Rattle.btree_map.specs.Trees.{IsTrees, Trees}
 use Rattle.journal_writer.specs.Queues.{first_with}
 use Rattle.journal_writer.specs.declared.stage.Stage.TheVariants.{Freeze}
 use Rattle.node_writeback.specs.Due.{root_in}
-use Rattle.node_writeback.specs.Durable.{undurable}
-use Rattle.node_writeback.specs.Freezing.{HasBirth, fresh_leaf}
-use Rattle.node_writeback.specs.NodeWork.{with_frozen}
+use Rattle.node_writeback.specs.Durable.{durable_entries, undurable}
+use Rattle.node_writeback.specs.Freezing.{HasBirth, fresh_leaf, leaf_set, next_birth}
+use Rattle.node_writeback.specs.NodeWork.{IsFrozen, with_frozen}
+use Rattle.node_mem.specs.Nodes.{size_of}
+use Rattle.vol_types.specs.KeyMaps.{Entries}
+use Rattle.vol_types.specs.Limits.{node_limit}
 use Rattle.vol_types.specs.Maps.{put_at}
-use Rattle.core_volume.specs.Checkpoints.{due_in}
+use Rattle.core_volume.specs.Checkpoints.{IsLeafFrozen, IsNodeStage, due_in, durable_in}
 use Rattle.core_volume.specs.Volumes.{IsVolume, Volume, node_stage_of}
-use Rattle.core_volume.proofs.Frozen.{durable-stand, frozen-kept, idle-freezing, mirrors-few, passes}
+use Rattle.core_volume.proofs.Frozen.{due_birth, durable-stand, frozen-kept, idle-freezing, mirrors-few, passes}
 use Rattle.core_volume.proofs.volume.Volume.freeze_leaf.Goals as goal
 
 pub freeze_leaf-requires-clause-mirrors : goal.freeze_leaf-requires-clause-mirrors
@@ -60,3 +63,31 @@ invariant_of-self-2 c =
 
 pub returns-clause-sound : goal.returns-clause-sound
 returns-clause-sound c = invariant_of-self-2 c
+
+pub returns-clause-frozen : goal.returns-clause-frozen
+returns-clause-frozen c =
+    let inside = c.self.inside in
+    let old : Volume = record { layout = inside.layout; session = inside.session; trees = inside.keys; queue = inside.queue.queue; pins = inside.dirty.pins.numbers; marks = inside.dirty.marks.numbers; later = inside.dirty.later.numbers; space = inside.pool; writer = inside.writer; work = inside.nodes; emptied = inside.emptied; halted = inside.halted; changes = inside.changes } in
+    let btree = c.args.btree in
+    let node = c.args.node in
+    let made = c.in_ok-freeze_leaf.ensures in
+    let due : due_in old ≡ Some btree = subst (λ (v : Volume). due_in v ≡ Some btree) (sym c.self.view_is) c.requires.due in
+    let stage : node_stage_of old ≡ Freeze node = subst (λ (v : Volume). node_stage_of v ≡ Freeze node) (sym c.self.view_is) c.requires.stage.stage_is in
+    let root : (root_in c.map-3.result.now.nodes btree).birth ≡ node = ap (λ (t : Trees). (root_in t.nodes btree).birth) c.map-3.ensures ∙ due_birth old btree node due (idle-freezing old node stage) stage in
+    let durable : durable_entries (option_copied c.in_flight.result) inside.queue.queue c.map-3.result.now btree ≡ durable_in old btree = λ i. durable_entries (c.in_flight.ensures.entry i) inside.queue.queue (c.map-3.ensures i) btree in
+    let later = made.later ∙ (λ i. put_at nat_cmp (root i) (first_with btree (undurable (c.in_flight.ensures.entry i) inside.queue.queue)) inside.dirty.later.numbers) in
+    let fresh = fresh_leaf inside.session inside.nodes.born inside.layout.metadata_replicas inside.pool in
+    let birth = next_birth inside.session inside.nodes.born in
+    let now : Volume = record old { pins = c.freeze_leaf.new.dirty.pins.numbers; marks = c.freeze_leaf.new.dirty.marks.numbers; later = c.freeze_leaf.new.dirty.later.numbers; space = c.freeze_leaf.new.pool; work = c.freeze_leaf.new.nodes } in
+    subst (λ (v : Volume). IsLeafFrozen node v now) c.self.view_is
+    (record {
+      stage = subst (IsNodeStage (Freeze node)) (sym c.self.view_is) c.requires.stage;
+      btree = btree;
+      due = due;
+      birth = subst (λ (t : Trees). HasBirth inside.session inside.nodes.born t.nodes) c.map-3.ensures made.birth;
+      fits = subst (λ (es : Entries). size_of es ≤ node_limit) durable made.fits;
+      free = made.free;
+      frozen = subst (λ (es : Entries). IsFrozen inside.layout.id node fresh (leaf_set birth btree es) inside.nodes c.freeze_leaf.new.nodes) durable
+          (subst (λ (n : ℕ). IsFrozen inside.layout.id n fresh (leaf_set birth btree (durable_entries (option_copied c.in_flight.result) inside.queue.queue c.map-3.result.now btree)) inside.nodes c.freeze_leaf.new.nodes) root made.frozen);
+      rest = λ i. record old { pins = c.freeze_leaf.ensures.pins i; marks = c.freeze_leaf.ensures.marks i; later = later i; space = made.pool i; work = c.freeze_leaf.new.nodes };
+    })

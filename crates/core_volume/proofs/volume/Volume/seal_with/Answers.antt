@@ -1,9 +1,11 @@
-use Rattle.std.proofs.Common.{◌≡◌, ◌∙◌, ℕ, ◌+◌, None, ap, sym, subst}
+use Rattle.std.proofs.Common.{◌≡◌, ◌∙◌, ℕ, ◌+◌, List, None, ap, sym, subst}
 use Rattle.journal_writer.specs.Queues.{Queue, oldest, without_oldest}
 use Rattle.journal_writer.specs.declared.changes.Pending.{Pending}
-use Rattle.journal_writer.specs.Writers.{Writer, with_entry}
+use Rattle.journal_writer.specs.Writers.{IsSealed, Writer, with_entry}
+use Rattle.journal_writer.specs.declared.stage.Stage.TheVariants.{Seal}
 use Rattle.pin_list.specs.Pins.{smaller}
-use Rattle.core_volume.specs.Sealing.{oldest_needed}
+use Rattle.vol_types.specs.declared.pointers.NodePtr.{NodePtr}
+use Rattle.core_volume.specs.Sealing.{HasEntryNumbers, IsFlown, IsStage, oldest_needed, roots_in}
 use Rattle.core_volume.specs.Volumes.{IsVolume, Volume, needs_entry}
 use Rattle.core_volume.proofs.Written.{flown-kept, sealing_is_free}
 use Rattle.core_volume.proofs.volume.Volume.seal_with.Goals as goal
@@ -45,3 +47,21 @@ returns-in-Err-clause-err c =
 
 pub returns-in-Ok-clause-sound : goal.returns-in-Ok-clause-sound
 returns-in-Ok-clause-sound c = invariant_of-self c
+
+pub returns-in-Ok-clause-flown : goal.returns-in-Ok-clause-flown
+returns-in-Ok-clause-flown c =
+    let inside = c.self.inside in
+    let queue = inside.queue.queue in
+    let old : Volume = record { layout = inside.layout; session = inside.session; trees = inside.keys; queue = queue; pins = inside.dirty.pins.numbers; marks = inside.dirty.marks.numbers; later = inside.dirty.later.numbers; space = inside.pool; writer = inside.writer; work = inside.nodes; emptied = inside.emptied; halted = inside.halted; changes = inside.changes } in
+    let needed : c.oldest_needed-oldest.result ≡ oldest_needed old =
+    c.oldest_needed-oldest.ensures.exact ∙ ap (λ (entry : Pending). smaller (entry.after + 1) c.oldest.result) c.take_oldest-entry.ensures.taken ∙ ap (smaller ((oldest queue).after + 1)) c.oldest.ensures in
+    let roots : c.args.roots ≡ roots_in inside.keys.nodes = c.requires.roots ∙ ap (λ (v : Volume). roots_in v.trees.nodes) (sym c.self.view_is) in
+    subst (λ (v : Volume). IsFlown v (record old { queue = c.take_oldest-entry.new.self.queue; writer = c.seal.new.self })) c.self.view_is
+    (record {
+      stage = subst (IsStage Seal) (sym c.self.view_is) c.requires.stage;
+      numbers = subst HasEntryNumbers (sym c.self.view_is) c.requires.numbers;
+      sealed = subst (λ (rs : List NodePtr). IsSealed (oldest queue) (oldest_needed old) inside.session rs inside.writer c.seal.new.self) roots
+          (subst (λ (n : ℕ). IsSealed (oldest queue) n inside.session c.args.roots inside.writer c.seal.new.self) needed
+          (subst (λ (entry : Pending). IsSealed entry c.oldest_needed-oldest.result inside.session c.args.roots inside.writer c.seal.new.self) c.take_oldest-entry.ensures.taken c.in-Ok.ensures.ok));
+      rest = λ i. record old { queue = c.take_oldest-entry.ensures.left i; writer = c.seal.new.self };
+    })

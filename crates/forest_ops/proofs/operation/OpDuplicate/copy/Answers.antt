@@ -1,5 +1,5 @@
 use Rattle.std.proofs.Common.{sym, ap, ◌∙◌}
-use Rattle.forest_ops.specs.declared.operation.Op.TheVariants.{Mkdir, Mkfile, Trunc, Read, Ls, Stat, Unlink, Rmdir, Subvol, Delsub, Fsync}
+use Rattle.forest_ops.specs.declared.operation.Op.TheVariants.{Mkdir, Mkfile, Write, Trunc, Read, Ls, Stat, Link, Unlink, Rmdir, Rename, Subvol, Snap, Delsub, Fsync}
 use Rattle.forest_ops.proofs.operation.OpDuplicate.copy.Goals as goal
 
 pub returns-in_ok-copy-in-Mkdir : goal.returns-in_ok-copy-in-Mkdir
@@ -34,3 +34,15 @@ returns-in_ok-copy-in-Delsub c = ap Delsub c.in_ok-copy-in-Delsub.ensures ∙ sy
 
 pub returns-in_ok-copy-in-Fsync : goal.returns-in_ok-copy-in-Fsync
 returns-in_ok-copy-in-Fsync c = ap Fsync c.in_ok-copy-in-Fsync.ensures ∙ sym c.in-Fsync.is
+
+pub returns-in_ok-path-in-Write : goal.returns-in_ok-path-in-Write
+returns-in_ok-path-in-Write c = (λ i. Write (c.in_ok-path-in-Write.ensures.one i) c.in-Write.offset (c.in_ok-path-in-Write.ensures.other i)) ∙ sym c.in-Write.is
+
+pub returns-in_ok-from-in-Link : goal.returns-in_ok-from-in-Link
+returns-in_ok-from-in-Link c = (λ i. Link (c.in_ok-from-in-Link.ensures.one i) (c.in_ok-from-in-Link.ensures.other i)) ∙ sym c.in-Link.is
+
+pub returns-in_ok-from-in-Rename : goal.returns-in_ok-from-in-Rename
+returns-in_ok-from-in-Rename c = (λ i. Rename (c.in_ok-from-in-Rename.ensures.one i) (c.in_ok-from-in-Rename.ensures.other i)) ∙ sym c.in-Rename.is
+
+pub returns-in_ok-source-in-Snap : goal.returns-in_ok-source-in-Snap
+returns-in_ok-source-in-Snap c = (λ i. Snap (c.in_ok-source-in-Snap.ensures.one i) (c.in_ok-source-in-Snap.ensures.other i) c.in-Snap.locked) ∙ sym c.in-Snap.is

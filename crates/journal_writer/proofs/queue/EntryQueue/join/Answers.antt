@@ -1,6 +1,5 @@
-use Rattle.std.proofs.Common.{◌∷◌, ◌++◌, [], ◌∙◌, List, ap, sym}
-use Rattle.vol_types.specs.declared.keys.Update.{Update}
-use Rattle.journal_writer.specs.Queues.{EntryRoom, QueueRoom, closes}
+use Rattle.std.proofs.Common.{◌∷◌, ◌++◌, [], ◌∙◌, ap, sym}
+use Rattle.journal_writer.specs.Queues.{EntryRoom, QueueRoom}
 use Rattle.journal_writer.specs.declared.changes.Pending.{Pending}
 use Rattle.journal_writer.proofs.Joining.{closing_kept, open_kept}
 use Rattle.journal_writer.proofs.queue.EntryQueue.join.Goals as goal
@@ -8,13 +7,13 @@ use Rattle.journal_writer.proofs.queue.EntryQueue.join.Goals as goal
 pub invariant_of-self : goal.invariant_of-self
 invariant_of-self c =
     closing_kept c.args.changes c.args.counted _ c.args.self.now.queue (ap (λ (v : QueueRoom). v.queue) c.self.view_is) c.self.invariant c.requires.changes c.requires.numbers
-    (ap (λ (us : List Update). closes us c.args.self.now.queue) (sym c.as_slice.ensures) ∙ sym c.closes.ensures ∙ c.if-closes.true)
+    (sym c.requires.size.new_entry ∙ c.if-size.true)
     c.push.new.entries.items c.replace-full.new.dest.entry
     (c.push.ensures ∙ ap (λ (e : Pending). c.self.inside.closed.items ++ e ∷ []) (c.close.ensures ∙ ap (λ (r : EntryRoom). r.entry) c.replace-full.ensures.value))
     (ap (λ (r : EntryRoom). r.entry) c.replace-full.ensures.after ∙ c.follower-next.ensures)
 
-pub invariant_of-self-else-closes : goal.invariant_of-self-else-closes
-invariant_of-self-else-closes c =
+pub invariant_of-self-else-size : goal.invariant_of-self-else-size
+invariant_of-self-else-size c =
     open_kept c.args.changes c.args.counted _ c.args.self.now.queue (ap (λ (v : QueueRoom). v.queue) c.self.view_is) c.self.invariant c.requires.changes c.requires.numbers
-    (ap (λ (us : List Update). closes us c.args.self.now.queue) (sym c.as_slice.ensures) ∙ sym c.closes.ensures ∙ c.if-closes.false)
+    (sym c.requires.size.new_entry ∙ c.if-size.false)
     c.add.new.self.entry c.add.ensures

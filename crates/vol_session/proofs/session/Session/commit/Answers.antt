@@ -1,32 +1,34 @@
-use Rattle.std.proofs.Common.{[], ◌∷◌, ◌++◌, ◌+◌, ◌∙◌, refl, ap, sym, subst}
+use Rattle.std.proofs.Common.{[], ◌∷◌, ◌++◌, ◌+◌, ◌∙◌, true, refl, ap, sym, subst}
 use Rattle.core_state.specs.Events.{intended_by}
 use Rattle.core_volume.specs.Volumes.{IsVolume, KeepParts}
+use Rattle.vol_session.proofs.NextEntries.{commit_is_unsynced}
 use Rattle.vol_session.proofs.SessionInvariant.{committed, stays, uncommitted}
+use Rattle.vol_session.specs.Marks.{forest_found}
 use Rattle.vol_session.specs.Sessions.{IsPlanNow, IsSession, IsUncommitted}
 use Rattle.vol_session.proofs.session.Session.commit.Goals as goal
 
 pub invariant_of-self : goal.invariant_of-self
 invariant_of-self g c =
     subst (λ trace. IsSession g.D.Devices.tells g.O.Opening.found g.O.Opening.start (g.D.Devices.state c.step-given.new.self.devices) c.step-given.new.self.memory trace c.self.inside.acks.members (c.self.inside.commits + 1)) (sym c.push.ensures.members)
-    (subst (λ state. IsSession g.D.Devices.tells g.O.Opening.found g.O.Opening.start state c.step-given.new.self.memory (c.self.inside.trace.members ++ record { client = 0; op = c.args.op; reply = c.args.reply } ∷ []) c.self.inside.acks.members (c.self.inside.commits + 1))
+    (subst (λ state. IsSession g.D.Devices.tells g.O.Opening.found g.O.Opening.start state c.step-given.new.self.memory (c.self.inside.trace.members ++ record { client = c.args.client; op = c.args.op; reply = c.args.reply } ∷ []) c.self.inside.acks.members (c.self.inside.commits + 1))
     (sym (ap g.D.Devices.state c.in-Done.ensures.gives.1))
-    (committed g.D.Devices.tells g.O.Opening.found g.O.Opening.start (g.D.Devices.state c.self.inside.core.devices) c.self.inside.core.memory c.self.inside.trace.members c.self.inside.acks.members c.self.inside.commits c.self.invariant c.args.op c.args.reply
-    c.requires.planned c.requires.unsynced c.waiting_changes_lead_from_durable_keys.ensures.joined c.step-given.new.self.memory (subst (λ memory. IsVolume memory.volume) c.memory.ensures.memory c.see_kept.ensures.kept.volume) (subst (λ memory. KeepParts memory.volume) c.memory.ensures.memory c.see_kept.ensures.parts) c.in-Done.ensures.gives.0 c.requires.commits
-    (subst (λ self. IsPlanNow self.core.memory 0 (record { op = c.args.op; updates = intended_by self.core.memory 0; reply = c.args.reply })) (sym c.self.view_is) c.requires.plan)))
+    (committed g.D.Devices.tells g.O.Opening.found g.O.Opening.start (g.D.Devices.state c.self.inside.core.devices) c.self.inside.core.memory c.self.inside.trace.members c.self.inside.acks.members c.self.inside.commits c.self.invariant c.args.client c.args.op c.args.reply
+    c.requires.planned (commit_is_unsynced c.args.op c.args.reply (forest_found g.O.Opening.found g.O.Opening.start) (c.requires.commits (forest_found g.O.Opening.found g.O.Opening.start))) c.waiting_changes_lead_from_durable_keys.ensures.joined c.step-given.new.self.memory (subst (λ memory. IsVolume memory.volume) c.memory.ensures.memory c.see_kept.ensures.kept.volume) (subst (λ memory. KeepParts memory.volume) c.memory.ensures.memory c.see_kept.ensures.parts) c.in-Done.ensures.gives.0 c.requires.commits
+    (subst (λ self. IsPlanNow self.core.memory c.args.client (record { op = c.args.op; updates = intended_by self.core.memory c.args.client; reply = c.args.reply; commits = true })) (sym c.self.view_is) c.requires.plan)))
 
 pub invariant_of-self-in_default : goal.invariant_of-self-in_default
 invariant_of-self-in_default g c =
     subst (λ state. IsSession g.D.Devices.tells g.O.Opening.found g.O.Opening.start state c.step-given.new.self.memory c.self.inside.trace.members c.self.inside.acks.members c.self.inside.commits)
     (sym (ap g.D.Devices.state c.step-given.ensures.gives.1))
     (stays g.D.Devices.tells g.O.Opening.found g.O.Opening.start (g.D.Devices.state c.self.inside.core.devices) c.self.inside.core.memory c.step-given.new.self.memory c.self.inside.trace.members c.self.inside.acks.members c.self.inside.commits
-    (uncommitted c.self.inside.core.memory c.step-given.new.self.memory 0 c.step-given.result c.in_default.not-Done c.step-given.ensures.gives.0).1 c.self.invariant)
+    (uncommitted c.self.inside.core.memory c.step-given.new.self.memory c.args.client c.step-given.result c.in_default.not-Done c.step-given.ensures.gives.0).1 c.self.invariant)
 
 pub returns-in_default : goal.returns-in_default
 returns-in_default g c =
-    let not_made = (uncommitted c.self.inside.core.memory c.step-given.new.self.memory 0 c.step-given.result c.in_default.not-Done c.step-given.ensures.gives.0).0 in
+    let not_made = (uncommitted c.self.inside.core.memory c.step-given.new.self.memory c.args.client c.step-given.result c.in_default.not-Done c.step-given.ensures.gives.0).0 in
     record {
       made = tt;
       entry = tt;
-      err = (subst (λ self. IsUncommitted self.core.memory 0 c.step-given.result c.step-given.new.self.memory) c.self.view_is not_made, refl, refl, λ i. record (c.self.view_is i) { core = c.step-given.new.self });
+      err = (subst (λ self. IsUncommitted self.core.memory c.args.client c.step-given.result c.step-given.new.self.memory) c.self.view_is not_made, refl, refl, λ i. record (c.self.view_is i) { core = c.step-given.new.self });
       devices = c.step-given.ensures.gives.1 ∙ (λ i. (c.self.view_is i).core.devices);
     }

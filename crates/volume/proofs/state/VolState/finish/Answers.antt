@@ -1,21 +1,33 @@
-use Rattle.std.proofs.Common.{◌≡◌, ◌∙◌, ap, subst, sym}
+use Rattle.std.proofs.Common.{◌≡◌, List, subst, sym}
 use Rattle.forest_ops.specs.History.{EachEntry, History, IsLegal}
 use Rattle.forest_ops.specs.Failures.{NoCommitAfterHalt}
 use Rattle.vol_session.specs.Marks.{forest_found}
-use Rattle.vol_session.specs.Sessions.{IsExact, SessionState}
+use Rattle.forest_ops.specs.declared.acks.Ack.{Ack}
+use Rattle.vol_session.specs.Sessions.{IsExact}
+use Rattle.vol_session.specs.Survivors.{Survive}
 use Rattle.volume.proofs.state.VolState.finish.Goals as goal
 
 pub returns-clause-no_commit : goal.returns-clause-no_commit
 returns-clause-no_commit g c =
-    let same : c.into_parts-devices.result.1 ≡ c.self.inside.session.trace = c.into_parts-devices.ensures.trace ∙ ap (λ (s : SessionState g.row.D.Denot). s.trace) c.halt_of-halted.ensures.rest in
+    let same : c.into_parts-devices.result.1 ≡ c.self.inside.session.trace = c.into_parts-devices.ensures.trace in
     subst (λ (trace : History). NoCommitAfterHalt (forest_found g.O.Opening.found g.O.Opening.start) trace) (sym same) c.self.invariant.failures.no_commit
 
 pub returns-clause-legal : goal.returns-clause-legal
 returns-clause-legal g c = λ tells begins.
-    let same : c.into_parts-devices.result.1 ≡ c.self.inside.session.trace = c.into_parts-devices.ensures.trace ∙ ap (λ (s : SessionState g.row.D.Denot). s.trace) c.halt_of-halted.ensures.rest in
+    let same : c.into_parts-devices.result.1 ≡ c.self.inside.session.trace = c.into_parts-devices.ensures.trace in
     subst (λ (trace : History). IsLegal (forest_found g.O.Opening.found g.O.Opening.start) trace) (sym same) (c.see_history.ensures.legal tells begins)
 
 pub returns-clause-exact : goal.returns-clause-exact
 returns-clause-exact g c = λ tells begins.
-    let same : c.into_parts-devices.result.1 ≡ c.self.inside.session.trace = c.into_parts-devices.ensures.trace ∙ ap (λ (s : SessionState g.row.D.Denot). s.trace) c.halt_of-halted.ensures.rest in
+    let same : c.into_parts-devices.result.1 ≡ c.self.inside.session.trace = c.into_parts-devices.ensures.trace in
     subst (λ (trace : History). EachEntry (IsExact (forest_found g.O.Opening.found g.O.Opening.start)) trace) (sym same) (c.see_history.ensures.exact tells begins)
+
+pub returns-clause-survives : goal.returns-clause-survives
+returns-clause-survives g c = λ tells begins.
+    let found = g.O.Opening.found in
+    let start = g.O.Opening.start in
+    let parts = c.into_parts-devices.result in
+    let same = c.into_parts-devices.ensures in
+    subst (λ (devices : g.row.D.Denot). Survive found start (g.D.Devices.state devices) parts.1 parts.2) (sym same.devices)
+    (subst (λ (trace : History). Survive found start (g.D.Devices.state c.self.inside.session.core.devices) trace parts.2) (sym same.trace)
+    (subst (λ (acks : List Ack). Survive found start (g.D.Devices.state c.self.inside.session.core.devices) c.self.inside.session.trace acks) (sym same.acks) (c.see_history.ensures.survive tells begins)))

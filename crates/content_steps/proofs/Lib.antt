@@ -1,0 +1,11 @@
+pub mod Apart
+pub mod Blocks
+pub mod Bytes
+pub mod Chain
+pub mod Ends
+pub mod Expanded
+pub mod Following
+pub mod Planned
+pub mod Same
+pub mod Stamped
+pub mod Written

@@ -1,6 +1,0 @@
-use Rattle.std.proofs.Common.{map, take}
-use Rattle.tree_keys.specs.PlanLaws.{IsPlanning}
-use Rattle.tree_keys.proofs.TreeKeys.plan.Given as goal
-
-abbrev pub invariant-loop-change : goal.invariant-loop-change
-invariant-loop-change g l = IsPlanning l.self.entries (map g.C.Change.key (take l.change-index l.changes)) l.last.entries l.before
