@@ -1,7 +1,7 @@
 -- Why no command was begun, and with which status the program then ends.
 use Rattle.std.specs.Prelude.{ℕ}
-use Rattle.file_devices.specs.declared.devices.OpenFault.{OpenFault}
-use Rattle.file_devices.specs.declared.devices.OpenFault.TheVariants.{Device, NoMemory}
+use Rattle.file_devices.specs.declared.trouble.OpenFault.{OpenFault}
+use Rattle.file_devices.specs.declared.trouble.OpenFault.TheVariants.{Device, NoMemory}
 use Rattle.bvol.specs.declared.refusal.NotBegun.{NotBegun}
 use Rattle.bvol.specs.declared.refusal.NotBegun.TheVariants.{Usage, NotText, Device as NoDevice, Memory}
 

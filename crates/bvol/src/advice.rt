@@ -55,7 +55,7 @@ fn line_text(fault: LineFault) -> &'static str {
         LineFault::BadPath => {
             "has no path like main:/NAME where one is wanted, or a bad escape in a name"
         }
-        LineFault::BadClient => "is for another client than `@0`, and `run` has no other yet",
+        LineFault::BadClient => "begins with `@`, but not with one of `@0` to `@15` and a space",
     }
 }
 

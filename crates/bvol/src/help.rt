@@ -24,12 +24,13 @@ example:
   touch a.img b.img
   bvol format --id 00000000-0000-4000-8000-000000000001 --blocks 1024 \\
     --meta-replicas 2 -- a.img b.img
-  printf 'mkfile main:/a\\nls main:/\\n' | bvol run -- a.img b.img
+  printf 'mkdir main:/d\\nmkfile main:/d/a\\nls main:/d\\n' | bvol run -- a.img b.img
 prints
   formatted 00000000-0000-4000-8000-000000000001 devices 2 blocks 1024 journal 256
   @0 1 ok
-  @0 2 list a
-  end commits 1 synced 1
+  @0 2 ok
+  @0 3 list a
+  end commits 2 synced 2
 ";
 
 /// What `bvol help format` prints.
@@ -143,32 +144,54 @@ line changes nothing, nor does a run whose volume isn't mounted. Whenever the ru
 is killed, or the machine crashes, the IMAGEs have the volume after some first
 part of its commits, with all that a `sync` had acknowledged.
 
-A volume has one directory today. It takes up to 1,397 files, of whose names each
-counts its bytes and 32 more, 47,560 bytes in all.
+A volume's btrees are one node each today, which bounds it: up to 1,397 files
+and directories, of whose names each counts its bytes and 32 more, 47,560 bytes
+in all. A file whose last name is unlinked leaves a note, which isn't cleared yet:
+up to 2,264 of these fit.
 
 script lines, each ended by a line feed:
-  mkfile main:/NAME    make an empty file in the root of the subvolume main
-  ls main:/            list the names in that root, in order of their bytes
+  mkdir P              make an empty directory
+  mkfile P             make an empty file
+  link P Q             give the file P the further name Q
+  unlink P             take a name of a file away, and the file with its last one
+  rmdir P              remove an empty directory
+  rename P Q           move the file or directory P to Q, which must not be there
+  ls P                 list a directory, its names in order of their bytes
+  stat P               say what stands at P
   sync                 make all commits so far durable
+  fsync P              the same, where something stands at P
   barrier              nothing yet: lines run one after the other anyhow
   # TEXT               a comment; it is skipped, as an empty line is
-A NAME has 1 to 255 bytes. Each stands for itself if it is from ! to ~ but neither
-/ nor %, or above 127; any other is % and two hex digits, as %20 for a space. One
-space stands between two words, and nowhere else. `@0` may stand before a verb.
+P and Q are paths: main:/ is the root of the subvolume main, and main:/a/b the
+name b in its directory a; at most 32 names. `..` and `.` aren't names. A name has
+1 to 255 bytes. Each stands for itself if it is from ! to ~ but neither / nor %,
+or above 127; any other is % and two hex digits, as %20 for a space. One space
+stands between two words, and nowhere else. `@C `, with C from 0 to 15, may stand
+before a verb: the line is client C's, who draws inode numbers of its own.
 
-replies, one a line, with the client (0) and the number of the script's line:
+replies, one a line, with the client and the number of the script's line:
   @0 1 ok                    done
-  @0 2 list a b              the names
-  @0 3 ok 2                  two commits of this run are on the disks, by `sync`
-  @0 3 err exists            the name is there already
-  @0 3 err bad-path          the name is too long, or has a byte that no name has
+  @0 2 list a b d/           the names; a directory's has / after it
+  @0 3 file 2 0 1            a file: its inode number, its bytes, its names
+  @0 3 dir 1 3               a directory: its inode number, its names
+  @0 4 ok 2                  two commits of this run are on the disks, by `sync`
+                             or `fsync`
+  @0 3 err exists            the new name is there already, or is a root
+  @0 3 err bad-path          a name is too long, or has a byte that no name has;
+                             or a path has more than 32 names
   @0 3 err no-subvolume      no subvolume has that name; today all is in main
-  @0 3 err not-found         there is no such directory on the path
+  @0 3 err not-found         a name on the path isn't there
   @0 3 err not-dir           a file stands where a directory should
-  @0 3 err no-space need 0   the volume takes no further file
+  @0 3 err is-dir            a directory stands where a file should
+  @0 3 err not-empty         the directory has names
+  @0 3 err loop              a directory can't be moved below itself, and a root
+                             neither moved nor removed
+  @0 3 err cross             the two paths name different subvolumes
+  @0 3 err links-full        the file has 255 names
+  @0 3 err no-space need 0   the volume has no room for this change
   @0 3 err device 0          file 0 couldn't be written, and the run halts: from
                              here on it changes and writes nothing
-  @0 4 err halted 0          it has halted; `ls` goes on
+  @0 4 err halted 0          it has halted; `ls` and `stat` go on
   @0 3 err no-memory         out of memory
 The last line is `end commits N synced M`: the run made N commits, and M of them
 are known to be on the disks.
@@ -179,7 +202,7 @@ exit status:
   2  error 2 line L bad-verb: line L has none of the verbs above
      error 2 line L bad-args: it has too few words, or too many
      error 2 line L bad-path: it has no path where one belongs
-     error 2 line L bad-client: it is for another client than @0
+     error 2 line L bad-client: it begins with @, and not with @0 to @15
      error 2 too-long: the script has more than 16 MiB
   3  mount refused 1: a file has no superblock, so it isn't formatted
      mount refused 2: a superblock has another version
@@ -203,10 +226,13 @@ example:
   touch a.img b.img
   bvol format --id 00000000-0000-4000-8000-000000000001 --blocks 1024 \\
     --meta-replicas 2 -- a.img b.img
-  printf 'mkfile main:/a\\nls main:/\\n' | bvol run -- a.img b.img
+  printf 'mkdir main:/d\\nmkfile main:/d/a\\nls main:/d\\nstat main:/d/a\\n' \\
+    | bvol run -- a.img b.img
 prints
   formatted 00000000-0000-4000-8000-000000000001 devices 2 blocks 1024 journal 256
   @0 1 ok
-  @0 2 list a
-  end commits 1 synced 1
+  @0 2 ok
+  @0 3 list a
+  @0 4 file 3 0 1
+  end commits 2 synced 2
 ";

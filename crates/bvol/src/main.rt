@@ -115,11 +115,6 @@ fn run_over<R: Files<File = File> + Env + AllocGlobal + Print + Eprint, I: Read,
     }
     let task = judge_arguments(alloc, arguments, count_of(images))?;
     let mut devices = open_devices(rt, alloc, images)?;
-    if let Err(fault) = devices.lock() {
-        drop(devices);
-        drop(task);
-        return Err(NotBegun::from(fault));
-    }
     say_what_is_lost(rt, &task, &mut devices, images);
     let ended = run_task(rt, alloc, task, source, sink, devices, &NoGate);
     let status = ended.status;

@@ -1,4 +1,5 @@
-ghost use Rattle.std.specs.Prelude.{◌≡◌, ◌<◌, length};
+ghost use Rattle.std.specs.Prelude.{◌<◌, length};
+ghost use Rattle.dev_model.specs.Frames.{AreOnlyRead};
 
 use command_line::id_text;
 use dev_model::Devices;
@@ -29,14 +30,14 @@ impl fmt::Display for Overwritten<'_> {
 }
 
 /// Says on standard error of which volumes the images hold parts that a format writes over. It reads two blocks of each at most, and
-/// none where the task is another.
+/// none where the task is another; nothing is written.
 pub fn say_what_is_lost<R: Eprint, D: Devices>(
     rt: &R,
     task: &Task,
     devices: &mut D,
     images: &[RcStr],
 )
-    ensures { (D.state devices.new).sizes ≡ (D.state devices.old).sizes }
+    ensures { AreOnlyRead D.tells (D.state devices.old) (D.state devices.new) }
 {
     let Task::Format(_) = task else {
         return;
@@ -55,7 +56,7 @@ pub fn say_what_is_lost<R: Eprint, D: Devices>(
 // The id of the volume of which a device holds a part, as one of its two superblocks names it. It reads two blocks at most.
 fn volume_on<D: Devices>(devices: &mut D, dev: u8) -> Option<[u8; 16]>
     requires { dev < length (D.state devices.old).sizes }
-    ensures { (D.state devices.new).sizes ≡ (D.state devices.old).sizes }
+    ensures { AreOnlyRead D.tells (D.state devices.old) (D.state devices.new) }
 {
     match volume_in(devices, dev, 0) {
         Some(id) => Some(id),
@@ -66,7 +67,7 @@ fn volume_on<D: Devices>(devices: &mut D, dev: u8) -> Option<[u8; 16]>
 // The id that a block names, where it is a superblock.
 fn volume_in<D: Devices>(devices: &mut D, dev: u8, block: u32) -> Option<[u8; 16]>
     requires { dev < length (D.state devices.old).sizes }
-    ensures { (D.state devices.new).sizes ≡ (D.state devices.old).sizes }
+    ensures { AreOnlyRead D.tells (D.state devices.old) (D.state devices.new) }
 {
     if block >= devices.blocks(dev) {
         return None;

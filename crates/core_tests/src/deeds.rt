@@ -6,7 +6,8 @@ ghost use Rattle.replay.specs.Volumes.{found_in};
 
 use crate::failing::{Failing, NEVER, loaded_from};
 use crate::volumes::{
-    Names, count_numbered, ended, formatted_by, is_made, is_made_by, is_synced, list, make_file,
+    Ask, Names, Told, count_numbered, ended, formatted_by, is_made, is_made_by, is_synced, is_told,
+    list, make_file,
 };
 use dev_model::{Devices, MemDevices};
 use forest_ops::{Op, Reply};
@@ -25,6 +26,8 @@ pub enum Deed {
     Make(Names, u64),
     /// This client, below 16, makes two files, of this number and the next.
     MakeBy(u8, u64),
+    /// This client, below 16, asks for this and is told that.
+    Tell(u8, Ask, Told),
     /// So many files are made, each with a sync.
     MakeEach(Names, u64),
     /// A sync acknowledges so many commits.
@@ -246,6 +249,7 @@ fn is_done<D: Devices, O: Opening>(
     match deed {
         Deed::Make(names, count) => are_made(alloc, volume, names, count),
         Deed::MakeBy(client, first) => are_made_by(alloc, volume, client, first),
+        Deed::Tell(client, ask, told) => client < 16 && is_told(alloc, volume, client, ask, told),
         Deed::MakeEach(names, count) => are_synced(alloc, volume, names, count),
         Deed::Sync(commits) => is_synced(volume, commits),
         Deed::Count(count) => count_numbered(alloc, volume) == Some(count),

@@ -3,7 +3,7 @@
 ghost use Rattle.std.specs.Prelude.{◌≡◌, ◌<◌, true};
 
 use dev_model::{Devices, MemDevices};
-use forest_ops::{Op, Reply};
+use forest_ops::{Cause, Op, Reply};
 use plain_forest::Path;
 use std::alloc::{AllocError, Global};
 use std::test::Fail;
@@ -200,6 +200,74 @@ pub fn is_made<D: Devices, O: Opening>(
     number: u64,
 ) -> bool {
     is_made_by(alloc, volume, 0, names, number)
+}
+
+/// What a client asks for: that the file of this number is made, that it is made durable, or that all is.
+#[derive(Clone, Copy)]
+pub enum Ask {
+    Make(u64),
+    Fsync(u64),
+    Sync,
+}
+
+/// What it is told, of a device where one fails now or has failed before.
+#[derive(Clone, Copy)]
+pub enum Told {
+    Done,
+    Synced(u64),
+    Refused(Cause),
+    Failed(u8),
+    Halted(u8),
+}
+
+// The reply to what a client asks for, of files named by `Names::Numbered`.
+fn reply_to<D: Devices, O: Opening>(
+    alloc: Global,
+    volume: &mut VolState<D, O>,
+    client: u8,
+    ask: Ask,
+) -> Result<Reply, AllocError>
+    requires { client < 16 }
+{
+    match ask {
+        Ask::Make(number) => make_file_by(alloc, volume, client, Names::Numbered, number),
+        Ask::Fsync(number) => {
+            let path = path_of(alloc, Names::Numbered, number)?;
+            volume.call(client, Op::Fsync { path })
+        }
+        Ask::Sync => volume.call(client, Op::Sync),
+    }
+}
+
+// Whether a reply says this.
+fn says(reply: &Reply, told: Told) -> bool {
+    match told {
+        Told::Done => matches!(reply, Reply::Okay),
+        Told::Synced(count) => matches!(reply, Reply::Synced(commits) if *commits == count),
+        Told::Refused(why) => matches!(reply, Reply::Refused(cause) if *cause == why),
+        Told::Failed(device) => matches!(reply, Reply::DeviceFault(dev) if *dev == device),
+        Told::Halted(device) => matches!(reply, Reply::Halted { dev, .. } if *dev == device),
+    }
+}
+
+/// Whether a client that asks for this is told so.
+pub fn is_told<D: Devices, O: Opening>(
+    alloc: Global,
+    volume: &mut VolState<D, O>,
+    client: u8,
+    ask: Ask,
+    told: Told,
+) -> bool
+    requires { client < 16 }
+{
+    match reply_to(alloc, volume, client, ask) {
+        Ok(reply) => {
+            let is_told = says(&reply, told);
+            drop(reply);
+            is_told
+        }
+        Err(_) => false,
+    }
 }
 
 /// Whether all commits are made durable, so many in all.

@@ -45,7 +45,7 @@ abbrev pub durable_in : Volume → Btree → Entries
 durable_in volume btree = durable_entries (in_flight volume.writer.flight) volume.queue volume.trees btree
 
 -- The leaf of this birth is frozen: it is the only one of its btree, and what the btree has by durable entries alone is what is written of it, into
--- the first free bucket of each metadata device, under the next birth of the session. Nothing else has changed, but that the first entry
+-- the first free bucket of each metadata device, under the next birth of the session, with the sequence of the last durable entry. Nothing else has changed, but that the first entry
 -- that isn't durable and changes it is noted.
 pub record IsLeafFrozen (node : ℕ) (old new : Volume) : Type 0 where
   pub stage : IsNodeStage (stages.Freeze node) old
@@ -54,7 +54,7 @@ pub record IsLeafFrozen (node : ℕ) (old new : Volume) : Type 0 where
   pub birth : HasBirth old.session old.work.born old.trees.nodes
   pub fits : size_of (durable_in old btree) ≤ node_limit
   pub free : have_free old.layout.metadata_replicas old.space ≡ true
-  pub frozen : IsFrozen old.layout.id node (fresh_leaf old.session old.work.born old.layout.metadata_replicas old.space) (leaf_set (next_birth old.session old.work.born) btree (durable_in old btree)) old.work new.work
+  pub frozen : IsFrozen old.layout.id old.writer.durable.sequence node (fresh_leaf old.session old.work.born old.layout.metadata_replicas old.space) (leaf_set (next_birth old.session old.work.born) btree (durable_in old btree)) old.work new.work
   pub rest : new ≡ record old {
     later = put_at nat_cmp node (first_with btree (undurable_in old)) old.later;
     space = noded old.layout.metadata_replicas old.space;

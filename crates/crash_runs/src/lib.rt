@@ -20,6 +20,8 @@ mod longer_script;
 #[cfg(test)]
 mod mending;
 #[cfg(test)]
+mod name_crashes;
+#[cfg(test)]
 mod session_numbers;
 #[cfg(test)]
 mod source_pieces;

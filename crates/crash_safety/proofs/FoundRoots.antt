@@ -6,7 +6,7 @@ use Rattle.std.specs.List.{AllByRecursion, flat_map}
 use Rattle.std.specs.Prelude.{All, Contains, IfSome, slice_get}
 use Rattle.dev_model.specs.Devices.{DevicesState, now}
 use Rattle.dev_model.specs.Disk.{Image, as_read, block_at}
-use Rattle.image_view.specs.BaseLaws.{found-trees}
+use Rattle.image_view.specs.BaseLaws.{found-mirrored, found-trees}
 use Rattle.image_view.specs.Found.{Found, IsAlike, IsMirrored, found, sets_in, updates_of}
 use Rattle.image_view.specs.NewNodes.{AreLeafRoots, leaf_trees, root_end, wanted_root}
 use Rattle.image_view.specs.Trees.{SetsOf, TreesRead, nodes_of, with_roots}
@@ -127,7 +127,7 @@ module _ (laws : FoundLaws) (f : Found) (state : DevicesState) (mended : HasMend
     each = λ btree root at. record {
       leaf = leaf_at btree root at;
       reads = leaf_roots.each btree root at;
-      mirrored = all_at (IsMirrored f.layout) roots (subst (All (IsMirrored f.layout)) nodes_are on.order.places) (btree_code btree) root at;
+      mirrored = all_at (IsMirrored f.layout) roots (subst (All (IsMirrored f.layout)) nodes_are (found-mirrored image f on.on.finds)) (btree_code btree) root at;
       alike = has_end btree root at (all_at (IsAlike f image) roots (subst (All (IsAlike f image)) nodes_are on.order.copies) (btree_code btree) root at);
       born = all_at (λ (r : NodePtr). r.birth < (f.session + 1) * 2 ^ 32) roots (subst (All (λ (r : NodePtr). r.birth < (f.session + 1) * 2 ^ 32)) nodes_are on.order.births) (btree_code btree) root at;
       placed = each_places (IsNodePlaced f.layout) roots (subst (λ (ns : List NodePtr). All (IsNodePlaced f.layout) (flat_map (λ (r : NodePtr). r.places) ns)) nodes_are on.on.placed.each) (btree_code btree) root at;

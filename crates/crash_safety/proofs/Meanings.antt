@@ -82,7 +82,6 @@ module _ (laws : ImageLaws) (f : Found) (image : Image) (finds : found image ≡
           others = λ x parts made. order.others x parts (laws.same_made f.layout (area_of other) (area_of image) x parts some (λ dev place mirror within. sym (same_area dev place mirror within)) made);
           owners = λ dev place bytes head mirror within stands. order.owners dev place bytes head mirror within (same_area dev place mirror within ∙ stands);
           levels = order.levels;
-          places = order.places;
           copies = alike_again f image other agrees.base order.copies;
           births = order.births;
         };

@@ -2,13 +2,14 @@
 use Rattle.std.proofs.Common.{◌≡◌, ⊎_elim, ℕ, zero, suc, ◌+◌, ◌<◌, ◌≤◌, List, [], ◌∷◌, ◌++◌, Option, None, Some, refl, sym, ap, subst, ◌∙◌, arith}
 use Rattle.std.proofs.lemmas.Bool.{cases_lt}
 use Rattle.std.proofs.lemmas.List.Elements.{All-contains, All-contains_itself, All-map, All-weaker}
-use Rattle.std.specs.Prelude.{Contains, option_and_then}
+use Rattle.std.specs.Prelude.{Contains, option_and_then, slice_index}
 use Rattle.dev_model.specs.Devices.{DevicesState, now}
 use Rattle.dev_model.specs.Disk.{Image, as_read, block_at}
-use Rattle.image_view.specs.Found.{IsMirrored, bad_place}
-use Rattle.image_view.specs.NewNodes.{HoldSame}
+use Rattle.image_view.specs.BaseLaws.{mirrored-passes, sets_in-comes}
+use Rattle.image_view.specs.Found.{IsMirrored}
+use Rattle.image_view.specs.NewNodes.{HoldSame, wanted_root}
 use Rattle.crash_safety.specs.Flushes.{AreSettled}
-use Rattle.key_codec.specs.Formats.{carried}
+use Rattle.key_meaning.specs.Checks.{IsNodePlaced}
 use Rattle.node_store.specs.Answers.{AreAlike}
 use Rattle.node_store.specs.Copies.{block_in, copies_at, copy_at, shown_at, shown_below, shown_in}
 use Rattle.node_store.specs.NodeContents.{content_of}
@@ -99,7 +100,9 @@ module _ (layout : Layout) (session : ℕ) (btree : Btree) (fresh : NodePtr) (se
   pub leaf_written : AreSettled layout.metadata_replicas (now state) → StandsAsLeaf layout session btree fresh (leaf_content set) state
   leaf_written settled = record {
     leaf = plan.leaf;
-    reads = (λ i. carried (bad_place fresh) (content_of (block_at image) layout.id (sym plan.of_btree i) (sym plan.least i) (sym plan.greatest i) fresh)) ∙ ap (carried (bad_place fresh)) (plan.holds (block_at image) hold);
+    reads = sets_in-comes layout image (wanted_root btree fresh) (leaf_content set)
+        (mirrored-passes layout fresh plan.mirrored (All-weaker (IsNodePlaced layout) (λ (place : Place). place.block + bucket_blocks ≤ slice_index layout.blocks place.dev) (λ place placed. placed.on_device) fresh.places plan.placed))
+        ((λ i. content_of (block_at image) layout.id (sym plan.of_btree i) (sym plan.least i) (sym plan.greatest i) fresh) ∙ plan.holds (block_at image) hold);
     mirrored = plan.mirrored;
     alike = copies_alike image fresh (λ one other is_one is_other n few. held_at one is_one n few ∙ sym (held_at other is_other n few)) (leaf_content set).end;
     born = plan.born;

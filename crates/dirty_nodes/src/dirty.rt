@@ -151,14 +151,9 @@ impl DirtyNodes {
             self.now.marks.numbers)) }
     {
         let mut fresh = PinList::new(alloc)?;
-        for birth in &paths.over {
-            if self.marks.get(*birth).is_none() {
-                fresh.reserve(1)?;
-                fresh.pin(*birth, seq);
-            }
-        }
-        // More nodes than can be counted have no room either.
-        self.marks.len().checked_add(fresh.len()).ok_or(AllocError)
+        let count = count_marked(&self.marks, &paths.over, seq, &mut fresh);
+        drop(fresh);
+        count
     }
 
     /// Makes room to dirty these nodes. An `Err` changes no pin and no mark, and takes no room back.
@@ -244,6 +239,27 @@ impl DirtyNodes {
     {
         self.later.clear();
     }
+}
+
+// How many nodes will be marked once these are too. Those without a mark are pinned in a list of their own, which is empty at first.
+fn count_marked(
+    marks: &PinList,
+    births: &[u64],
+    seq: u64,
+    fresh: &mut PinList,
+) -> Result<usize, AllocError>
+    requires rise { IsMap nat_cmp marks.now.numbers }
+    requires empty { fresh.old.numbers ≡ [] }
+    ensures { IfOk result (λ count. count ≡ length (with_pins seq births.now marks.now.numbers)) }
+{
+    for birth in births {
+        if marks.get(*birth).is_none() {
+            fresh.reserve(1)?;
+            fresh.pin(*birth, seq);
+        }
+    }
+    // More nodes than can be counted have no room either.
+    marks.len().checked_add(fresh.len()).ok_or(AllocError)
 }
 
 // Pins nodes at a number.

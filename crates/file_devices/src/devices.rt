@@ -1,128 +1,94 @@
-ghost use Rattle.std.specs.Prelude.{◌≡◌, ◌<◌, ◌≤◌, ℕ, [], Err, length, map, IfOk};
-ghost use Rattle.file_devices.specs.declared.devices.OpenFault.{OpenFault};
-ghost use Rattle.file_devices.specs.declared.devices.OpenFault.TheVariants.{Device};
-ghost use Rattle.file_devices.specs.declared.devices.Trouble.TheVariants.{InUse};
+ghost use Rattle.std.specs.Prelude.{◌≡◌, ◌<◌, ◌≤◌, ◌^◌, ◌-◌, ℕ, All, Err, IfOk, length, map};
+ghost use Rattle.file_devices.specs.Files.{IsStill};
+ghost use Rattle.file_devices.specs.Opening.{IsInUse};
+ghost use Rattle.file_devices.specs.declared.trouble.OpenFault.TheVariants.{Device};
+ghost use Rattle.file_devices.specs.declared.trouble.Trouble.TheVariants.{InUse};
+ghost use Rattle.std.proofs.Props.{props};
 
-use crate::counts::CallCounts;
-use crate::image::{Image, open_image};
-use dev_model::Devices;
-use std::alloc::{AllocFailed, Global};
-use std::fs::{File, OpenFile};
-use std::io;
-use std::os::unix::fs::FileExt;
-use std::rc::RcStr;
-use std::rt::Files;
+use crate::file::ImageFile;
+use crate::image::Image;
+use crate::trouble::OpenFault;
+use dev_model::{Devices, FaultTally};
+use std::alloc::Global;
 use vol_types::Failed;
 
 /// The greatest number of devices.
 pub const MOST_DEVICES: usize = 8;
 
-/// Devices over image files. They tell nothing: what a real file holds is not proved.
+/// Devices over image files, each of which is locked. They tell what the files tell.
 #[derive(Drop)]
-pub struct FileDevices<F: Drop> {
+pub struct FileDevices<F: ImageFile + Drop> {
     images: Vec<Image<F>>,
-    counts: CallCounts,
+    moment: u64,
+    faults: FaultTally,
     ghost count: { (1 ≤ length images.items) × (length images.items ≤ 8) },
+    ghost past: { All (λ image. image.last ≤ moment) images.items } by { Prim.hlevel props },
+    ghost counted: { F.tells → moment < 2 ^ 64 - 1 } by { Prim.hlevel props },
 }
 
-/// What is wrong with an image file.
-#[derive(Clone, Copy, Debug, PartialEq, Eq)]
-pub enum Trouble {
-    /// There is no such file.
-    Missing,
-    /// It may not be read and written.
-    NotPermitted,
-    /// It is a directory.
-    Directory,
-    /// Another program has its lock, or it stands twice among the images.
-    InUse,
-    /// The system gave another error.
-    Other,
-}
+impl<F: ImageFile + Drop> FileDevices<F> {
+    ghost use Rattle.file_devices.specs.Images.{disks_at};
 
-/// Why files were not opened.
-#[derive(Clone, Copy, Debug, PartialEq, Eq)]
-pub enum OpenFault {
-    /// The file with this number, from 0, can't be opened for this reason.
-    Device(u8, Trouble),
-    /// Out of memory.
-    NoMemory,
-}
-
-// The trouble that an error of the system tells.
-fn trouble_of(error: io::Error) -> Trouble {
-    match error.kind() {
-        io::ErrorKind::NotFound => Trouble::Missing,
-        io::ErrorKind::PermissionDenied => Trouble::NotPermitted,
-        io::ErrorKind::ReadOnlyFilesystem => Trouble::NotPermitted,
-        io::ErrorKind::IsADirectory => Trouble::Directory,
-        _ => Trouble::Other,
+    /// Devices over one to eight files that were just opened, in this order. Each is locked before it is read or written. What they held is
+    /// still there. A fault names the first file that is in use, or whose length can't be told.
+    pub fn of(alloc: Global, files: Vec<F>) -> Result<Self, OpenFault>
+        requires count { (1 ≤ length files.items) × (length files.items ≤ 8) }
+        requires fresh { F.tells → All (λ file. IsStill (F.state file).story 0) files.items }
+        ensures count { IfOk result (λ d. length d.images.items ≡ length files.items) }
+        ensures held { F.tells → IfOk result (λ d. disks_at (λ image. (F.state image.file).story)
+            d.images.items d.moment ≡ map (λ file. (F.state file).story 0) files.items) }
+        ensures in_use { (dev : ℕ) → result ≡ Err (Device dev InUse) → IsInUse F.tells
+            (map F.state files.items) dev }
+    {
+        let images = images_of(alloc, files)?;
+        Ok(FileDevices {
+            images,
+            moment: 0,
+            faults: FaultTally::none(),
+        })
     }
 }
 
-impl<T: Drop> From<AllocFailed<T>> for OpenFault {
-    ghost use Rattle.std.specs.Prelude.{◌≡◌};
-    ghost use Rattle.file_devices.specs.declared.devices.OpenFault.TheVariants.{NoMemory};
-
-    ghost from_gives = { λ _ fault. fault ≡ NoMemory };
-
-    fn from(_error: AllocFailed<T>) -> Self {
-        OpenFault::NoMemory
-    }
-}
-
-/// Opens one to eight files, in this order.
-pub fn open_devices<R: Files>(
-    files: &R,
-    alloc: Global,
-    paths: &[RcStr],
-) -> Result<FileDevices<R::File>, OpenFault>
-    requires { (1 ≤ length paths.now) × (length paths.now ≤ 8) }
-    ensures { IfOk result (λ d. length d.images.items ≡ length paths.now) }
+// Locks files, and takes their lengths.
+#[tactic(auto, using(crate::proofs::OpenedFiles::opening_none, crate::proofs::OpenedFiles::opening_next, crate::proofs::OpenedFiles::opening_count, crate::proofs::OpenedFiles::opening_held))]
+fn images_of<F: ImageFile + Drop>(alloc: Global, files: Vec<F>) -> Result<Vec<Image<F>>, OpenFault>
+    requires count { length files.items ≤ 8 }
+    requires fresh { F.tells → All (λ file. IsStill (F.state file).story 0) files.items }
+    ensures count { IfOk result (λ images. length images.items ≡ length files.items) }
+    ensures last { IfOk result (λ images. All (λ image. image.last ≡ 0) images.items) }
+    ensures held { F.tells → IfOk result (λ images. map (λ image. (F.state image.file).story)
+        images.items ≡ map (λ file. (F.state file).story) files.items) }
+    ensures in_use { (dev : ℕ) → result ≡ Err (Device dev InUse) → IsInUse F.tells
+        (map F.state files.items) dev }
 {
     let mut images = Vec::new(alloc);
-    for path in paths {
-        match open_image(files, path.as_str()) {
+    for file in files {
+        match Image::locked(file) {
             Ok(image) => images.push(image)?,
-            Err(error) => return Err(OpenFault::Device(images.len() as u8, trouble_of(error))),
+            Err(trouble) => return Err(OpenFault::Device(images.len() as u8, trouble)),
         }
     }
-    Ok(FileDevices {
-        images,
-        counts: CallCounts::none(),
-    })
+    Ok(images)
 }
 
-impl FileDevices<File> {
-    /// Takes the lock on each file, so that no other run that asks for it has it at the same time, and no file is two devices. It
-    /// names the first file that is in use, or can't be locked.
-    pub fn lock(&self) -> Result<(), OpenFault>
-        ensures { (fault : OpenFault) → result ≡ Err fault → (dev : ℕ) × (fault ≡ Device dev InUse)
-            × (dev < length self.now.images.items) }
-    {
-        for dev in 0..self.images.len() {
-            if !self.images[dev].lock() {
-                return Err(OpenFault::Device(dev as u8, Trouble::InUse));
-            }
-        }
-        Ok(())
-    }
-}
-
-impl<F: FileExt + OpenFile + Drop> Devices for FileDevices<F> {
+impl<F: ImageFile + Drop> Devices for FileDevices<F> {
     ghost use Rattle.dev_model.specs.Tallies.{faults_in};
+    ghost use Rattle.file_devices.specs.Images.{disks_at};
+    ghost use Rattle.file_devices.specs.ImageLaws.{are_disks, sizes_agree};
+    ghost use Rattle.std.proofs.lemmas.List.{length-map};
+    ghost use Rattle.std.proofs.Common.{sym, ◌∙◌};
 
-    ghost tells = { ⊥ };
+    ghost tells = { F.tells };
 
-    ghost state = { λ d. record { sizes = map (λ image. image.blocks) d.images.items; moment = d.counts.calls; disks = λ _. []; faults = faults_in d.counts.faults } };
+    ghost state = { λ d. record { sizes = map (λ image. image.blocks) d.images.items; moment = d.moment; disks = disks_at (λ image. (F.state image.file).story) d.images.items; faults = faults_in d.faults } };
 
-    ghost agree = { λ told _. absurd told };
+    ghost agree = { λ told d. sizes_agree (λ image. (F.state image.file).story) (λ image. image.last) (λ image. (image.ready told).still) d.moment (λ image. image.blocks) (λ image. image.size told) d.images.items d.past };
 
-    ghost sound = { λ told _. absurd told };
+    ghost sound = { λ told d. are_disks (λ image. (F.state image.file).story) (λ image. image.last) (λ image. (image.ready told).still) d.moment (λ image m still. F.sound told image.file m still) d.images.items d.past };
 
-    ghost steady = { λ told _ _ _. absurd told };
+    ghost steady = { λ told d m le. length-map d.images.items (λ image. (F.state image.file).story m) ∙ sym (length-map d.images.items (λ image. image.blocks)) };
 
-    ghost counted = { λ d. record { calls = d.counts.faults.calls_counted; writes = d.counts.faults.writes_counted } };
+    ghost counted = { λ d. record { calls = d.faults.calls_counted; writes = d.faults.writes_counted } };
 
     fn count(&self) -> u8 {
         self.images.len() as u8
@@ -133,26 +99,38 @@ impl<F: FileExt + OpenFile + Drop> Devices for FileDevices<F> {
     }
 
     fn moment(&self) -> u64 {
-        self.counts.calls
+        self.moment
     }
 
     fn extend(&mut self, dev: u8, blocks: u32) -> Result<(), Failed> {
-        let answer = self.images[dev as usize].extend(blocks);
-        self.counts.count(dev, answer)
+        let extended = &mut self.images[dev as usize];
+        let outcome = extended.extend(blocks, self.moment);
+        self.moment = extended.last;
+        self.faults.count(dev, &outcome);
+        outcome
     }
 
     fn read(&mut self, dev: u8, block: u32, into: &mut [u8]) -> Result<(), Failed> {
-        let answer = self.images[dev as usize].read(block, into);
-        self.counts.count(dev, answer)
+        let image = &mut self.images[dev as usize];
+        let result = image.read(block, into, self.moment);
+        self.moment = image.last;
+        self.faults.count(dev, &result);
+        result
     }
 
     fn write(&mut self, dev: u8, block: u32, from: &[u8]) -> Result<(), Failed> {
-        let answer = self.images[dev as usize].write(block, from);
-        self.counts.count_write(dev, answer)
+        let written = &mut self.images[dev as usize];
+        let result = written.write(block, from, self.moment);
+        self.moment = written.last;
+        self.faults.count_write(dev, &result);
+        result
     }
 
     fn flush(&mut self, dev: u8) -> Result<(), Failed> {
-        let answer = self.images[dev as usize].sync();
-        self.counts.count_write(dev, answer)
+        let flushed = &mut self.images[dev as usize];
+        let outcome = flushed.flush(self.moment);
+        self.moment = flushed.last;
+        self.faults.count_write(dev, &outcome);
+        outcome
     }
 }

@@ -1,6 +1,6 @@
-use crate::{FileDevices, OpenFault, Trouble, open_devices};
-use dev_model::Devices;
-use std::alloc::Global;
+use crate::{FileDevices, ImageFile, MemFile, OpenFault, Trouble, open_devices};
+use dev_model::{Devices, MemDevices, Pick};
+use std::alloc::{AllocError, Global};
 use std::fs::{self, File};
 use std::rc::RcStr;
 use std::test::Fail;
@@ -23,18 +23,16 @@ fn opened(rt: &HostRuntime, alloc: Global) -> Result<FileDevices<File>, Fail> {
     Ok(devices?)
 }
 
-// The first and the last byte of a block, if it is there.
-fn ends(
-    devices: &mut FileDevices<File>,
-    alloc: Global,
-    block: u32,
-) -> Result<Option<(u8, u8)>, Fail> {
+// The first and the last byte of a block, if it is there and can be read.
+fn ends<F: ImageFile + Drop>(devices: &mut FileDevices<F>, block: u32) -> Option<(u8, u8)> {
     if block >= devices.blocks(0) {
-        return Ok(None);
+        return None;
     }
-    let mut bytes = vec![in alloc; 0; 4096]?;
-    devices.read(0, block, &mut bytes)?;
-    Ok(bytes.first().copied().zip(bytes.last().copied()))
+    let mut bytes = [0; 4096];
+    if devices.read(0, block, &mut bytes).is_err() {
+        return None;
+    }
+    bytes.first().copied().zip(bytes.last().copied())
 }
 
 #[test]
@@ -51,29 +49,79 @@ fn written_blocks_are_read_back(rt: HostRuntime) -> Result<(), Fail> {
     assert!(rt; devices.blocks(0) == 4);
     devices.write(0, 3, &block)?;
     for (at, expected) in [(0, (7, 7)), (1, (1, 2)), (2, (0, 0)), (3, (1, 2))] {
-        assert!(rt;
-            ends(&mut devices, alloc, at)? == Some(expected),
-            "block {at}"
-        );
+        assert!(rt; ends(&mut devices, at) == Some(expected), "block {at}");
     }
-    assert!(rt; devices.moment() == 8);
+    assert!(rt; devices.moment() == 16);
     Ok(())
 }
 
-// A file that is open and locked is in use, for another open of it too, and for a second device. Once it is closed it isn't.
+// Whether these files are opened, and if not, the device that is in use.
+fn in_use(rt: &HostRuntime, alloc: Global, paths: &[RcStr]) -> Option<u8> {
+    if paths.is_empty() || paths.len() > 8 {
+        return None;
+    }
+    match open_devices(rt, alloc, paths) {
+        Ok(devices) => {
+            drop(devices);
+            None
+        }
+        Err(OpenFault::Device(dev, Trouble::InUse)) => Some(dev),
+        Err(_) => None,
+    }
+}
+
+// A file that is open is locked, so it is in use, for another open of it too, and for a second device. Once it is closed it isn't.
 #[test]
 fn a_file_is_no_two_devices(rt: HostRuntime) -> Result<(), Fail> {
     let alloc = rt.alloc();
     let path = file_name(&rt, alloc, "locked")?;
     fs::write(&rt, path.as_str(), [0u8; 4096])?;
-    let twice = open_devices(&rt, alloc, &[path.clone()?, path.clone()?])?;
-    assert!(rt; twice.lock() == Err(OpenFault::Device(1, Trouble::InUse)));
+    assert!(rt; in_use(&rt, alloc, &[path.clone()?, path.clone()?]) == Some(1));
     let first = open_devices(&rt, alloc, &[path.clone()?])?;
-    assert!(rt; first.lock() == Err(OpenFault::Device(0, Trouble::InUse)));
-    drop(twice);
-    assert!(rt; first.lock() == Ok(()));
+    assert!(rt; in_use(&rt, alloc, &[path.clone()?]) == Some(0));
+    drop(first);
+    assert!(rt; in_use(&rt, alloc, &[path.clone()?]).is_none());
     let second = open_devices(&rt, alloc, &[path.clone()?])?;
-    assert!(rt; second.lock() == Err(OpenFault::Device(0, Trouble::InUse)));
+    assert!(rt; second.blocks(0) == 1);
     fs::remove_file(&rt, path.as_str())?;
+    Ok(())
+}
+
+// A device over a file in memory of three zero blocks and 100 bytes. Of its calls, from 0, the second and the fourth are to fail, and a write
+// that fails is short: it leaves the first half of its block.
+fn in_memory(alloc: Global) -> Result<FileDevices<MemFile>, OpenFault> {
+    let mut devices = match MemDevices::blank(alloc, &[3]) {
+        Ok(devices) => devices,
+        Err(_) => return Err(OpenFault::NoMemory),
+    };
+    devices.failed_writes_leave(Pick::Torn);
+    if devices.fail_at(&[1, 3]).is_err() {
+        drop(devices);
+        return Err(OpenFault::NoMemory);
+    }
+    let mut files = Vec::new(alloc);
+    files.push(MemFile::new(alloc, devices, 100, true))?;
+    FileDevices::of(alloc, files)
+}
+
+// Writes a block of one byte, if it is there.
+fn put(devices: &mut FileDevices<MemFile>, block: u32, byte: u8) -> bool {
+    if block >= devices.blocks(0) {
+        return false;
+    }
+    devices.write(0, block, &[byte; 4096]).is_ok()
+}
+
+#[test]
+fn calls_of_a_file_in_memory_fail_and_are_short(rt: HostRuntime) -> Result<(), Fail> {
+    let mut devices = in_memory(rt.alloc())?;
+    assert!(rt; devices.blocks(0) == 3);
+    assert!(rt; put(&mut devices, 2, 9));
+    assert!(rt; !put(&mut devices, 2, 5));
+    assert!(rt; ends(&mut devices, 2) == Some((5, 9)));
+    assert!(rt; devices.flush(0).is_err());
+    assert!(rt; devices.flush(0).is_ok());
+    assert!(rt; ends(&mut devices, 1) == Some((0, 0)));
+    assert!(rt; devices.moment() == 12);
     Ok(())
 }

@@ -6,7 +6,7 @@ use Rattle.dev_model.specs.Devices.{DevicesState, FaultCounts}
 use Rattle.plain_forest.specs.Forest.{Forest}
 use Rattle.forest_ops.specs.History.{History, EachEntry, after_all, is_commit}
 use Rattle.forest_ops.specs.declared.operation.Op.{Op}
-use Rattle.forest_ops.specs.declared.operation.Op.TheVariants.{Sync}
+use Rattle.forest_ops.specs.declared.operation.Op.TheVariants.{Fsync, Sync}
 use Rattle.forest_ops.specs.declared.operation.Reply.{Reply}
 use Rattle.forest_ops.specs.declared.operation.Reply.TheVariants.{DeviceFault, Halted}
 use Rattle.forest_ops.specs.declared.operation.Entry.{Entry}
@@ -27,12 +27,13 @@ abbrev pub is_halted : Reply → Bool
 is_halted (Halted dev tick) = true
 is_halted reply = false
 
--- the operation is a sync
+-- the operation syncs: everything, or what stands at a path
 abbrev pub is_sync : Op → Bool
 is_sync Sync = true
+is_sync (Fsync path) = true
 is_sync op = false
 
--- the entry shows that the session has halted: it says so, or it is a sync that says that a device failed
+-- the entry shows that the session has halted: it says so, or its operation syncs and it says that a device failed
 abbrev pub shows_halt : Entry → Bool
 shows_halt entry = is_halted entry.reply || (is_sync entry.op && is_device_fault entry.reply)
 
@@ -45,7 +46,7 @@ abbrev pub has_halted : History → Bool
 has_halted history = list_any shows_halt history
 
 -- The reply agrees with this halt: where it says that the session has halted it gives this device and this moment, and where
--- it says to a sync that a device failed it gives this device.
+-- it says to an operation that syncs that a device failed it gives this device.
 abbrev pub AgreesWith : Halt → Op → Reply → Type 0
 AgreesWith halt op (Halted dev tick) = (dev ≡ halt.dev) × (tick ≡ halt.tick)
 AgreesWith halt op (DeviceFault dev) = is_sync op ≡ true → dev ≡ halt.dev

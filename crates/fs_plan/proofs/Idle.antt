@@ -1,24 +1,26 @@
 -- Plans of what is refused, of what changes nothing, and of what is done.
 use Rattle.std.proofs.Common.{◌≡◌, ℕ, Bool, true, false, None, List, [], refl, sym, ap, subst, map, arith}
 use Rattle.std.proofs.lemmas.List.Elements.{All-nil}
+use Rattle.std.specs.Ordering.{nat_cmp}
 use Rattle.std.specs.Prelude.{◌≢◌, ◌&&◌, not, Result, Ok, Err}
 use Rattle.forest_ops.specs.Classes.{class_of, is_changing}
 use Rattle.forest_ops.specs.History.{commits as is_commit_of, is_idle}
 use Rattle.forest_ops.specs.Refusals.{◌>>=◌, Agrees}
-use Rattle.forest_ops.specs.Steps.{Next, answer_of, flagged, forest_after, forest_or, next_of, reply_or, step}
-use Rattle.forest_ops.specs.Walking.{Directory, directory_at}
+use Rattle.forest_ops.specs.Steps.{Next, answer_of, flagged, forest_after, forest_or, next_of, reply_or, status_of, step}
+use Rattle.forest_ops.specs.Walking.{directory_at, inode_at}
 use Rattle.forest_ops.specs.declared.operation.Cause.{Cause}
 use Rattle.forest_ops.specs.declared.operation.Op.{Op}
-use Rattle.forest_ops.specs.declared.operation.Op.TheVariants.{Ls}
+use Rattle.forest_ops.specs.declared.operation.Op.TheVariants.{Fsync, Ls, Stat}
 use Rattle.forest_ops.specs.declared.operation.Reply.{Reply}
-use Rattle.forest_ops.specs.declared.operation.Reply.TheVariants.{List as Listed, Okay, Refused}
-use Rattle.fs_plan.specs.Making.{AreOfStep, IsStepMade}
-use Rattle.fs_plan.specs.Plans.{AreMade, IsPlanOf}
+use Rattle.forest_ops.specs.declared.operation.Reply.TheVariants.{List as Listed, Okay, Refused, Synced}
+use Rattle.path_plan.specs.Made.{AreMade, AreOfStep, IsStepMade}
+use Rattle.fs_plan.specs.Plans.{IsPlanOf}
 use Rattle.fs_plan.specs.Updating.{updates_of}
 use Rattle.key_meaning.specs.Checks.{IsSound}
 use Rattle.key_meaning.specs.Forest.{Read, forest_in}
 use Rattle.key_meaning.specs.Tidy.{IsTidy}
 use Rattle.plain_forest.specs.Forest.{Forest}
+use Rattle.plain_forest.specs.Maps.{value_at}
 use Rattle.plain_forest.specs.declared.path.Path.{Path}
 use Rattle.vol_types.specs.KeyMaps.{KeyMap, with_updates}
 use Rattle.vol_types.specs.Standing.{IsUpdate}
@@ -31,14 +33,20 @@ use Rattle.vol_types.specs.declared.positions.Btree.TheVariants.{Extents}
 pub none_made : AreMade []
 none_made = record { each = All-nil IsUpdate; leaves = All-nil (λ (update : Update). update.level ≡ 0); extents = All-nil (λ (update : Update). update.btree ≢ Extents); few = λ mirrors le. omega (arith, le) }
 
--- A listing leaves the forest.
-listing_leaves : (forest : Forest) (found : Result Directory Cause) → forest_or forest (found >>= (λ directory. Ok (next_of (Listed (map (flagged directory.tree) directory.names)) forest))) ≡ forest
-listing_leaves forest (Ok directory) = refl
-listing_leaves forest (Err cause) = refl
+-- What only looks leaves the forest,
+read_leaves : {X : Type 0} (forest : Forest) (found : Result X Cause) (told : X → Reply) → forest_or forest (found >>= (λ x. Ok (next_of (told x) forest))) ≡ forest
+read_leaves forest (Ok x) told = refl
+read_leaves forest (Err cause) told = refl
 
--- A listing leaves it whatever its path is,
+-- as a listing, a status and a sync of what stands at a path do,
 pub list_leaves : (client : ℕ) (path : Path) (forest : Forest) → forest_after client (Ls path) forest ≡ forest
-list_leaves client path forest = listing_leaves forest (directory_at path forest)
+list_leaves client path forest = read_leaves forest (directory_at path forest) (λ directory. Listed (map (flagged directory.tree) directory.names))
+
+pub stat_leaves : (client : ℕ) (path : Path) (forest : Forest) → forest_after client (Stat path) forest ≡ forest
+stat_leaves client path forest = read_leaves forest (inode_at path forest) (λ inode. status_of inode (value_at nat_cmp inode.number inode.tree.directories))
+
+pub fsync_leaves : (client : ℕ) (path : Path) (forest : Forest) → forest_after client (Fsync path) forest ≡ forest
+fsync_leaves client path forest = read_leaves forest (inode_at path forest) (λ inode. Synced 0)
 
 -- and what leaves the forest, is no commit and has no updates by the keys has a plan without updates.
 pub idle_plan : (keys : KeyMap) (nodes : List Place) (layout : Layout) (client : ℕ) (op : Op) (updates : List Update) (reply : Reply) → ((forest : Forest) → forest_after client op forest ≡ forest) → updates ≡ [] → updates_of keys client op ≡ []
@@ -56,7 +64,7 @@ idle_plan keys nodes layout client op updates reply leaves none needs none_commi
     })
 
 -- A refusal is no commit.
-refused_commits : (changing idle : Bool) → ((changing && false) && idle) ≡ false
+pub refused_commits : (changing idle : Bool) → ((changing && false) && idle) ≡ false
 refused_commits true idle = refl
 refused_commits false idle = refl
 

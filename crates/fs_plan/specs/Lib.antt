@@ -1,5 +1,5 @@
-pub mod Looking
 pub mod Listing
-pub mod Updating
+pub mod Outcomes
 pub mod Plans
-pub mod Making
+pub mod Statuses
+pub mod Updating

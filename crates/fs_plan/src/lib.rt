@@ -5,12 +5,11 @@
 #![tactic(auto)]
 
 mod listing;
-mod making;
 mod planned;
 mod planning;
 mod slots;
-mod subvolumes;
-mod walking;
+mod status;
+mod syncing;
 
 pub use planned::Plan;
 pub use planning::{is_planned, plan};

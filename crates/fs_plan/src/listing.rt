@@ -2,7 +2,8 @@ ghost use Rattle.std.specs.Prelude.{◌≡◌, IfErr, IfOk, IfSome, None, Some, 
 ghost use Rattle.forest_ops.specs.Acknowledged.{synced_count};
 ghost use Rattle.forest_ops.specs.Steps.{flagged, listed, reply_or};
 ghost use Rattle.fs_plan.specs.Listing.{flagged_name};
-ghost use Rattle.fs_plan.specs.Plans.{IsGiven, is_failure};
+ghost use Rattle.fs_plan.specs.Plans.{is_failure};
+ghost use Rattle.path_plan.specs.Given.{IsGiven};
 ghost use Rattle.key_meaning.specs.Checks.{AreNamesJoined, DoLeavesMatch, IsLiveLeaf};
 ghost use Rattle.key_meaning.specs.Forest.{Read, forest_in, names_in, tree_of};
 ghost use Rattle.key_view.specs.Holds.{IsCause};
@@ -13,10 +14,10 @@ ghost use Rattle.vol_types.specs.Ranges.{name_cmp};
 ghost use Rattle.vol_types.specs.declared.values.Sub.{Sub as ASub};
 
 use crate::slots::flags_in;
-use crate::walking::directory_along;
 use forest_ops::Reply;
 use key_meaning::sound_ids_are_apart;
 use key_view::{Hold, View};
+use path_plan::directory_along;
 use plain_forest::Path;
 use snap_tree::SnapTree;
 use std::alloc::{AllocError, Global};

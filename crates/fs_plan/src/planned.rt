@@ -12,3 +12,11 @@ pub struct Plan {
     /// Whether the operation is a commit: it changes the forest, and was done.
     pub commits: bool,
 }
+
+/// A plan without its operation.
+#[derive(Drop)]
+pub(crate) struct Outcome {
+    pub updates: Updates,
+    pub reply: Reply,
+    pub commits: bool,
+}

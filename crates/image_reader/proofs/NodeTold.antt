@@ -1,5 +1,5 @@
 -- A node that was read, with the changes of its keys, is the one that is defined, and ragged where it is.
-use Rattle.std.proofs.Common.{◌≡◌, ⊎_elim, ℕ, ◌+◌, Bool, true, false, List, [], ◌∷◌, Option, Some, Result, Ok, Err, refl, ap, sym, ◌∙◌, subst}
+use Rattle.std.proofs.Common.{◌≡◌, ⊎_elim, ℕ, ◌+◌, Bool, true, false, cond, List, [], ◌∷◌, Option, Some, Result, Ok, Err, refl, ap, sym, ◌∙◌, subst}
 use Rattle.std.specs.Prelude.{◌↔◌, option_map, slice_get, slice_index_or}
 use Rattle.std.specs.List.{filter}
 use Rattle.std.specs.List.Sorted.{IsStrictlySortedBy}
@@ -7,8 +7,9 @@ use Rattle.std.proofs.lemmas.Option.{same_Some}
 use Rattle.dev_model.specs.Devices.{FaultCounts}
 use Rattle.dev_model.specs.Disk.{Image, block_at}
 use Rattle.geometry.specs.Faults.{SomeFailed}
-use Rattle.image_view.specs.Found.{bad_place, sets_in}
-use Rattle.image_view.specs.Trees.{NodeRead, Wanted, is_of_node, read_node, updated}
+use Rattle.image_view.specs.BaseLaws.{sets_in-comes}
+use Rattle.image_view.specs.Found.{are_mirrored, bad_place, sets_in}
+use Rattle.image_view.specs.Trees.{NodeRead, Wanted, first_place, is_of_node, read_node, updated}
 use Rattle.key_codec.specs.Combined.{ok_is}
 use Rattle.key_codec.specs.Formats.{◌>>=◌, carried}
 use Rattle.node_mem.specs.Nodes.{IsNode}
@@ -86,12 +87,12 @@ module _ (old new : FaultCounts) (layout : Layout) (image : Image) (btree : Btre
         (λ (same : answer.seen ≡ copies). subst (λ (cs : Copies). content_in cs layout.id head ≡ Ok content) same answer.content)
         made_up answer.all
 
-    pub node_told : (updates : List Update) (changes : Changes) (node : FoundNode) → changes ≡ all_noted btree pointer.level updates []
+    pub node_told : (updates : List Update) (changes : Changes) (node : FoundNode) → are_mirrored layout 0 pointer.places ≡ true → changes ≡ all_noted btree pointer.level updates []
         → (SomeFailed old new → content_in copies layout.id head ≡ Ok content) → IsNode read.node → read.node.least ≡ least → read.node.greatest ≡ greatest
         → node_in node ≡ record { greatest = greatest; pointer = pointer; entries = with_changes (changes_within read.node.least read.node.greatest changes) read.node.entries; end = read.end }
         → read_node (sets_in layout image) updates wanted ≡ Ok (node_in node)
-    node_told updates changes node noted made_up sound low high is =
-        ap (λ r. carried (bad_place pointer) r >>= (λ content. Ok (node_with updates content))) (is_content made_up)
+    node_told updates changes node mirrored noted made_up sound low high is =
+        ap (λ r. r >>= (λ content. Ok (node_with updates content))) (sets_in-comes layout image wanted content mirrored (is_content made_up))
         ∙ ap (λ (es : Entries). Ok (record { greatest = greatest; pointer = pointer; entries = es; end = read.end }))
         (made-noted least greatest read.node.entries sound.rises btree pointer updates [] no_changes
         ∙ (λ i. with_changes (changes_within (sym low i) (sym high i) (sym noted i)) read.node.entries))
@@ -110,7 +111,13 @@ module _ (old new : FaultCounts) (layout : Layout) (image : Image) (btree : Btre
         )
 
   -- A node that is bad is so.
-  pub node_bad : (updates : List Update) (place : Place) → IsBadAt layout.id head pointer copies place → read_node (sets_in layout image) updates wanted ≡ Err place
-  node_bad updates place bad =
-      ap (λ r. carried (bad_place pointer) r >>= (λ content. Ok (node_with updates content))) bad.content
+  pub node_bad : (updates : List Update) (place : Place) → are_mirrored layout 0 pointer.places ≡ true → IsBadAt layout.id head pointer copies place → read_node (sets_in layout image) updates wanted ≡ Err place
+  node_bad updates place mirrored bad =
+      ap (λ (test : Bool). cond test (carried (bad_place pointer) (content_in copies layout.id head)) (Err (first_place pointer)) >>= (λ content. Ok (node_with updates content))) mirrored
+      ∙ ap (λ r. carried (bad_place pointer) r >>= (λ content. Ok (node_with updates content))) bad.content
       ∙ ap (λ (p : Place). Err p) (named_at pointer.places bad.block place bad.named)
+
+  -- So is one whose places aren't one bucket inside each metadata device, in their order.
+  pub node_misplaced : (updates : List Update) (test : Bool) → test ≡ are_mirrored layout 0 pointer.places → test ≡ false → read_node (sets_in layout image) updates wanted ≡ Err (first_place pointer)
+  node_misplaced updates test is misplaced =
+      ap (λ (t : Bool). cond t (carried (bad_place pointer) (content_in copies layout.id head)) (Err (first_place pointer)) >>= (λ content. Ok (node_with updates content))) (sym is ∙ misplaced)

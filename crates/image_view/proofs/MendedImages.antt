@@ -331,7 +331,6 @@ module _ (laws : JournalLaws) (one other : Image) (f : Found) (is : found one �
         order.owners part.dev part.place (get_or blocks own.0 []) head part.mirror part.within part.stands (subst (λ (x : List ℕ). opened x ≡ Some head) own.2 opens) kind id)
         (stood dev place bytes head mirror within stands opens);
     levels = order.levels;
-    places = order.places;
     copies = alike-same f one other (nodes_of f.trees.nodes) nodes_mended.nodes order.copies;
     births = order.births;
   }

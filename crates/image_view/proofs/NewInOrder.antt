@@ -1,6 +1,6 @@
 -- The nodes of a next entry are in order where each is one that was found or one that was written whole, and images that agree on the base
 -- and on the new nodes agree on all of them.
-use Rattle.std.proofs.Common.{◌≡◌, ◌⊎◌, ⊎_elim, ℕ, zero, suc, ◌+◌, ◌*◌, ◌<◌, ◌≤◌, ◌^◌, List, [], ◌∷◌, ◌++◌, Option, refl, ap, ◌∙◌, arith}
+use Rattle.std.proofs.Common.{◌≡◌, ◌⊎◌, ⊎_elim, ℕ, zero, suc, ◌+◌, ◌*◌, ◌<◌, ◌≤◌, ◌^◌, List, [], ◌∷◌, ◌++◌, Option, Ok, refl, ap, ◌∙◌, arith}
 use Rattle.std.proofs.lemmas.List.Elements.{All-contains, All-contains_itself, All-map, All-weaker}
 use Rattle.std.specs.Prelude.{All, Contains, option_and_then}
 use Rattle.dev_model.specs.Disk.{Image, block_at}
@@ -11,8 +11,9 @@ use Rattle.node_store.specs.declared.opening.OpenBlock.{OpenBlock}
 use Rattle.vol_types.specs.Limits.{bucket_blocks}
 use Rattle.vol_types.specs.declared.pointers.NodePtr.{NodePtr}
 use Rattle.vol_types.specs.declared.pointers.Place.{Place}
+use Rattle.image_view.specs.BaseLaws.{found-mirrored}
 use Rattle.image_view.specs.Bases.{AgreeOnBase, AgreeOnNode, AgreeOnNodes}
-use Rattle.image_view.specs.Found.{Found, IsAlike, IsInOrder, IsMirrored}
+use Rattle.image_view.specs.Found.{Found, IsAlike, IsInOrder, IsMirrored, found}
 use Rattle.image_view.specs.NewNodes.{AreNodesInOrder, HoldSame, IsKeptNode, IsNewNode}
 use Rattle.image_view.specs.NextEntries.{with_entry}
 use Rattle.image_view.specs.Trees.{TreesRead, nodes_of}
@@ -44,10 +45,10 @@ pub copies_alike : (image : Image) (node : NodePtr) → HoldSame image node → 
 copies_alike image node same end one other is_one is_other n lower = ap (λ copy. block_in copy n) (copies_same image node same one other is_one is_other)
 
 -- Nodes are in order, each of which is kept or new.
-pub each_in_order : (image : Image) (f : Found) (passed : ℕ) (next : FoundEntry) (trees : TreesRead) → IsInOrder f image → All (λ node. IsKeptNode f trees node ⊎ IsNewNode f image node) (nodes_of trees.nodes) → AreNodesInOrder (with_entry passed next trees f) image
-each_in_order image f passed next trees order each = record {
+pub each_in_order : (image : Image) (f : Found) (passed : ℕ) (next : FoundEntry) (trees : TreesRead) → found image ≡ Ok f → IsInOrder f image → All (λ node. IsKeptNode f trees node ⊎ IsNewNode f image node) (nodes_of trees.nodes) → AreNodesInOrder (with_entry passed next trees f) image
+each_in_order image f passed next trees is_found order each = record {
   places = All-weaker (λ node. IsKeptNode f trees node ⊎ IsNewNode f image node) (IsMirrored f.layout)
-      (λ node is. ⊎_elim (λ (kept : IsKeptNode f trees node). All-contains (IsMirrored f.layout) (nodes_of f.trees.nodes) node order.places kept.found) (λ (new : IsNewNode f image node). new.mirrored) is) (nodes_of trees.nodes) each;
+      (λ node is. ⊎_elim (λ (kept : IsKeptNode f trees node). All-contains (IsMirrored f.layout) (nodes_of f.trees.nodes) node (found-mirrored image f is_found) kept.found) (λ (new : IsNewNode f image node). new.mirrored) is) (nodes_of trees.nodes) each;
   copies = All-weaker (λ node. IsKeptNode f trees node ⊎ IsNewNode f image node) (IsAlike (with_entry passed next trees f) image)
       (λ node is end is_end birth. ⊎_elim
       (λ (kept : IsKeptNode f trees node). All-contains (IsAlike f image) (nodes_of f.trees.nodes) node order.copies kept.found end (kept.ends end is_end birth) birth)

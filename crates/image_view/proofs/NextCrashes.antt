@@ -60,4 +60,4 @@ pub either_in_order : BlockLaws → (one other : Image) (f : Found) (disks : Lis
     → trees_of (sets_in f.layout one) (updates_of (drop passed f.needed ++ next ∷ [])) next.entry.roots ≡ Ok trees → trees.nodes ≡ f.trees.nodes → trees.ends ≡ f.trees.ends
     → ((found other ≡ Ok f) × IsInOrder f other) ⊎ ((found other ≡ Ok (with_entry passed next trees f)) × IsInOrder (with_entry passed next trees f) other)
 either_in_order laws one other f disks passed next blocks trees is order is_next sealed below hold agree only read nodes ends =
-    either_in_order_new laws one other f disks passed next blocks trees is order is_next sealed below hold agree (agree_still one other f trees agree nodes) (in_order_still one f passed next trees order nodes ends) only read
+    either_in_order_new laws one other f disks passed next blocks trees is order is_next sealed below hold agree (agree_still one other f trees agree nodes) (in_order_still one f passed next trees is order nodes ends) only read

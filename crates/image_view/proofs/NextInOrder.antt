@@ -20,6 +20,7 @@ use Rattle.image_view.proofs.NextStands.{made_or_next, next_made_whole, owners_s
 use Rattle.image_view.proofs.NextNewest.{EachPasses, next_newest, other_sequence, still_there}
 use Rattle.image_view.proofs.OtherSession.{alike-same}
 use Rattle.image_view.specs.Bases.{AgreeOnBase, AgreeOnNode, IsNewest}
+use Rattle.image_view.specs.BaseLaws.{found-mirrored}
 use Rattle.image_view.specs.Found.{FitTogether, FollowOn, Found, IsAlike, IsBelowRoots, IsInOrder, IsMirrored, PassesNone, found}
 use Rattle.image_view.specs.NextEntries.{AreNumberedBelow, AreOldOrNext, IsNext, IsToldApart, IsWritten, with_entry}
 use Rattle.image_view.specs.NewNodes.{AreNodesInOrder}
@@ -62,9 +63,9 @@ newest_written laws stand one other f passed next blocks trees is is_next agree 
     (λ k from lower. still_there laws.newest one other f is agree k lower) trees
 
 -- Btrees with the nodes that were found, whose sets end where they did, have them in order.
-pub in_order_still : (one : Image) (f : Found) (passed : ℕ) (next : FoundEntry) (trees : TreesRead) → IsInOrder f one → trees.nodes ≡ f.trees.nodes → trees.ends ≡ f.trees.ends → AreNodesInOrder (with_entry passed next trees f) one
-in_order_still one f passed next trees order nodes ends = record {
-  places = subst (λ ns. All (IsMirrored f.layout) (nodes_of ns)) (sym nodes) order.places;
+pub in_order_still : (one : Image) (f : Found) (passed : ℕ) (next : FoundEntry) (trees : TreesRead) → found one ≡ Ok f → IsInOrder f one → trees.nodes ≡ f.trees.nodes → trees.ends ≡ f.trees.ends → AreNodesInOrder (with_entry passed next trees f) one
+in_order_still one f passed next trees is order nodes ends = record {
+  places = subst (λ ns. All (IsMirrored f.layout) (nodes_of ns)) (sym nodes) (found-mirrored one f is);
   copies = subst (λ ns. All (IsAlike (with_entry passed next trees f) one) (nodes_of ns)) (sym nodes)
       (All-weaker (IsAlike f one) (IsAlike (with_entry passed next trees f) one)
       (λ node same end is_end birth. same end (subst (λ (es : List NodeEnd). Contains es end) ends is_end) birth) (nodes_of f.trees.nodes) order.copies);
@@ -113,7 +114,6 @@ module _ (laws : BlockLaws) (one : Image) (f : Found) (is : found one ≡ Ok f) 
     others = λ x parts made. passes_with trees x (made_or_next laws f some passed next is_next blocks sealed one other old_or order told x parts made);
     owners = owners_stay laws f some passed next is_next blocks sealed one other old_or order.owners;
     levels = All-push (λ (x : FoundEntry). IsBelowRoots x.entry) (drop passed f.needed) next (All-drop (λ (x : FoundEntry). IsBelowRoots x.entry) passed f.needed order.levels) is_next.levels;
-    places = are.places;
     copies = alike-same (with_entry passed next trees f) one other (nodes_of trees.nodes) nodes are.copies;
     births = are.births;
   }
@@ -131,7 +131,6 @@ module _ (laws : BlockLaws) (one : Image) (f : Found) (is : found one ≡ Ok f) 
         (made_or_next laws f some passed next is_next blocks sealed one other old_or order (inl below) x parts made);
     owners = owners_stay laws f some passed next is_next blocks sealed one other old_or order.owners;
     levels = order.levels;
-    places = order.places;
     copies = alike-same f one other (nodes_of f.trees.nodes) agree.nodes order.copies;
     births = order.births;
   }

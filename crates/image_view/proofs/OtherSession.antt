@@ -142,7 +142,6 @@ in_order-named one other f session is placed differ names later order = record {
       let owned = subst (λ (area : Area). AreOwned f.layout f.session area) (area-named one other differ) order.owners dev place bytes head mirror within stands opens kind id in
       omega (arith, owned, later);
   levels = order.levels;
-  places = order.places;
   copies = alike-same f one other (nodes_of f.trees.nodes) (nodes-named one other differ f placed).nodes order.copies;
   births = All-weaker (λ (node : NodePtr). node.birth < (f.session + 1) * 2 ^ 32) (λ (node : NodePtr). node.birth < (session + 1) * 2 ^ 32) (λ node born. omega (arith, born, later)) (nodes_of f.trees.nodes) order.births;
 }

@@ -9,7 +9,7 @@ use Rattle.std.proofs.lemmas.Bool.{and_parts, eqb-true}
 use Rattle.std.proofs.lemmas.List.Elements.{All-nil}
 use Rattle.dev_model.specs.Disk.{Image, block_at}
 use Rattle.key_codec.specs.Combined.{bind_ok, ok_is}
-use Rattle.key_codec.specs.Formats.{FormatOf, both, carried, checked, followed, is_above, items, read_items}
+use Rattle.key_codec.specs.Formats.{FormatOf, both, checked, followed, is_above, items, read_items}
 use Rattle.node_mem.specs.CountLaws.{keys-put_at}
 use Rattle.node_mem.specs.Nodes.{with_keys}
 use Rattle.node_store.specs.Copies.{copies_at}
@@ -34,7 +34,8 @@ use Rattle.vol_types.specs.declared.keys.Key.{Key}
 use Rattle.vol_types.specs.declared.layout.Layout.{Layout}
 use Rattle.vol_types.specs.declared.positions.Pos.{Pos}
 use Rattle.vol_types.specs.declared.values.Value.{Value}
-use Rattle.image_view.specs.Found.{bad_place, sets_in}
+use Rattle.image_view.specs.BaseLaws.{sets_in-ok}
+use Rattle.image_view.specs.Found.{sets_in}
 use Rattle.image_view.proofs.LevelUpdates.{AreOfNode, AreOrdered, Lies}
 use Rattle.image_view.proofs.ReadParts.{checked_of, followed_of, items_of, mapped_of}
 
@@ -152,13 +153,9 @@ content_of_sets wanted (Ok found) content is = content_made wanted found.end (en
 
 -- ---- an image
 
-carried-ok : {E F X : Type 0} (named : F → E) (r : Result X F) (x : X) → carried named r ≡ Ok x → r ≡ Ok x
-carried-ok named (Ok y) x is = ap (λ v. Ok v) (ok_is y x is)
-carried-ok named (Err fault) x is = absurd cc
-
 -- An image's sets of each node come to entries of it.
 pub sets_are_ordered : (layout : Layout) (image : Image) → AreOrdered (sets_in layout image)
 sets_are_ordered layout image wanted content is =
     let head = wanted_of wanted.btree wanted.least wanted.greatest wanted.pointer in
     content_of_sets head (stored_sets (copies_at (block_at image) wanted.pointer.places) layout.id head.birth) content
-    (carried-ok (bad_place wanted.pointer) (content_in (copies_at (block_at image) wanted.pointer.places) layout.id head) content is)
+    (sets_in-ok layout image wanted content is).1

@@ -1,8 +1,13 @@
 -- The law over images: what two images mean is the same where they agree on the base of an entry that is the newest in both.
-use Rattle.std.proofs.Common.{◌≡◌, ℕ, zero, suc, ◌<◌, ◌≤◌, List, [], ◌∷◌, ◌++◌, Option, Some, None, Result, Ok, Err, refl, sym, ap, subst, ◌∙◌, arith}
+use Rattle.std.proofs.Common.{◌≡◌, ℕ, zero, suc, ◌+◌, ◌<◌, ◌≤◌, Bool, true, false, cond, List, [], ◌∷◌, ◌++◌, length, map, drop, Option, Some, None, Result, Ok, Err, refl, sym, ap, subst, ◌∙◌, arith}
 use Rattle.std.specs.Option.{ok_or, option_or}
-use Rattle.std.specs.Prelude.{All, option_and_then}
-use Rattle.std.proofs.lemmas.List.Elements.{All-head, All-tail, All-weaker}
+use Rattle.std.specs.List.{range_with_len}
+use Rattle.std.specs.Prelude.{All, option_and_then, ◌&&◌, ◌==◌, nat_le, slice_index, slice_index_or}
+use Rattle.std.proofs.lemmas.Bool.{and_parts, eq-eqb, eqb-true, le-leb, leb-true}
+use Rattle.std.proofs.lemmas.List.{length-map}
+use Rattle.std.proofs.lemmas.List.FromFn.{length-range_with_len}
+use Rattle.std.specs.Cmp.Derive.{both_true}
+use Rattle.std.proofs.lemmas.List.Elements.{All-cons, All-from_recursion, All-head, All-nil, All-tail, All-weaker}
 use Rattle.dev_model.specs.Disk.{Image, block_at}
 use Rattle.geometry.specs.Sessions.{greater, greatest_session, session_at, session_in, session_named}
 use Rattle.geometry.specs.Superblocks.{layout_in}
@@ -13,7 +18,7 @@ use Rattle.journal_ring.specs.declared.found.FoundEntry.{FoundEntry}
 use Rattle.key_codec.specs.Combined.{bind_ok, ok_is}
 use Rattle.key_codec.specs.Formats.{◌>>=◌, carried}
 use Rattle.node_store.specs.Copies.{copies_at, copy_at, shown_at, shown_below, shown_in}
-use Rattle.node_store.specs.NodeContents.{content_in, wanted_of}
+use Rattle.node_store.specs.NodeContents.{NodeContent, content_in, wanted_of}
 use Rattle.vol_types.specs.Limits.{bucket_blocks}
 use Rattle.vol_types.specs.declared.layout.Layout.{Layout}
 use Rattle.vol_types.specs.declared.pointers.NodePtr.{NodePtr}
@@ -23,9 +28,9 @@ use Rattle.key_meaning.specs.Checks.{IsSound}
 use Rattle.key_meaning.specs.ReadLaws.{forest_in-agree}
 use Rattle.key_meaning.specs.Reads.{AgreeOnBlocks, AgreeOnEntry as ReadAlike}
 use Rattle.image_view.specs.Bases.{AgreeAt, AgreeInBucket, AgreeOnBase, AgreeOnContent, AgreeOnEntry, AgreeOnNode, AgreeOnNodes, IsNewest}
-use Rattle.image_view.specs.Found.{Found, MountsAs, Volume, bad_place, found, node_places, read_in, sets_in, super_fault, updates_of, volume_of, with_digest, with_session}
-use Rattle.image_view.specs.TreeLaws.{HasSameSets, HaveSameSets, trees_of-same}
-use Rattle.image_view.specs.Trees.{TreesRead, nodes_of, trees_of}
+use Rattle.image_view.specs.Found.{Found, IsMirrored, MountsAs, Volume, are_mirrored, bad_place, found, node_places, read_in, sets_in, super_fault, updates_of, volume_of, with_digest, with_session}
+use Rattle.image_view.specs.TreeLaws.{HasSameSets, HaveSameSets, trees_of-each, trees_of-same}
+use Rattle.image_view.specs.Trees.{TreesRead, Wanted, first_place, nodes_of, trees_of}
 use Rattle.image_view.specs.declared.fault.MountFault.{MountFault}
 use Rattle.image_view.specs.declared.fault.MountFault.TheVariants.{BadNode, MissingEntry, NoEntry}
 
@@ -50,10 +55,14 @@ copies-same one other (place ∷ places) agree =
     ap (λ copy. copy ∷ copies_at (block_at other) places) (copy-same one other place (All-head (AgreeInBucket one other) place places agree))
     ∙ ap (λ copies. copy_at (block_at one) place ∷ copies) (copies-same one other places (All-tail (AgreeInBucket one other) place places agree))
 
--- Images that agree on a node's buckets have the same sets of it.
+-- Images in which a node's copies show the same have the same sets of it.
+pub shown-same : (layout : Layout) (one other : Image) (pointer : NodePtr) → copies_at (block_at other) pointer.places ≡ copies_at (block_at one) pointer.places → HasSameSets (sets_in layout one) (sets_in layout other) pointer
+shown-same layout one other pointer same = λ btree least greatest.
+    ap (λ copies. cond (are_mirrored layout 0 pointer.places) (carried (bad_place pointer) (content_in copies layout.id (wanted_of btree least greatest pointer))) (Err (first_place pointer))) same
+
+-- So have those that agree on its buckets.
 pub node-same : (layout : Layout) (one other : Image) (pointer : NodePtr) → AgreeOnNode one other pointer → HasSameSets (sets_in layout one) (sets_in layout other) pointer
-node-same layout one other pointer agree = λ btree least greatest.
-    ap (λ copies. carried (bad_place pointer) (content_in copies layout.id (wanted_of btree least greatest pointer))) (copies-same one other pointer.places agree)
+node-same layout one other pointer agree = shown-same layout one other pointer (copies-same one other pointer.places agree)
 
 nodes-same : (layout : Layout) (one other : Image) (pointers : List NodePtr) → All (AgreeOnNode one other) pointers → HaveSameSets (sets_in layout one) (sets_in layout other) pointers
 nodes-same layout one other [] agree = tt
@@ -76,7 +85,7 @@ greatest_session-same id one other (suc dev) even odd =
 -- ---- what is found
 
 -- what is carried on as a value was one
-carried-ok : {E F X : Type 0} (named : F → E) (r : Result X F) (x : X) → carried named r ≡ Ok x → r ≡ Ok x
+pub carried-ok : {E F X : Type 0} (named : F → E) (r : Result X F) (x : X) → carried named r ≡ Ok x → r ≡ Ok x
 carried-ok named (Ok y) x is = ap (λ v. Ok v) (ok_is y x is)
 carried-ok named (Err fault) x is = absurd cc
 
@@ -190,6 +199,84 @@ found-trees image f is =
     let parts : Found = record { layout = a.0; session = b.0; last = c.0; needed = d.0; trees = e.0 } in
     subst (λ (g : Found). trees_of (sets_in g.layout image) (updates_of g.needed) g.last.entry.roots ≡ Ok g.trees) (ok_is parts f e.2)
     (carried-ok BadNode (trees_of (sets_in a.0 image) (updates_of d.0) c.0.entry.roots) e.0 e.1)
+
+-- ---- the places of nodes
+
+-- What the sets of a node come to is what its copies hold, and its places are one bucket inside each metadata device.
+pub sets_in-ok : (layout : Layout) (image : Image) (wanted : Wanted) (content : NodeContent) → sets_in layout image wanted ≡ Ok content
+    → (are_mirrored layout 0 wanted.pointer.places ≡ true) × (content_in (copies_at (block_at image) wanted.pointer.places) layout.id (wanted_of wanted.btree wanted.least wanted.greatest wanted.pointer) ≡ Ok content)
+sets_in-ok layout image wanted content is = by (are_mirrored layout 0 wanted.pointer.places) refl is
+  where
+    held : Result NodeContent Place
+    held = carried (bad_place wanted.pointer) (content_in (copies_at (block_at image) wanted.pointer.places) layout.id (wanted_of wanted.btree wanted.least wanted.greatest wanted.pointer))
+
+    by : (test : Bool) → are_mirrored layout 0 wanted.pointer.places ≡ test → cond test held (Err (first_place wanted.pointer)) ≡ Ok content
+        → (are_mirrored layout 0 wanted.pointer.places ≡ true) × (content_in (copies_at (block_at image) wanted.pointer.places) layout.id (wanted_of wanted.btree wanted.least wanted.greatest wanted.pointer) ≡ Ok content)
+    by true mirrored comes = (mirrored, carried-ok (bad_place wanted.pointer) (content_in (copies_at (block_at image) wanted.pointer.places) layout.id (wanted_of wanted.btree wanted.least wanted.greatest wanted.pointer)) content comes)
+    by false mirrored comes = absurd cc
+
+-- And the other way round.
+pub sets_in-comes : (layout : Layout) (image : Image) (wanted : Wanted) (content : NodeContent) → are_mirrored layout 0 wanted.pointer.places ≡ true
+    → content_in (copies_at (block_at image) wanted.pointer.places) layout.id (wanted_of wanted.btree wanted.least wanted.greatest wanted.pointer) ≡ Ok content → sets_in layout image wanted ≡ Ok content
+sets_in-comes layout image wanted content mirrored comes =
+    ap (λ (test : Bool). cond test (carried (bad_place wanted.pointer) (content_in (copies_at (block_at image) wanted.pointer.places) layout.id (wanted_of wanted.btree wanted.least wanted.greatest wanted.pointer))) (Err (first_place wanted.pointer))) mirrored
+    ∙ ap (carried (bad_place wanted.pointer)) comes
+
+-- Places that pass are on the metadata devices from the first one on, in their order.
+mirrored-from : (layout : Layout) (dev : ℕ) (places : List Place) → are_mirrored layout dev places ≡ true → (map (λ (place : Place). place.dev) places ≡ range_with_len dev (length places)) × (dev + length places ≡ layout.metadata_replicas)
+mirrored-from layout dev [] is = let last : dev ≡ layout.metadata_replicas = eqb-true dev layout.metadata_replicas is in (refl, omega (arith, last))
+mirrored-from layout dev (place ∷ places) is =
+    let parts = and_parts (place.dev == dev && nat_le (place.block + bucket_blocks) (slice_index layout.blocks dev)) (are_mirrored layout (dev + 1) places) is in
+    let here : place.dev ≡ dev = eqb-true place.dev dev (and_parts (place.dev == dev) (nat_le (place.block + bucket_blocks) (slice_index layout.blocks dev)) parts.0).0 in
+    let rest = mirrored-from layout (dev + 1) places parts.1 in
+    let count = rest.1 in
+    (ap (λ n. n ∷ map (λ (p : Place). p.dev) places) here ∙ ap (λ ns. dev ∷ ns) rest.0, omega (arith, count))
+
+-- So the node has one place on each metadata device, in their order.
+pub mirrored-is : (layout : Layout) (node : NodePtr) → are_mirrored layout 0 node.places ≡ true → IsMirrored layout node
+mirrored-is layout node is =
+    let from = mirrored-from layout 0 node.places is in
+    let count = from.1 in
+    from.0 ∙ ap (range_with_len 0) (let e : length node.places ≡ layout.metadata_replicas = omega (arith, count) in e)
+
+-- Each bucket is inside its device.
+inside-from : (layout : Layout) (dev : ℕ) (places : List Place) → are_mirrored layout dev places ≡ true → All (λ (place : Place). place.block + bucket_blocks ≤ slice_index layout.blocks place.dev) places
+inside-from layout dev [] is = All-nil (λ (place : Place). place.block + bucket_blocks ≤ slice_index layout.blocks place.dev)
+inside-from layout dev (place ∷ places) is =
+    let parts = and_parts (place.dev == dev && nat_le (place.block + bucket_blocks) (slice_index layout.blocks dev)) (are_mirrored layout (dev + 1) places) is in
+    let both = and_parts (place.dev == dev) (nat_le (place.block + bucket_blocks) (slice_index layout.blocks dev)) parts.0 in
+    All-cons (λ (p : Place). p.block + bucket_blocks ≤ slice_index layout.blocks p.dev) place places
+    (subst (λ n. place.block + bucket_blocks ≤ slice_index layout.blocks n) (sym (eqb-true place.dev dev both.0)) (leb-true (place.block + bucket_blocks) (slice_index layout.blocks dev) both.1))
+    (inside-from layout (dev + 1) places parts.1)
+
+pub mirrored-inside : (layout : Layout) (node : NodePtr) → are_mirrored layout 0 node.places ≡ true → All (λ (place : Place). place.block + bucket_blocks ≤ slice_index layout.blocks place.dev) node.places
+mirrored-inside layout node is = inside-from layout 0 node.places is
+
+-- Places on the metadata devices in their order, each a bucket inside its device, pass.
+mirrored-to : (layout : Layout) (dev : ℕ) (places : List Place) → map (λ (place : Place). place.dev) places ≡ range_with_len dev (length places) → dev + length places ≡ layout.metadata_replicas
+    → All (λ (place : Place). place.block + bucket_blocks ≤ slice_index layout.blocks place.dev) places → are_mirrored layout dev places ≡ true
+mirrored-to layout dev [] are count inside = eq-eqb dev layout.metadata_replicas (omega (arith, count))
+mirrored-to layout dev (place ∷ places) are count inside =
+    let here : place.dev ≡ dev = ap (λ ns. slice_index_or ns 0 0) are in
+    let fits : place.block + bucket_blocks ≤ slice_index layout.blocks place.dev = All-head (λ (p : Place). p.block + bucket_blocks ≤ slice_index layout.blocks p.dev) place places inside in
+    both_true (both_true (eq-eqb place.dev dev here) (subst (λ n. nat_le (place.block + bucket_blocks) (slice_index layout.blocks n) ≡ true) here (le-leb (place.block + bucket_blocks) (slice_index layout.blocks place.dev) fits)))
+    (mirrored-to layout (dev + 1) places (ap (drop 1) are) (omega (arith, count)) (All-tail (λ (p : Place). p.block + bucket_blocks ≤ slice_index layout.blocks p.dev) place places inside))
+
+pub mirrored-passes : (layout : Layout) (node : NodePtr) → IsMirrored layout node → All (λ (place : Place). place.block + bucket_blocks ≤ slice_index layout.blocks place.dev) node.places → are_mirrored layout 0 node.places ≡ true
+mirrored-passes layout node mirrored inside =
+    let count : length node.places ≡ layout.metadata_replicas = sym (length-map {B = ℕ} node.places (λ (place : Place). place.dev)) ∙ ap (λ (ds : List ℕ). length ds) mirrored ∙ length-range_with_len 0 layout.metadata_replicas in
+    mirrored-to layout 0 node.places (mirrored ∙ ap (range_with_len 0) (sym count)) (omega (arith, count)) inside
+
+-- Each node that was found passes.
+pub found-placed : (image : Image) (f : Found) → found image ≡ Ok f → All (λ (node : NodePtr). are_mirrored f.layout 0 node.places ≡ true) (nodes_of f.trees.nodes)
+found-placed image f is =
+    All-from_recursion (λ (node : NodePtr). are_mirrored f.layout 0 node.places ≡ true) (nodes_of f.trees.nodes)
+    (trees_of-each (λ (node : NodePtr). are_mirrored f.layout 0 node.places ≡ true) (sets_in f.layout image) (updates_of f.needed) (λ wanted content comes. (sets_in-ok f.layout image wanted content comes).0)
+    f.last.entry.roots f.trees (found-trees image f is))
+
+-- So it has one place on each metadata device, in their order.
+pub found-mirrored : (image : Image) (f : Found) → found image ≡ Ok f → All (IsMirrored f.layout) (nodes_of f.trees.nodes)
+found-mirrored image f is = All-weaker (λ (node : NodePtr). are_mirrored f.layout 0 node.places ≡ true) (IsMirrored f.layout) (λ node passes. mirrored-is f.layout node passes) (nodes_of f.trees.nodes) (found-placed image f is)
 
 -- ---- the content of files
 

@@ -1,6 +1,6 @@
 -- What an image means, in its parts: the layout and the session, the entries that are needed, the btrees that these and the nodes
 -- make; and with them the volume.
-use Rattle.std.specs.Prelude.{◌≡◌, ◌==◌, ℕ, ◌+◌, ◌*◌, ◌<◌, ◌≤◌, ◌^◌, if◌then◌else◌, List, [], ◌∷◌, map, slice_get, Contains, All, IfSome, Option, Some, None, Result, Ok, Err, ⊤}
+use Rattle.std.specs.Prelude.{◌≡◌, ◌==◌, ◌&&◌, ℕ, ◌+◌, ◌*◌, ◌<◌, ◌≤◌, ◌^◌, Bool, nat_le, if◌then◌else◌, List, [], ◌∷◌, map, slice_get, slice_index, Contains, All, IfSome, Option, Some, None, Result, Ok, Err, ⊤}
 use Rattle.std.specs.List.{flat_map, range_with_len}
 use Rattle.std.specs.Option.{ok_or, option_or}
 use Rattle.dev_model.specs.Disk.{Image, block_at}
@@ -27,6 +27,7 @@ use Rattle.vol_digest.specs.Digests.{short_of}
 use Rattle.vol_types.specs.declared.keys.Update.{Update}
 use Rattle.vol_types.specs.declared.layout.Layout.{Layout}
 use Rattle.vol_types.specs.Btrees.{btree_code}
+use Rattle.vol_types.specs.Limits.{bucket_blocks}
 use Rattle.vol_types.specs.declared.pointers.NodeEnd.{NodeEnd}
 use Rattle.vol_types.specs.declared.pointers.NodePtr.{NodePtr}
 use Rattle.vol_types.specs.declared.pointers.Place.{Place}
@@ -47,9 +48,22 @@ super_fault supers.NoMemory = NoMemory
 abbrev pub bad_place : NodePtr → ℕ → Place
 bad_place pointer n = record { dev = (first_place pointer).dev; block = (first_place pointer).block + n }
 
--- what an image's sets of a node come to, or the place of the block at fault, on the node's first place
+-- whether a place is a bucket on this device, inside it
+abbrev pub is_inside : Layout → ℕ → Place → Bool
+is_inside layout dev place = place.dev == dev && nat_le (place.block + bucket_blocks) (slice_index layout.blocks dev)
+
+-- whether places are one bucket inside each metadata device from this one on, in their order
+abbrev pub are_mirrored : Layout → ℕ → List Place → Bool
+are_mirrored layout dev [] = dev == layout.metadata_replicas
+are_mirrored layout dev (place ∷ places) = is_inside layout dev place && are_mirrored layout (dev + 1) places
+
+-- what an image's sets of a node come to, or the place of the block at fault, on the node's first place. A node whose places aren't one
+-- bucket inside each metadata device, in their order, is bad.
 abbrev pub sets_in : Layout → Image → SetsOf
-sets_in layout image wanted = carried (bad_place wanted.pointer) (content_of (block_at image) layout.id wanted.btree wanted.least wanted.greatest wanted.pointer)
+sets_in layout image wanted =
+    if are_mirrored layout 0 wanted.pointer.places
+    then carried (bad_place wanted.pointer) (content_of (block_at image) layout.id wanted.btree wanted.least wanted.greatest wanted.pointer)
+    else Err (first_place wanted.pointer)
 
 -- the updates of entries, in their order
 abbrev pub updates_of : List FoundEntry → List Update
@@ -157,16 +171,15 @@ IsAlike f image node = (end : NodeEnd) → Contains f.trees.ends end → end.bir
 
 -- What was found in an image that nobody else wrote is orderly: the needed entries follow each other without a gap, and fit the
 -- journal area together; no entry passes them that its blocks make up, from whichever device each part is taken, and no block of
--- it is of a later session, and no update of them is above its root; and each node stands on every metadata device, with the same
--- sets there, born in a session up to its own. That no two nodes have one birth, and that no set of a node stands behind a gap,
--- is part of what is found.
+-- it is of a later session, and no update of them is above its root; and each node has the same sets on every metadata device, and was
+-- born in a session up to its own. That no two nodes have one birth, that each lies on every metadata device, and that no set of a node
+-- stands behind a gap, is part of what is found.
 pub record IsInOrder (f : Found) (image : Image) : Type 0 where
   pub entries : FollowOn f.needed
   pub fits : FitTogether f.layout f.needed
   pub others : (entry : FoundEntry) (blocks : List (List ℕ)) → IsMadeOf f.layout (area_of image) entry blocks → PassesNone f entry
   pub owners : AreOwned f.layout f.session (area_of image)
   pub levels : All (λ found. IsBelowRoots found.entry) f.needed
-  pub places : All (IsMirrored f.layout) (nodes_of f.trees.nodes)
   pub copies : All (IsAlike f image) (nodes_of f.trees.nodes)
   pub births : All (λ node. node.birth < (f.session + 1) * 2 ^ 32) (nodes_of f.trees.nodes)
 

@@ -7,6 +7,7 @@ use Rattle.std.specs.Prelude.{unwrap_or}
 use Rattle.std.proofs.lemmas.Grind.{flat_map-append}
 use Rattle.key_codec.specs.Combined.{bind_ok, ok_is}
 use Rattle.key_codec.specs.Formats.{◌>>=◌}
+use Rattle.node_store.specs.NodeContents.{NodeContent}
 use Rattle.tree_nodes.specs.Levels.{Level, Levels}
 use Rattle.vol_types.specs.Positions.{greatest_pos, least_pos, next_pos}
 use Rattle.vol_types.specs.declared.keys.Update.{Update}
@@ -85,9 +86,61 @@ module _ (one other : SetsOf) (updates : List Update) where
       ∙ ap (λ r. r >>= with_rest first.0) (btrees-same pairs rest.0 rest.1 later)
       ∙ rest.2
 
+-- What the sets of each node that is read say of it, all nodes have that were read.
+module _ (P : NodePtr → Type 0) (sets : SetsOf) (updates : List Update) (has : (wanted : Wanted) (content : NodeContent) → sets wanted ≡ Ok content → P wanted.pointer) where
+  all_both : (xs ys : List NodePtr) → AllByRecursion P xs → AllByRecursion P ys → AllByRecursion P (xs ++ ys)
+  all_both [] ys one other = other
+  all_both (x ∷ xs) ys one other = (one.0, all_both xs ys one.1 other)
+
+  level-each : (btree : Btree) (least : Pos) (nodes : Level) (read : List NodeRead) → read_level sets updates btree least nodes ≡ Ok read → AllByRecursion P (values_of nodes)
+  level-each btree least [] read is = tt
+  level-each btree least (node ∷ nodes) read is =
+      let wanted : Wanted = record { btree = btree; least = least; greatest = node.0; pointer = node.1 } in
+      let next : Pos = unwrap_or (next_pos node.0) greatest_pos in
+      let first = bind_ok (read_node sets updates wanted) (λ (first : NodeRead). read_level sets updates btree next nodes >>= (λ others. Ok (first ∷ others))) read is in
+      let own = bind_ok (sets wanted) (λ (content : NodeContent). Ok (record { greatest = node.0; pointer = node.1; entries = updated (filter (is_of_node wanted) updates) content.entries; end = content.end })) first.0 first.1 in
+      let rest = bind_ok (read_level sets updates btree next nodes) (λ others. Ok (first.0 ∷ others)) read first.2 in
+      (has wanted own.0 own.1, level-each btree next nodes rest.0 rest.1)
+
+  down-each : (btree : Btree) (level : ℕ) (nodes : Level) (read : BtreeRead) → read_down sets updates btree level nodes ≡ Ok read → AllByRecursion P (flat_map values_of read.levels)
+  down-each btree zero nodes read is =
+      let level = bind_ok (read_level sets updates btree least_pos nodes) (λ (read : List NodeRead). Ok (record { entries = flat_map (λ node. node.entries) read; levels = nodes ∷ []; ends = ends_of read })) read is in
+      let levels : nodes ∷ [] ≡ read.levels = ap (λ (r : BtreeRead). r.levels) (ok_is _ _ level.2) in
+      subst (λ (ls : Levels). AllByRecursion P (flat_map values_of ls)) levels (all_both (values_of nodes) [] (level-each btree least_pos nodes level.0 level.1) tt)
+  down-each btree (suc level) nodes read is =
+      let with_rest : List NodeRead → BtreeRead → Result BtreeRead Place = λ read rest. Ok (record { entries = rest.entries; levels = rest.levels ++ nodes ∷ []; ends = ends_of read ++ rest.ends }) in
+      let down_from : List NodeRead → List Level → Result BtreeRead Place = λ read below. read_down sets updates btree level (flat_map (λ children. children) below) >>= with_rest read in
+      let first = bind_ok (read_level sets updates btree least_pos nodes) (λ (read : List NodeRead). each_of (children_of level) read >>= down_from read) read is in
+      let below = bind_ok (each_of (children_of level) first.0) (down_from first.0) read first.2 in
+      let rest = bind_ok (read_down sets updates btree level (flat_map (λ children. children) below.0)) (with_rest first.0) read below.2 in
+      let levels : rest.0.levels ++ nodes ∷ [] ≡ read.levels = ap (λ (r : BtreeRead). r.levels) (ok_is _ _ rest.2) in
+      subst (λ (ls : Levels). AllByRecursion P (flat_map values_of ls)) levels
+      (subst (λ ps. AllByRecursion P ps) (sym (flat_map-append values_of rest.0.levels (nodes ∷ [])))
+      (all_both (flat_map values_of rest.0.levels) (values_of nodes ++ []) (down-each btree level (flat_map (λ children. children) below.0) rest.0 rest.1)
+      (all_both (values_of nodes) [] (level-each btree least_pos nodes first.0 first.1) tt)))
+
+  btrees-each : (pairs : List (Btree × NodePtr)) (reads : List BtreeRead) → each_of (btree_of sets updates) pairs ≡ Ok reads → AllByRecursion P (nodes_of (map (λ btree. btree.levels) reads))
+  btrees-each [] reads is = subst (λ (rs : List BtreeRead). AllByRecursion P (nodes_of (map (λ btree. btree.levels) rs))) (ok_is _ _ is) tt
+  btrees-each (pair ∷ pairs) reads is =
+      let with_rest : BtreeRead → List BtreeRead → Result (List BtreeRead) Place = λ read rest. Ok (read ∷ rest) in
+      let first = bind_ok (btree_of sets updates pair) (λ (read : BtreeRead). each_of (btree_of sets updates) pairs >>= with_rest read) reads is in
+      let rest = bind_ok (each_of (btree_of sets updates) pairs) (with_rest first.0) reads first.2 in
+      subst (λ (rs : List BtreeRead). AllByRecursion P (nodes_of (map (λ btree. btree.levels) rs))) (ok_is _ _ rest.2)
+      (all_both (flat_map values_of first.0.levels) (nodes_of (map (λ btree. btree.levels) rest.0))
+      (down-each pair.0 pair.1.level ((greatest_pos, pair.1) ∷ []) first.0 first.1) (btrees-each pairs rest.0 rest.1))
+
 own_births-ok : (twin : Option NodePtr) (read result : TreesRead) → option_map_or (λ (node : NodePtr). Err (first_place node)) twin (Ok read) ≡ Ok result → read ≡ result
 own_births-ok None read result is = ok_is read result is
 own_births-ok (Some node) read result is = absurd cc
+
+-- So it is of what roots and updates mean.
+pub trees_of-each : (P : NodePtr → Type 0) (sets : SetsOf) (updates : List Update) → ((wanted : Wanted) (content : NodeContent) → sets wanted ≡ Ok content → P wanted.pointer)
+    → (roots : List NodePtr) (read : TreesRead) → trees_of sets updates roots ≡ Ok read → AllByRecursion P (nodes_of read.nodes)
+unfolding trees_of
+trees_of-each P sets updates has roots read is =
+    let btrees = bind_ok (each_of (btree_of sets updates) (with_roots roots)) (λ (btrees : List BtreeRead). with_own_births (joined btrees)) read is in
+    let made : joined btrees.0 ≡ read = own_births-ok (first_twin (nodes_of (joined btrees.0).nodes)) (joined btrees.0) read btrees.2 in
+    subst (λ (r : TreesRead). AllByRecursion P (nodes_of r.nodes)) made (btrees-each P sets updates has (with_roots roots) btrees.0 btrees.1)
 
 -- What roots and updates mean stays where all nodes that were read have the same sets.
 pub trees_of-same : (one other : SetsOf) (updates : List Update) (roots : List NodePtr) (read : TreesRead) → trees_of one updates roots ≡ Ok read → HaveSameSets one other (nodes_of read.nodes) → trees_of other updates roots ≡ Ok read

@@ -65,7 +65,7 @@ pub fn crashes_leave_new_nodes()
         (trees : TreesRead) → AgreeOnBase f one other → trees.nodes ≡ f.trees.nodes
         → AgreeOnNodes (with_entry passed next trees f) one other }
     ensures old_order { (one : Image) (f : Found) (passed : ℕ) (next : AFound)
-        (trees : TreesRead) → IsInOrder f one → trees.nodes ≡ f.trees.nodes
+        (trees : TreesRead) → found one ≡ Ok f → IsInOrder f one → trees.nodes ≡ f.trees.nodes
         → trees.ends ≡ f.trees.ends → AreNodesInOrder (with_entry passed next trees f) one }
     // Some of the nodes may be those that were found, and the others written whole.
     ensures each_agrees { (one other : Image) (f : Found) (passed : ℕ) (next : AFound)
@@ -73,7 +73,7 @@ pub fn crashes_leave_new_nodes()
         → All (λ node. Contains (nodes_of f.trees.nodes) node ⊎ AgreeOnNode one other node)
         (nodes_of trees.nodes) → AgreeOnNodes (with_entry passed next trees f) one other }
     ensures each_order { (one : Image) (f : Found) (passed : ℕ) (next : AFound)
-        (trees : TreesRead) → IsInOrder f one
+        (trees : TreesRead) → found one ≡ Ok f → IsInOrder f one
         → All (λ node. IsKeptNode f trees node ⊎ IsNewNode f one node) (nodes_of trees.nodes)
         → AreNodesInOrder (with_entry passed next trees f) one }
 {

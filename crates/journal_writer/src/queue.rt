@@ -1,4 +1,4 @@
-ghost use Rattle.std.specs.Prelude.{◌≡◌, ◌↔◌, ◌+◌, ◌-◌, ◌<◌, ◌≤◌, ◌^◌, ◌++◌, ◌∷◌, [], All, IfOk, IsTrue, List, OnOk, false, true, length, not, sum_by, ◌==◌, vec_len, vec_capacity};
+ghost use Rattle.std.specs.Prelude.{◌≡◌, ◌↔◌, ◌+◌, ◌*◌, ◌-◌, ◌<◌, ◌≤◌, ◌^◌, ◌++◌, ◌∷◌, [], All, IfOk, IsTrue, List, OnOk, false, true, length, not, sum_by, ◌==◌, vec_len, vec_capacity};
 ghost use Rattle.record_codec.specs.Entries.{update_length_of};
 ghost use Rattle.vol_types.specs.KeyMaps.{IsKeyMap, KeyMap};
 ghost use Rattle.vol_types.specs.Standing.{IsUpdate};
@@ -288,7 +288,7 @@ impl EntryQueue {
     {
         if self.closed.is_empty() {
             let next = self.new_entry(alloc);
-            return mem::replace(&mut self.open_entry, next).close();
+            return close_open(&mut self.open_entry, next);
         }
         take_first(&mut self.closed)
     }
@@ -316,9 +316,9 @@ impl EntryQueue {
     {
         if self.oldest_has_keys() {
             put_first(&mut self.closed, entry);
-        } else {
-            self.open_entry = OpenEntry::reopened(entry);
+            return;
         }
+        reopen(&mut self.open_entry, entry);
     }
 
     // Whether the entry that is written next has keys.
@@ -362,6 +362,23 @@ fn take_first(entries: &mut Vec<Pending>) -> Pending
     ensures place { 0 < vec_capacity entries.new - vec_len entries.new }
 {
     entries.remove(0)
+}
+
+// Closes the open entry, and opens this one in its place.
+fn close_open(current: &mut OpenEntry, next: OpenEntry) -> Pending
+    ensures closed { result ≡ current.old.entry }
+    ensures next { current.new ≡ next }
+{
+    mem::replace(current, next).close()
+}
+
+// Opens an entry again that was closed, in the place of the open one.
+fn reopen(current: &mut OpenEntry, entry: Pending)
+    requires updates { All IsUpdate entry.changes.updates }
+    requires few { sum_by update_length_of entry.changes.updates ≤ 64 * 3968 }
+    ensures { current.new.entry ≡ entry }
+{
+    *current = OpenEntry::reopened(entry);
 }
 
 // Puts an entry before others, where there is a place for it.

@@ -263,22 +263,32 @@ impl EntryWriter {
         requires stage { step_of self.old ≡ Settle }
         ensures { self.new ≡ settled self.old }
     {
-        let Some(flight) = self.flight.take() else {
+        let Some(flight) = &self.flight else {
             unreachable!()
         };
-        let passed = passed(flight.oldest, self.durable.oldest, self.starts.len());
+        let sequence = flight.entry.after + 1;
+        let commits = flight.entry.commits;
+        let oldest = flight.oldest;
+        land(&mut self.flight);
+        let passed = passed(oldest, self.durable.oldest, self.starts.len());
         drop_first(&mut self.starts, passed);
         let first = self.starts[0];
         self.ring.settle(first);
         self.begun = false;
         self.durable = Durable {
-            sequence: flight.entry.after + 1,
-            commits: flight.entry.commits,
-            oldest: flight.oldest,
+            sequence,
+            commits,
+            oldest,
             first,
         };
-        drop(flight);
     }
+}
+
+// Lets the entry in flight go.
+fn land(flight: &mut Option<Flight>)
+    ensures { flight.new ≡ None }
+{
+    *flight = None;
 }
 
 // The numbers of the first blocks of entries, which lie before the end of the newest one.

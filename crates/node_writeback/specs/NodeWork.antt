@@ -1,7 +1,8 @@
 -- Nodes that are written whole into new buckets: what is frozen of each, and how far they are written.
-use Rattle.std.specs.Prelude.{◌≡◌, ℕ, ◌+◌, ◌<◌, ◌≤◌, ◌^◌, ◌==◌, if◌then◌else◌, ⊤, Option, Some, None, IfSome, List, [], ◌∷◌, ◌++◌, All, length}
-use Rattle.node_store.specs.Plans.{HoldsAlone, planned_blocks}
+use Rattle.std.specs.Prelude.{◌≡◌, ℕ, ◌+◌, ◌<◌, ◌≤◌, ◌^◌, ◌==◌, if◌then◌else◌, ⊤, Option, Some, None, IfSome, List, [], ◌∷◌, ◌++◌, All}
+use Rattle.node_store.specs.Plans.{AreZerosFrom, HoldsAlone, IsReadAlone, blocks_for, planned_blocks, set_stored}
 use Rattle.node_store.specs.declared.planning.Blocked.{Blocked}
+use Rattle.record_codec.specs.Sets.{set_format}
 use Rattle.record_codec.specs.declared.sets.SetRecord.{SetRecord}
 use Rattle.vol_types.specs.Limits.{bucket_blocks}
 use Rattle.vol_types.specs.declared.pointers.NodePtr.{NodePtr}
@@ -37,21 +38,23 @@ left_nodes (Some unfinished) = unfinished.node ∷ []
 abbrev pub frozen_nodes : NodeWork → List FrozenNode
 frozen_nodes work = work.finished ++ left_nodes work.unfinished
 
--- The blocks are those of a new node with the keys of a set alone: they fill its bucket.
-pub record IsWholePlan (id : List ℕ) (fresh : NodePtr) (set : SetRecord) (blocked : Blocked) : Type 0 where
+-- The blocks are those of a new node: they fill its bucket, with this set, in whose head this sequence stands, and zero blocks behind it.
+pub record IsWholePlan (id : List ℕ) (sequence : ℕ) (fresh : NodePtr) (set : SetRecord) (blocked : Blocked) : Type 0 where
   pub places : blocked.places ≡ fresh.places
   pub first : blocked.block ≡ 0
   pub whole : planned_blocks blocked ≡ bucket_blocks
+  pub alone : IsReadAlone id fresh (set_stored 0 sequence (set_format.encode set)) blocked
+  pub zeros : AreZerosFrom (blocks_for (set_format.encode set)) blocked
   pub holds : HoldsAlone id fresh set blocked
 
 -- the work with a further frozen node, which was born in it
 abbrev pub with_frozen : FrozenNode → NodeWork → NodeWork
 with_frozen node work = record { finished = work.finished; unfinished = Some (record { node = node; written = 0 }); born = work.born + 1 }
 
--- The node with this birth was frozen: the keys of the set are what is written of it.
-pub record IsFrozen (id : List ℕ) (birth : ℕ) (fresh : NodePtr) (set : SetRecord) (old new : NodeWork) : Type 0 where
+-- The node with this birth was frozen: the set, with this sequence, is what is written of it.
+pub record IsFrozen (id : List ℕ) (sequence birth : ℕ) (fresh : NodePtr) (set : SetRecord) (old new : NodeWork) : Type 0 where
   pub blocked : Blocked
-  pub planned : IsWholePlan id fresh set blocked
+  pub planned : IsWholePlan id sequence fresh set blocked
   pub is : new ≡ with_frozen (record { btree = set.btree; birth = birth; fresh = fresh; blocked = blocked }) old
 
 -- the work with one more block of the unfinished node written, which is finished after its last one

@@ -56,8 +56,8 @@ impl From<AllocError> for FreezeFault {
 }
 
 /// Freezes the only leaf of a btree: what it has by durable entries alone is what is written of it, into the first free bucket of each
-/// metadata device, under the next birth of the session. `durable` is the sequence of the last durable entry. What changes the leaf
-/// from now on is noted, beginning with the entries that aren't durable yet.
+/// metadata device, under the next birth of the session. `durable` is the sequence of the last durable entry, and stands in the head of the set. What
+/// changes the leaf from now on is noted, beginning with the entries that aren't durable yet.
 ///
 /// It goes over the updates of these entries, and takes memory for a copy of the leaf and its bytes, and the time of two digests of them.
 /// An `Err` changes nothing.
@@ -86,7 +86,7 @@ pub fn freeze_leaf(
     ensures fits { OnOk result (size_of (durable_entries (option_copied flight.entry) queue.now.queue map.now btree)
         ≤ node_limit) }
     ensures free { OnOk result (have_free layout.now.metadata_replicas pool.old ≡ true) }
-    ensures frozen { OnOk result (IsFrozen layout.now.id (root_in map.now.nodes btree).birth
+    ensures frozen { OnOk result (IsFrozen layout.now.id durable (root_in map.now.nodes btree).birth
         (fresh_leaf session nodes.old.born layout.now.metadata_replicas pool.old)
         (leaf_set (next_birth session nodes.old.born) btree
         (durable_entries (option_copied flight.entry) queue.now.queue map.now btree)) nodes.old nodes.new) }
@@ -145,7 +145,7 @@ fn freeze_as(
     requires stand { All (MayStand btree 0) (values_of leaf.now.entries) }
     ensures fits { OnOk result (size_of leaf.now.entries ≤ node_limit) }
     ensures free { OnOk result (have_free layout.now.metadata_replicas pool.old ≡ true) }
-    ensures frozen { OnOk result (IsFrozen layout.now.id root
+    ensures frozen { OnOk result (IsFrozen layout.now.id durable root
         (fresh_leaf session nodes.old.born layout.now.metadata_replicas pool.old)
         (leaf_set (next_birth session nodes.old.born) btree leaf.now.entries) nodes.old nodes.new) }
     ensures pool { OnOk result (pool.new ≡ noded layout.now.metadata_replicas pool.old) }
@@ -259,7 +259,7 @@ fn write_leaf(
     requires greatest { leaf.now.greatest ≡ greatest_pos }
     requires fits { size_of leaf.now.entries ≤ node_limit }
     requires stand { All (MayStand btree 0) (values_of leaf.now.entries) }
-    ensures ok { OnOk result (IsFrozen layout.now.id birth fresh
+    ensures ok { OnOk result (IsFrozen layout.now.id durable birth fresh
         (leaf_set fresh.birth btree leaf.now.entries) nodes.old nodes.new) }
     ensures err { OnErr result (nodes.new ≡ nodes.old) }
 {

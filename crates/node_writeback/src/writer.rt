@@ -84,8 +84,8 @@ impl NodeWriter {
         self.unfinished.is_none()
     }
 
-    /// Freezes a node, in whose place `fresh` comes: the keys of the set are what is written of it. It takes the bytes' memory and the
-    /// time of two digests of them. An `Err` changes nothing.
+    /// Freezes a node, in whose place `fresh` comes: the set is what is written of it, with this sequence in its head. It takes the bytes'
+    /// memory and the time of two digests of them. An `Err` changes nothing.
     pub fn freeze(
         &mut self,
         alloc: Global,
@@ -103,7 +103,7 @@ impl NodeWriter {
         requires places { 0 < length fresh.places }
         requires fits { (set_length_of set.now.keys + 3967) / 3968 ≤ 16 }
         requires values { All (λ key. IsSome key.value) set.now.keys }
-        ensures ok { OnOk result (IsFrozen layout.now.id birth fresh set.now self.old self.new) }
+        ensures ok { OnOk result (IsFrozen layout.now.id sequence birth fresh set.now self.old self.new) }
         ensures err { OnErr result (self.new ≡ self.old) }
     {
         if self.finished.reserve(1).is_err() {

@@ -15,6 +15,8 @@ mod inodes;
 #[cfg(test)]
 mod looks;
 #[cfg(test)]
+mod name_plans;
+#[cfg(test)]
 mod names;
 #[cfg(test)]
 mod plans;

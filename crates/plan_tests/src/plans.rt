@@ -18,7 +18,7 @@ use vol_types::{
 };
 
 /// Ids, each with its parent.
-static IDS: [(u32, u32); 3] = [(10, 30), (20, 30), (30, 0)];
+pub(crate) static IDS: [(u32, u32); 3] = [(10, 30), (20, 30), (30, 0)];
 
 /// The next number of client 0, and that of client 1, which has used all of its own.
 const NEXT: u64 = 4;
@@ -45,7 +45,12 @@ fn sub_of(alloc: Global, name: &[u8], id: u32) -> Result<Value, AllocError> {
     Ok(Value::Subs(subs))
 }
 
-fn put_sub(alloc: Global, keys: &mut PlainKeys, name: &[u8], id: u32) -> Result<(), AllocError> {
+pub(crate) fn put_sub(
+    alloc: Global,
+    keys: &mut PlainKeys,
+    name: &[u8],
+    id: u32,
+) -> Result<(), AllocError> {
     let value = sub_of(alloc, name, id)?;
     let pos = Pos {
         inode: 0,
@@ -56,7 +61,7 @@ fn put_sub(alloc: Global, keys: &mut PlainKeys, name: &[u8], id: u32) -> Result<
     Ok(())
 }
 
-fn counter_pos(client: u64) -> Pos {
+pub(crate) fn counter_pos(client: u64) -> Pos {
     Pos {
         inode: 0,
         offset: client,
@@ -64,7 +69,7 @@ fn counter_pos(client: u64) -> Pos {
     }
 }
 
-fn inode_pos(id: u32, number: u64) -> Pos {
+pub(crate) fn inode_pos(id: u32, number: u64) -> Pos {
     Pos {
         inode: 0,
         offset: number,
@@ -72,7 +77,7 @@ fn inode_pos(id: u32, number: u64) -> Pos {
     }
 }
 
-fn name_pos(id: u32, directory: u64, name: &[u8]) -> Pos {
+pub(crate) fn name_pos(id: u32, directory: u64, name: &[u8]) -> Pos {
     Pos {
         inode: directory,
         offset: slot(name),
@@ -200,14 +205,18 @@ fn names_of(alloc: Global, names: &[&'static [u8]]) -> Result<NameList, AllocErr
     Ok(list)
 }
 
-fn path_of(alloc: Global, sub: &[u8], names: &[&'static [u8]]) -> Result<Path, AllocError> {
+pub(crate) fn path_of(
+    alloc: Global,
+    sub: &[u8],
+    names: &[&'static [u8]],
+) -> Result<Path, AllocError> {
     let names = names_of(alloc, names)?;
     let sub = Bytes::from_slice(alloc, sub)?;
     Ok(Path { sub, names })
 }
 
 /// A name with its flag.
-type Flagged = (&'static [u8], u8);
+pub(crate) type Flagged = (&'static [u8], u8);
 
 fn push_flag(alloc: Global, list: &mut FlagList, name: &[u8], flag: u8) -> Result<(), AllocError> {
     let name = Bytes::from_slice(alloc, name)?;
@@ -215,7 +224,7 @@ fn push_flag(alloc: Global, list: &mut FlagList, name: &[u8], flag: u8) -> Resul
     Ok(())
 }
 
-fn flags_of(alloc: Global, rows: &[Flagged]) -> Result<Reply, AllocError> {
+pub(crate) fn flags_of(alloc: Global, rows: &[Flagged]) -> Result<Reply, AllocError> {
     let mut list = FlagList::new(alloc);
     for (name, flag) in rows {
         push_flag(alloc, &mut list, name, *flag)?;
@@ -224,7 +233,7 @@ fn flags_of(alloc: Global, rows: &[Flagged]) -> Result<Reply, AllocError> {
 }
 
 // Whether there is a plan of this reply that is no commit.
-fn has_reply(plan: &Option<Plan>, reply: &Reply) -> bool {
+pub(crate) fn has_reply(plan: &Option<Plan>, reply: &Reply) -> bool {
     match plan {
         Some(plan) => !plan.commits && plan.reply == *reply,
         None => false,
@@ -320,7 +329,7 @@ fn listings_are_refused(rt: HostRuntime) -> Result<(), Fail> {
 }
 
 // Whether there is a plan of these updates and this reply, which is a commit where it is done.
-fn is_plan(plan: &Option<Plan>, updates: &Updates, reply: &Reply) -> bool {
+pub(crate) fn is_plan(plan: &Option<Plan>, updates: &Updates, reply: &Reply) -> bool {
     let done = matches!(reply, Reply::Okay);
     match plan {
         Some(plan) => { plan.commits == done && plan.updates == *updates && plan.reply == *reply }

@@ -11,8 +11,8 @@ use Rattle.btree_map.specs.Trees.{IsTrees}
 use Rattle.dev_model.specs.Disk.{Image, block_at}
 use Rattle.geometry.specs.LayoutFacts.{has_places}
 use Rattle.geometry.specs.SuperLaws.{layout_fits}
-use Rattle.image_view.specs.BaseLaws.{found-layout, found-newest, found-trees}
-use Rattle.image_view.specs.Found.{Found, bad_place, found, sets_in, updates_of}
+use Rattle.image_view.specs.BaseLaws.{found-layout, found-newest, found-trees, sets_in-ok}
+use Rattle.image_view.specs.Found.{Found, found, sets_in, updates_of}
 use Rattle.image_view.specs.Trees.{BtreeRead, SetsOf, TreesRead, btree_of, each_of, first_place, first_twin, joined, nodes_of, trees_of, with_own_births, with_roots}
 use Rattle.journal_ring.specs.Counting.{needed_by, newest, entries_from, with_one, counting}
 use Rattle.journal_ring.specs.Entries.{IsMadeOf, IsWhole, IsWholeOn}
@@ -20,9 +20,6 @@ use Rattle.journal_ring.specs.Parts.{Area, area_of}
 use Rattle.journal_ring.specs.declared.found.FoundEntry.{FoundEntry}
 use Rattle.key_codec.specs.Combined.{bind_ok, ok_is}
 use Rattle.key_codec.specs.Exact.{IsExactBut}
-use Rattle.key_codec.specs.Formats.{carried}
-use Rattle.node_store.specs.Copies.{copies_at}
-use Rattle.node_store.specs.NodeContents.{content_in}
 use Rattle.record_codec.specs.Entries.{IsEntry, entry_format, entry_in}
 use Rattle.record_codec.specs.Sets.{IsSet, all_read, set_format}
 use Rattle.record_codec.specs.declared.entries.EntryRecord.{EntryRecord}
@@ -138,15 +135,11 @@ module _ (whole : AreWhole) (made_of : AreMadeOf) (sealed : AreSealed) (exact_en
 
   -- ---- sets
 
-  carried-ok : {E F X : Type 0} (named : F → E) (r : Result X F) (x : X) → carried named r ≡ Ok x → r ≡ Ok x
-  carried-ok named (Ok y) x is = ap (λ v. Ok v) (ok_is y x is)
-  carried-ok named (Err fault) x is = absurd cc
-
   -- The sets that an image has of each node come to what may be its entries.
   sets_sound : (layout : Layout) (image : Image) → AreSound (sets_in layout image)
   sets_sound layout image wanted content is =
       content_sound sealed exact_sets (block_at image) layout.id (head_of wanted) wanted.pointer.places content
-      (carried-ok (bad_place wanted.pointer) (content_in (copies_at (block_at image) wanted.pointer.places) layout.id (head_of wanted)) content is)
+      (sets_in-ok layout image wanted content is).1
 
   -- ---- what is found
 

@@ -10,6 +10,7 @@ mod Loading
 pub mod Images
 pub mod Sessions
 pub mod Handed
+pub mod NextSession
 pub mod MendedEntry
 pub mod MendedMeaning
 pub mod Opened

@@ -32,6 +32,7 @@ use Rattle.vol_types.specs.declared.values.Value.{Value}
 use Rattle.vol_types.specs.declared.values.Value.TheVariants as values
 use Rattle.replay.specs.Beginning.{MeansTheSame}
 use Rattle.image_reader.specs.Answers.{WasWhole}
+use Rattle.replay.proofs.NextSession.{journal_session}
 use Rattle.replay.specs.Mending.{ChangesJournal, IsInOrderOn, IsJournalBlock, KeepsFound, KeepsMeaning}
 
 -- ---- what is touched
@@ -132,7 +133,13 @@ means_the_same f one other is again order same =
 
 -- Whatever a crash leaves while the journal is mended means the same.
 pub keeps_meaning : (f : Found) (layout : Layout) (old new : DevicesState) → f.layout ≡ layout → IsInOrderOn f (now old) → KeepsFound f old new → ChangesJournal layout old new → KeepsMeaning f old new
-keeps_meaning f layout old new layouts on keeps changes m lo hi image may untorn =
-    let kept = keeps m lo hi image may untorn in
+keeps_meaning f layout old new layouts on keeps changes =
     let here : ChangesJournal f.layout old new = subst (λ (l : Layout). ChangesJournal l old new) (sym layouts) changes in
-    means_the_same f (as_read (now old)) image on.on.finds kept.0 kept.1 (here.each m lo hi image may)
+    record {
+      means = λ m lo hi image may untorn.
+          let kept = keeps m lo hi image may untorn in
+          means_the_same f (as_read (now old)) image on.on.finds kept.0 kept.1 (here.each m lo hi image may);
+      session = λ m lo hi image may untorn session named.
+          let same : session ≡ f.session = journal_session f (as_read (now old)) image on.on.finds (here.each m lo hi image may) session named in
+          omega (arith, same);
+    }

@@ -17,7 +17,8 @@ use Rattle.journal_ring.specs.declared.found.FoundEntry.{FoundEntry}
 use Rattle.key_codec.specs.Combined.{ok_is}
 use Rattle.vol_types.specs.declared.layout.Layout.{Layout}
 use Rattle.replay.specs.Beginning.{IsFoundOn, MeansTheSame}
-use Rattle.replay.specs.Mending.{BringsNoBlock, HasMended, IsInOrderOn, IsReady, KeepsMeaning, KeepsPast}
+use Rattle.replay.specs.Mending.{BringsNoBlock, ChangesJournal, HasMended, IsInOrderOn, IsJournalBlock, IsReady, KeepsMeaning, KeepsPast, KeepsSession}
+use Rattle.replay.proofs.NextSession.{journal_session, sessions_before}
 
 -- ---- one meaning after another
 
@@ -51,8 +52,8 @@ digests_same layout session one other same apart these those payload second dige
 
 module _ (f : Found) (layout : Layout) (session : ℕ) (layouts : f.layout ≡ layout) (sessions : f.session ≡ session) (old mid : DevicesState) (on : IsInOrderOn f (now old)) (crashes : EachCrash (λ _ _ image. MeansTheSame f (as_read (now old)) image) old mid) where
   -- Whatever a crash leaves until then means the same.
-  pub keeps_begun : KeepsMeaning f old mid
-  keeps_begun m lo hi image may untorn = crashes.each m lo hi image may
+  pub keeps_begun : KeepsSession f old mid → KeepsMeaning f old mid
+  keeps_begun kept = record { means = λ m lo hi image may untorn. crashes.each m lo hi image may; session = kept }
 
   module _ (are : All IsDisk (now mid)) (begun : IsFoundOn (with_session (session + 1) f) (now mid)) (rest : AreAtRest layout.metadata_replicas (now mid)) (elsewhere : SameBut (IsSessionPlace layout (session + 1)) (as_read (now old)) (as_read (now mid))) where
     means : MeansTheSame f (as_read (now old)) (as_read (now mid))
@@ -73,12 +74,22 @@ module _ (f : Found) (layout : Layout) (session : ℕ) (layouts : f.layout ≡ l
     -- ---- and the journal is mended
 
     -- Whatever a crash leaves from the beginning on means the same.
-    pub keeps_both : (new : DevicesState) → ((m : ℕ) → m ≤ mid.moment → new.disks m ≡ mid.disks m) → KeepsMeaning (with_session (session + 1) f) mid new → KeepsMeaning f old new
-    keeps_both new past keeps m lo hi image may untorn = ⊎_elim
-        (λ (after : mid.moment < m). means_then f (as_read (now old)) (as_read (now mid)) image (session + 1) means session_is
-        (keeps m (omega (arith, after)) hi image may (record { reads = λ dev place mirror within n from to. untorn.reads dev place mirror within n (omega (arith, from, crashes.later)) to; left = untorn.left })))
-        (λ (earlier : m ≤ mid.moment). crashes.each m lo earlier image (subst (λ (ds : List Disk). IsCrashImage ds image) (past m earlier) may))
-        (cases_lt mid.moment m)
+    pub keeps_both : (new : DevicesState) → ChangesJournal layout mid new → KeepsSession f old mid → KeepsMeaning (with_session (session + 1) f) mid new → KeepsMeaning f old new
+    keeps_both new changes kept keeps = record {
+      means = λ m lo hi image may untorn. ⊎_elim
+          (λ (after : mid.moment < m). means_then f (as_read (now old)) (as_read (now mid)) image (session + 1) means session_is
+          (keeps.means m (omega (arith, after)) hi image may (record { reads = λ dev place mirror within n from to. untorn.reads dev place mirror within n (omega (arith, from, crashes.later)) to; left = untorn.left })))
+          (λ (earlier : m ≤ mid.moment). crashes.each m lo earlier image (subst (λ (ds : List Disk). IsCrashImage ds image) (changes.past m earlier) may))
+          (cases_lt mid.moment m);
+      session = λ m lo hi image may untorn s named. ⊎_elim
+          (λ (after : mid.moment < m).
+          let same : s ≡ session + 1 = journal_session (with_session (session + 1) f) (as_read (now mid)) image begun.finds
+          (subst (λ (l : Layout). SameBut (IsJournalBlock l) (as_read (now mid)) image) (sym layouts) (changes.each m (omega (arith, after)) hi image may)) s named in
+          (let e : s ≤ f.session + 1 = omega (arith, same, sessions) in e))
+          (λ (earlier : m ≤ mid.moment).
+          kept m lo earlier image (subst (λ (ds : List Disk). IsCrashImage ds image) (changes.past m earlier) may) (sessions_before f.layout old.moment m mid new image changes.past earlier untorn) s named)
+          (cases_lt mid.moment m);
+    }
 
 -- ---- what was
 

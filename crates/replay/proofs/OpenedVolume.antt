@@ -18,6 +18,7 @@ use Rattle.vol_types.specs.Faults.{RoseBy}
 use Rattle.vol_types.specs.declared.layout.Layout.{Layout}
 use Rattle.replay.specs.Answers.{IsLoaded}
 use Rattle.replay.specs.Beginning.{MeansTheSame, begin_fault_device}
+use Rattle.replay.proofs.NextSession.{stay_session, stay_then_session}
 use Rattle.replay.specs.Mending.{IsInOrderOn, IsReady, KeepsMeaning, KeepsPast}
 use Rattle.replay.specs.Opening.{IsRefusal, in_next_session, opening_fault}
 use Rattle.replay.specs.Volumes.{found_in}
@@ -179,16 +180,22 @@ left_means f disks on image may = subst (λ (im : Image). MeansTheSame f (as_rea
 
 -- While disks stay a crash leaves what means the same,
 pub stay_means : (f : Found) (old new : DevicesState) → IsInOrderOn f (now old) → DisksStay old new → KeepsMeaning f old new
-stay_means f old new on stay m lo hi image may untorn = left_means f (now old) on image (subst (λ (ds : List Disk). IsCrashImage ds image) (stay.same m lo hi) may)
+stay_means f old new on stay = record {
+  means = λ m lo hi image may untorn. left_means f (now old) on image (subst (λ (ds : List Disk). IsCrashImage ds image) (stay.same m lo hi) may);
+  session = stay_session f old new on.on stay;
+}
 
 -- and also while what follows keeps the meaning.
 pub stay_then_means : (f : Found) (old mid new : DevicesState) → IsInOrderOn f (now old) → DisksStay old mid → KeepsPast mid new → KeepsMeaning f mid new → KeepsMeaning f old new
-stay_then_means f old mid new on stay past keeps m lo hi image may untorn = ⊎_elim
-    (λ (after : mid.moment < m).
-    subst (λ (ds : List Disk). MeansTheSame f (as_read ds) image) (stay_now old mid stay)
-    (keeps m (omega (arith, after)) hi image may (record { reads = λ dev place mirror within n from to. untorn.reads dev place mirror within n (omega (arith, from, later)) to; left = untorn.left })))
-    (λ (earlier : m ≤ mid.moment). left_means f (now old) on image (subst (λ (ds : List Disk). IsCrashImage ds image) (past m earlier ∙ stay.same m lo earlier) may))
-    (cases_lt mid.moment m)
+stay_then_means f old mid new on stay past keeps = record {
+  means = λ m lo hi image may untorn. ⊎_elim
+      (λ (after : mid.moment < m).
+      subst (λ (ds : List Disk). MeansTheSame f (as_read ds) image) (stay_now old mid stay)
+      (keeps.means m (omega (arith, after)) hi image may (record { reads = λ dev place mirror within n from to. untorn.reads dev place mirror within n (omega (arith, from, later)) to; left = untorn.left })))
+      (λ (earlier : m ≤ mid.moment). left_means f (now old) on image (subst (λ (ds : List Disk). IsCrashImage ds image) (past m earlier ∙ stay.same m lo earlier) may))
+      (cases_lt mid.moment m);
+  session = stay_then_session f old mid new on.on stay past keeps.session;
+}
   where
     later : old.moment ≤ mid.moment
     later = stay.later

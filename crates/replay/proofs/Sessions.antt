@@ -48,7 +48,7 @@ some_of (Some a) None s named = (a, refl)
 some_of (Some a) (Some b) s named = (max a b, refl)
 
 -- No device names a greater session than the greatest one.
-greatest_least : (id : List ℕ) (image : Image) (count most dev s : ℕ) → greatest_session id image count ≡ Some most → dev < count → session_at id image dev (session_place s) ≡ Some s → s ≤ most
+pub greatest_least : (id : List ℕ) (image : Image) (count most dev s : ℕ) → greatest_session id image count ≡ Some most → dev < count → session_at id image dev (session_place s) ≡ Some s → s ≤ most
 greatest_least id image zero most dev s is within named = absurd (omega (arith, within))
 greatest_least id image (suc count) most dev s is within named =
     let before = greatest_session id image count in

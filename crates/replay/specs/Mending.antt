@@ -1,11 +1,12 @@
 -- What it is that the journal of a volume is mended: each needed entry stands on every metadata device, and the image means the same; and
 -- that it is ready for a session that writes.
-use Rattle.std.specs.Prelude.{◌≡◌, ℕ, ◌+◌, ◌<◌, ◌≤◌, List, length, Ok, slice_index_or}
+use Rattle.std.specs.Prelude.{◌≡◌, ◌⊎◌, ℕ, ◌+◌, ◌<◌, ◌≤◌, List, length, Ok, Some, slice_index_or}
 use Rattle.dev_model.specs.Crashes.{EachCrash, SameBut}
 use Rattle.dev_model.specs.Devices.{DevicesState, now}
 use Rattle.dev_model.specs.Disk.{Disk, Image, IsCrashImage, as_read}
-use Rattle.dev_model.specs.HeldBlocks.{HasNoChanceMatch}
+use Rattle.dev_model.specs.HeldBlocks.{HasNoChanceMatch, OnlyHeldOpensAt}
 use Rattle.geometry.specs.Mirrors.{AreAtRest}
+use Rattle.geometry.specs.Sessions.{session_in}
 use Rattle.image_view.specs.CrashEntries.{OnlyHeldEntriesOpen, opens}
 use Rattle.image_view.specs.Found.{Found, IsInOrder, found}
 use Rattle.image_view.specs.Mends.{HasNoEqualDigest, StandsIn}
@@ -21,6 +22,17 @@ use Rattle.replay.specs.Beginning.{IsFoundOn, MeansTheSame}
 pub record IsUntorn (layout : Layout) (first moment : ℕ) (state : DevicesState) (image : Image) : Type 0 where
   pub reads : (dev place : ℕ) → dev < layout.metadata_replicas → place < layout.journal → HasNoChanceMatch opens dev (16 + place) first moment state
   pub left : OnlyHeldEntriesOpen layout (state.disks moment) image
+
+-- It is a block in which sessions are sealed, on a metadata device.
+pub record IsOfSessions (layout : Layout) (dev block : ℕ) : Type 0 where
+  pub mirror : dev < layout.metadata_replicas
+  pub place : (block ≡ 4) ⊎ (block ≡ 5)
+
+-- No torn block of a session opens by chance: neither in what was read at each moment up to this one, nor in this image that a
+-- crash left then.
+pub record AreSessionsUntorn (layout : Layout) (first moment : ℕ) (state : DevicesState) (image : Image) : Type 0 where
+  pub reads : (dev block : ℕ) → IsOfSessions layout dev block → HasNoChanceMatch opens dev block first moment state
+  pub left : (dev block : ℕ) → IsOfSessions layout dev block → OnlyHeldOpensAt opens (state.disks moment) image dev block
 
 -- This is found on the disks in order. Nothing is pending on the metadata devices, and no two records of their journal areas have
 -- one digest.
@@ -40,11 +52,19 @@ KeepsFound f old new =
     (moment : ℕ) → old.moment ≤ moment → moment ≤ new.moment → (image : Image) → IsCrashImage (new.disks moment) image
     → IsUntorn f.layout old.moment moment new image → (found image ≡ Ok f) × IsInOrder f image
 
--- Whatever a crash left between two states means what the devices did at first, where no torn block opens by chance.
-abbrev pub KeepsMeaning : Found → DevicesState → DevicesState → Type 0
-KeepsMeaning f old new =
+-- The session of whatever a crash left between two states is the one that was found or the next one, where no torn block of a session opens by
+-- chance.
+abbrev pub KeepsSession : Found → DevicesState → DevicesState → Type 0
+KeepsSession f old new =
     (moment : ℕ) → old.moment ≤ moment → moment ≤ new.moment → (image : Image) → IsCrashImage (new.disks moment) image
-    → IsUntorn f.layout old.moment moment new image → MeansTheSame f (as_read (now old)) image
+    → AreSessionsUntorn f.layout old.moment moment new image → (session : ℕ) → session_in f.layout image ≡ Some session → session ≤ f.session + 1
+
+-- Whatever a crash left between two states means what the devices did at first, where no torn block opens by chance, and at most one
+-- session was begun.
+pub record KeepsMeaning (f : Found) (old new : DevicesState) : Type 0 where
+  pub means : (moment : ℕ) → old.moment ≤ moment → moment ≤ new.moment → (image : Image) → IsCrashImage (new.disks moment) image
+      → IsUntorn f.layout old.moment moment new image → MeansTheSame f (as_read (now old)) image
+  pub session : KeepsSession f old new
 
 -- Each block that stands in the journal areas of the second image stands in those of the first one.
 abbrev pub BringsNoBlock : Layout → Image → Image → Type 0

@@ -10,6 +10,7 @@ ghost use Rattle.geometry.specs.Mirrors.{AreAtRest, HoldMirrors};
 ghost use Rattle.geometry.specs.Sessions.{IsSessionBlock, IsSessionPlace, session_block, session_named, session_place};
 ghost use Rattle.image_view.specs.Found.{Found, with_session};
 ghost use Rattle.replay.specs.Beginning.{IsFoundOn, MeansTheSame, failed_begin_device};
+ghost use Rattle.replay.specs.Mending.{IsInOrderOn, KeepsSession};
 
 use dev_model::Devices;
 use geometry::{DiskFault, sealed_session, session_place, settle_mirrors};
@@ -67,6 +68,10 @@ fn settle_session<D: Devices>(
     ensures asks { D.tells → (opens : List ℕ → Bool)
         → HoldOnly opens (IsSessionBlock layout.now session) (D.state devices.old)
         (D.state devices.new) }
+    // Whatever a crash leaves names the session that was found or this one, the next.
+    ensures session { D.tells → (f : Found) → IsInOrderOn f (now (D.state devices.old))
+        → f.layout ≡ layout.now → f.session + 1 ≡ session
+        → KeepsSession f (D.state devices.old) (D.state devices.new) }
     ensures goes_on { GoOn (D.state devices.old) (D.state devices.new) }
     ensures cause { (D.state devices.new).faults ≡ after_writes (failed_device result)
         (D.state devices.old).faults }
@@ -85,7 +90,8 @@ fn settle_session<D: Devices>(
 /// write, and gives it. Where no number is left it answers `Spent`, and nothing is written. It costs a write and a flush of
 /// every metadata device.
 ///
-/// Whatever a crash leaves meanwhile means what the devices did, in the same session or the next one.
+/// Whatever a crash leaves meanwhile means what the devices did, in the same session or a later one: at most the next one, where no torn block of
+/// a session opens by chance.
 pub fn begin_session<D: Devices>(
     alloc: Global,
     devices: &mut D,
@@ -110,6 +116,9 @@ pub fn begin_session<D: Devices>(
     ensures asks { D.tells → (opens : List ℕ → Bool)
         → HoldOnly opens (IsSessionBlock layout.now (session + 1)) (D.state devices.old)
         (D.state devices.new) }
+    ensures session { D.tells → (f : Found) → IsInOrderOn f (now (D.state devices.old))
+        → f.layout ≡ layout.now → f.session ≡ session
+        → KeepsSession f (D.state devices.old) (D.state devices.new) }
     ensures goes_on { GoOn (D.state devices.old) (D.state devices.new) }
     ensures cause { (D.state devices.new).faults ≡ after_writes (failed_begin_device result)
         (D.state devices.old).faults }

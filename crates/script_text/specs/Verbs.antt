@@ -29,11 +29,16 @@ verb_word Barrier = codes "barrier"
 
 -- the program runs the verb; each of the others is no verb of a script yet
 abbrev pub is_supported : Verb → Bool
-is_supported Mkfile = true
-is_supported Ls = true
-is_supported Sync = true
-is_supported Barrier = true
-is_supported _ = false
+is_supported Write = false
+is_supported Trunc = false
+is_supported Read = false
+is_supported Subvol = false
+is_supported Snap = false
+is_supported Delsub = false
+is_supported Subs = false
+is_supported Sweep = false
+is_supported Usage = false
+is_supported _ = true
 
 -- what the words behind the verb have to be, in their order; one list for each of its forms
 abbrev pub forms : Verb → List (List Kind)

@@ -85,8 +85,10 @@ impl Verb {
         ensures { result ≡ is_supported self }
     {
         match self {
-            Verb::Mkfile | Verb::Ls | Verb::Sync | Verb::Barrier => true,
-            _ => false,
+            Verb::Write | Verb::Trunc | Verb::Read => false,
+            Verb::Subvol | Verb::Snap | Verb::Delsub | Verb::Subs => false,
+            Verb::Sweep | Verb::Usage => false,
+            _ => true,
         }
     }
 

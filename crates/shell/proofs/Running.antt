@@ -257,15 +257,15 @@ synced_reply : (reply : Reply) (count : ℕ) → synced_count reply ≡ Some cou
 synced_reply (Synced commits) count is = ap Synced (same_Some commits count is)
 synced_reply other count is = absurd (none_some count is)
 
-module _ {D : Type 0} (forest : Forest) (state : D → DevicesState) (op : Op) (old new : SessionState D) where
+module _ {D : Type 0} (forest : Forest) (state : D → DevicesState) (client : ℕ) (op : Op) (old new : SessionState D) where
   -- an operation was answered
-  pub adds_answer : (reply : Reply) → IsAnswered state 0 op reply old new → HasCause 0 op reply new.core.memory.volume (state old.core.devices).faults (state new.core.devices).faults
+  pub adds_answer : (reply : Reply) → IsAnswered state client op reply old new → HasCause client op reply new.core.memory.volume (state old.core.devices).faults (state new.core.devices).faults
       → ((count : ℕ) → reply ≡ Synced count → count ≡ commit_count forest old.trace) → GoOn (state old.core.devices) (state new.core.devices)
-      → AddsEntries forest state old new (cons_option (entry_if_any 0 op reply) []) (cons_option (ack_by (state new.core.devices).moment reply) [])
+      → AddsEntries forest state old new (cons_option (entry_if_any client op reply) []) (cons_option (ack_by (state new.core.devices).moment reply) [])
   adds_answer reply answers cause synced after =
-      let entry : Entry = record { client = 0; op = op; reply = reply } in
+      let entry : Entry = record { client = client; op = op; reply = reply } in
       record {
-        trace = answers.trace ∙ ap (λ e. old.trace ++ cons_option e []) (sym (has_entry 0 op reply (found_memory 0 op reply new.core.memory.volume (state old.core.devices).faults (state new.core.devices).faults cause)));
+        trace = answers.trace ∙ ap (λ e. old.trace ++ cons_option e []) (sym (has_entry client op reply (found_memory client op reply new.core.memory.volume (state old.core.devices).faults (state new.core.devices).faults cause)));
         acks = answers.acks ∙ adds_ack reply (state new.core.devices).moment old.acks;
         counted = λ held.
             subst (AreSyncsCounted forest) (sym answers.trace)

@@ -4,11 +4,13 @@ use Rattle.std.proofs.lemmas.List.Elements.{All-weaker}
 use Rattle.std.specs.Prelude.{All, nat_lt}
 use Rattle.dev_model.specs.CrashLaws.{as_read_may_be_left}
 use Rattle.dev_model.specs.Devices.{DevicesState, now}
-use Rattle.dev_model.specs.Disk.{Image, IsCrashImage, IsDisk, as_read}
+use Rattle.dev_model.specs.Disk.{Image, IsDisk, as_read}
+use Rattle.dev_model.specs.FrameLaws.{stay_here}
 use Rattle.dev_model.specs.Frames.{GoOn}
 use Rattle.forest_ops.specs.History.{History}
 use Rattle.forest_ops.specs.declared.operation.Entry.{Entry}
-use Rattle.forest_ops.specs.declared.operation.Op.TheVariants.{Sync}
+use Rattle.forest_ops.specs.Classes.{class_of}
+use Rattle.forest_ops.specs.declared.operation.Class.TheVariants.{Syncs}
 use Rattle.forest_ops.specs.declared.operation.Reply.TheVariants.{Spent}
 use Rattle.geometry.specs.Faults.{SomeFailed}
 use Rattle.image_view.specs.Found.{Found, MountsAs, Volume, found, read_in, volume_of, with_session}
@@ -19,6 +21,7 @@ use Rattle.image_reader.specs.Answers.{NodesAgree}
 use Rattle.replay.specs.Beginning.{MeansTheSame}
 use Rattle.replay.specs.Mending.{IsInOrderOn, IsUntorn, KeepsMeaning}
 use Rattle.replay.specs.Opening.{in_next_session}
+use Rattle.replay.proofs.OpenedVolume.{stay_means}
 use Rattle.forest_ops.specs.Acknowledged.{AreAcks, RiseWithin}
 use Rattle.forest_ops.specs.Failures.{Halts, HaveCauses}
 use Rattle.forest_ops.specs.declared.acks.Ack.{Ack}
@@ -65,17 +68,7 @@ causes_since old mid new history before have = record {
 
 -- Where nothing was done, a crash leaves what is read.
 nothing_done : (f : Found) (state : DevicesState) → IsInOrderOn f (now state) → KeepsMeaning f state state
-nothing_done f state on moment from to image crash untorn =
-    let same : moment ≡ state.moment = omega (arith, from, to) in
-    let is : image ≡ as_read (now state) = on.on.quiet image (subst (λ (m : ℕ). IsCrashImage (state.disks m) image) same crash) in
-    subst (MeansTheSame f (as_read (now state))) (sym is) (record {
-      session = f.session;
-      later = omega arith;
-      finds = on.on.finds;
-      in_order = λ order. order;
-      mounts = λ volume mounts. mounts;
-      unsound = λ check fails. fails;
-    })
+nothing_done f state on = stay_means f state state on (stay_here state)
 
 -- So a volume that wasn't touched may be run again.
 pub untouched_survives : OpeningIsSafe → (f : Found) (state : DevicesState) → MayRun f (now state) → RunSurvives f state state [] []
@@ -117,7 +110,7 @@ module _ (devices_tell : Type 0) (opening : Found) (old mounted : DevicesState) 
   -- It has the forest of the image, where no torn block opened by chance meanwhile.
   pub same_forest : OpeningKeeps devices_tell old mounted → GoOn old mounted → All IsDisk (now mounted) → IsUntorn f.layout old.moment mounted.moment mounted (as_read (now mounted)) → forest_found opening mounted ≡ forest_found f old
   same_forest keeps before disks untorn = ap (λ (o : Found). forest_found o mounted) opening_is
-      ∙ forest_again f old may (as_read (now mounted)) (keeps told f may.on mounted.moment before.later (omega arith) (as_read (now mounted)) (as_read_may_be_left (now mounted) disks) untorn)
+      ∙ forest_again f old may (as_read (now mounted)) ((keeps told f may.on).means mounted.moment before.later (omega arith) (as_read (now mounted)) (as_read_may_be_left (now mounted) disks) untorn)
 
   -- What survives the session survives the run.
   pub run_survives : OpeningKeeps devices_tell old mounted → GoOn old mounted → All IsDisk (now mounted) → SessionsBeginWell → RunsAreSafe → (new : DevicesState) (trace : History) (acks : List Ack) → ComesAfter devices_tell mounted new
@@ -128,7 +121,7 @@ module _ (devices_tell : Type 0) (opening : Found) (old mounted : DevicesState) 
 
 -- What no entry says of a session that began with room, none says of a run of an image that leaves some.
 pub all_unspent : (devices_tell : Type 0) (opening : Found) (old mounted : DevicesState) → (MayRunWithRoom devices_tell old mounted → BeganWithRoom devices_tell opening mounted) → (trace : History)
-    → All (λ (entry : Entry). entry.reply ≡ Spent → (entry.op ≡ Sync) × ¬ BeganWithRoom devices_tell opening mounted) trace → All (λ (entry : Entry). entry.reply ≡ Spent → (entry.op ≡ Sync) × ¬ MayRunWithRoom devices_tell old mounted) trace
+    → All (λ (entry : Entry). entry.reply ≡ Spent → (class_of entry.op ≡ Syncs) × ¬ BeganWithRoom devices_tell opening mounted) trace → All (λ (entry : Entry). entry.reply ≡ Spent → (class_of entry.op ≡ Syncs) × ¬ MayRunWithRoom devices_tell old mounted) trace
 all_unspent devices_tell opening old mounted began trace unspent =
-    All-weaker (λ (entry : Entry). entry.reply ≡ Spent → (entry.op ≡ Sync) × ¬ BeganWithRoom devices_tell opening mounted) (λ (entry : Entry). entry.reply ≡ Spent → (entry.op ≡ Sync) × ¬ MayRunWithRoom devices_tell old mounted)
+    All-weaker (λ (entry : Entry). entry.reply ≡ Spent → (class_of entry.op ≡ Syncs) × ¬ BeganWithRoom devices_tell opening mounted) (λ (entry : Entry). entry.reply ≡ Spent → (class_of entry.op ≡ Syncs) × ¬ MayRunWithRoom devices_tell old mounted)
     (λ entry is spent. ((is spent).0, λ with_room. (is spent).1 (began with_room))) trace unspent

@@ -9,7 +9,8 @@ use Rattle.forest_ops.specs.History.{EachEntry}
 use Rattle.forest_ops.specs.declared.operation.Reply.{Reply}
 use Rattle.forest_ops.specs.declared.operation.Reply.TheVariants.{DeviceFault, Halted, NoMemory, Spent}
 use Rattle.forest_ops.specs.declared.operation.Entry.{Entry}
-use Rattle.forest_ops.specs.declared.operation.Op.TheVariants.{Sync}
+use Rattle.forest_ops.specs.Classes.{class_of}
+use Rattle.forest_ops.specs.declared.operation.Class.TheVariants.{Syncs}
 use Rattle.script_text.specs.Lines.{lines_of}
 use Rattle.script_text.specs.Scripts.{IsFirstBad}
 use Rattle.script_text.specs.declared.reading.Line.{Line}
@@ -27,7 +28,6 @@ use Rattle.shell.specs.declared.early_end.EarlyEnd.{EarlyEnd}
 use Rattle.shell.specs.declared.early_end.EarlyEnd.TheVariants.{Usage, BadLine, TooLong, Source, OutOfMemory}
 use Rattle.shell.specs.Outcome.{Outcome, EndedEarly, Ran, Formatted, Informed, Answered, early_status, format_status, replies_of, text_of}
 use Rattle.shell.specs.Tasks.{IsFormat, IsInfo, IsRun, task_of}
-use Rattle.shell.specs.Lines.{IsFirstOfOther}
 use Rattle.shell.specs.Mounts.{InfoCause, IsSure, MountCause, OnlyReadUnmounted}
 use Rattle.shell.specs.Runs.{Run, StreamFaults}
 use Rattle.shell.specs.Output.{GaveScript, IsTaken, script_limit}
@@ -44,12 +44,12 @@ ArgumentsCause arguments sizes Usage = task_of (length sizes) arguments ≡ None
 ArgumentsCause arguments sizes OutOfMemory = Unit {0}
 ArgumentsCause arguments sizes end = ⊥
 
--- Why the source gave no script: it failed, its text is too long, or a text was taken that has a first bad line, or else a first line for another client than 0. Out of
+-- Why the source gave no script: it failed, its text is too long, or a text was taken that has a first bad line. Out of
 -- memory may come at any time.
 abbrev pub TextCause : Type 0 → List ℕ → EarlyEnd → Type 0
 TextCause source_tells left Source = Unit {0}
 TextCause source_tells left TooLong = source_tells → script_limit < length left
-TextCause source_tells left (BadLine line cause) = (text : List ℕ) × IsTaken source_tells left text × (IsFirstBad (lines_of text) line cause ⊎ IsFirstOfOther (lines_of text) line cause)
+TextCause source_tells left (BadLine line cause) = (text : List ℕ) × IsTaken source_tells left text × IsFirstBad (lines_of text) line cause
 TextCause source_tells left OutOfMemory = Unit {0}
 TextCause source_tells left end = ⊥
 
@@ -131,7 +131,7 @@ pub record MayRunWithRoom (devices_tell : Type 0) (old mounted : DevicesState) :
 -- Failures: once a device has failed at a write or a flush the session has halted, by one device and at one moment of the run (`halts`);
 -- no later entry is a commit; of each device at most as many entries say that it failed as its calls, and its writes and
 -- flushes, failed (`faults`). Where the image may be run, and was read for certain, an operation that would change the forest fails only where this wouldn't refuse it (`exact`).
--- No entry says that a number is used up, where the volume that was opened is far from that, and the run had fewer than 2^31 moments since; but for a sync's over an image that may
+-- No entry says that a number is used up, where the volume that was opened is far from that, and the run had fewer than 2^31 moments since; but for that of an operation which syncs over an image that may
 -- not be run, wasn't read for certain, or has no room left in the ring of its journal (`unspent`).
 pub record HasAnswered {D K : Type 0} (sink_tells devices_tell : Type 0) (run : Run D K) (opening : Found) (mounted : DevicesState) (forest : Forest) (answered : List Answered) (last : Reply) : Type 0 where
   pub arguments : IsRun run.arguments run.state.sizes
@@ -142,7 +142,7 @@ pub record HasAnswered {D K : Type 0} (sink_tells devices_tell : Type 0) (run : 
   pub no_commit : NoCommitAfterHalt forest run.trace
   pub faults : HaveCauses run.state.faults run.state_after.faults run.trace
   pub exact : devices_tell → (f : Found) → MayRun f (now run.state) → IsSure f run.state mounted → EachEntry (IsExact forest) run.trace
-  pub unspent : IsFarFromSpent opening mounted run.state_after → All (λ (entry : Entry). entry.reply ≡ Spent → (entry.op ≡ Sync) × ¬ MayRunWithRoom devices_tell run.state mounted) run.trace
+  pub unspent : IsFarFromSpent opening mounted run.state_after → All (λ (entry : Entry). entry.reply ≡ Spent → (class_of entry.op ≡ Syncs) × ¬ MayRunWithRoom devices_tell run.state mounted) run.trace
 
 -- The arguments ask for a format with this layout, and the source wasn't touched. A format fails where one of the devices does,
 -- and no other failed; or where it is out of memory.

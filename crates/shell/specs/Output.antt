@@ -1,5 +1,5 @@
 -- Which script ran, what its lines were answered, and what was printed.
-use Rattle.std.specs.Prelude.{◌≡◌, ◌≢◌, ◌⊎◌, ℕ, ◌^◌, ◌≤◌, true, None, List, [], ◌∷◌, ◌++◌, length, map}
+use Rattle.std.specs.Prelude.{◌≡◌, ◌≢◌, ◌⊎◌, ℕ, ◌^◌, ◌≤◌, true, List, [], ◌∷◌, ◌++◌, length, map}
 use Rattle.text_io.specs.Streams.{GainsTextBy, GivesPrefix}
 use Rattle.plain_forest.specs.Forest.{Forest}
 use Rattle.forest_ops.specs.History.{History}
@@ -9,7 +9,6 @@ use Rattle.script_text.specs.Lines.{lines_of}
 use Rattle.script_text.specs.Scripts.{IsScript}
 use Rattle.script_text.specs.declared.reading.Line.{Line}
 use Rattle.forest_ops.specs.Fits.{Fits}
-use Rattle.shell.specs.Lines.{first_of_other}
 use Rattle.shell.specs.Outcome.{Outcome, EndedEarly, Ran, Formatted, Informed, Answered, acks_of, acknowledges, early_line, format_line, entries_of, line_reply, reply_line, text_of}
 use Rattle.shell.specs.Runs.{Run, Streams}
 use Rattle.vol_info.specs.Lines.{info_lines}
@@ -23,12 +22,11 @@ pub record IsTaken (source_tells : Type 0) (left text : List ℕ) : Type 0 where
   pub told : source_tells → text ≡ left
   pub short : length text ≤ script_limit
 
--- A text was taken of the source, and it has this script, in which no line is for another client than 0.
+-- A text was taken of the source, and it has this script.
 pub record GaveScript (source_tells : Type 0) (left : List ℕ) (script : List Line) : Type 0 where
   pub text : List ℕ
   pub taken : IsTaken source_tells left text
   pub reads : IsScript (lines_of text) script
-  pub own : first_of_other script ≡ None
 
 -- No line of a script ran: the history is empty, and the sink has gained this line, or these lines, or a prefix of them with status 5.
 pub record HasLine (sink_tells : Type 0) (streams : Streams) (status : ℕ) (trace : History) (line : List ℕ) : Type 0 where

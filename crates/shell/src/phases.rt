@@ -1,4 +1,4 @@
-ghost use Rattle.std.specs.Prelude.{◌≡◌, [], ◌∷◌, Some, true};
+ghost use Rattle.std.specs.Prelude.{◌≡◌, ◌<◌, [], ◌∷◌, Some, true};
 ghost use Rattle.std.specs.List.{cons_option};
 ghost use Rattle.fs_plan.specs.Plans.{IsBounded, is_planned};
 ghost use Rattle.forest_ops.specs.Fits.{entry_if_any};
@@ -55,7 +55,7 @@ fn run_line<K: Sink<D>, D: Devices, O: Opening, G: Gate>(
     }
 }
 
-// Runs a line with an operation of client 0.
+// Runs a line with an operation of a client.
 fn answer<K: Sink<D>, D: Devices, O: Opening>(
     volume: &mut VolState<D, O>,
     number: u32,
@@ -66,25 +66,26 @@ fn answer<K: Sink<D>, D: Devices, O: Opening>(
 )
     requires planned { is_planned op ≡ true }
     requires bounded { IsBounded op }
-    requires client { client ≡ 0 }
+    requires client { client < 16 }
     ensures { RunsLines (forest_found O.found O.start) D.state D.tells K.tells K.held K.given_at
         K.faults (record { line = number; client = client; op = Some op } ∷ []) volume.old volume.new
         page.old page.new sink.old sink.new }
 {
-    let reply = reply_to(volume, op);
+    let reply = reply_to(volume, client, op);
     print_reply(page, sink, volume.devices(), client, number, &reply);
     drop(reply);
 }
 
-// The reply to an operation of client 0.
-fn reply_to<D: Devices, O: Opening>(volume: &mut VolState<D, O>, op: Op) -> Reply
+// The reply to an operation of a client.
+fn reply_to<D: Devices, O: Opening>(volume: &mut VolState<D, O>, client: u8, op: Op) -> Reply
+    requires client { client < 16 }
     requires planned { is_planned op ≡ true }
     requires bounded { IsBounded op }
     ensures { AddsEntries (forest_found O.found O.start) D.state volume.old volume.new
-        (cons_option (entry_if_any 0 op result) [])
+        (cons_option (entry_if_any client op result) [])
         (cons_option (ack_by (D.state volume.new.core.devices).moment result) []) }
 {
-    match volume.call(0, op) {
+    match volume.call(client, op) {
         Ok(reply) => reply,
         Err(_) => Reply::NoMemory,
     }
@@ -95,7 +96,7 @@ pub fn final_sync<D: Devices, O: Opening>(volume: &mut VolState<D, O>, page: &mu
     ensures { RunsSync (forest_found O.found O.start) D.state volume.old volume.new page.old
         page.new }
 {
-    let reply = reply_to(volume, Op::Sync);
+    let reply = reply_to(volume, 0, Op::Sync);
     page.note(&reply);
     drop(reply);
 }

@@ -1,8 +1,8 @@
-ghost use Rattle.std.specs.Prelude.{◌≡◌, ◌≤◌, ℕ, List, IfOk, IfErr, OnOk, true};
+ghost use Rattle.std.specs.Prelude.{◌≡◌, ℕ, List, IfOk, IfErr, OnOk, true};
 ghost use Rattle.dev_model.specs.Frames.{GoOn};
 ghost use Rattle.geometry.specs.Layouts.{is_layout_of};
 ghost use Rattle.replay.specs.Volumes.{found_in};
-ghost use Rattle.shell.specs.Lines.{AreRunLines, first_of_other};
+ghost use Rattle.shell.specs.Lines.{AreRunLines};
 ghost use Rattle.shell.specs.Tasks.{IsRun};
 ghost use Rattle.shell.specs.Mounts.{IsOpenedFrom, OnlyReadUnmounted, OpeningKeeps};
 ghost use Rattle.shell.specs.Output.{GaveScript, IsTaken, script_limit};
@@ -12,7 +12,7 @@ use crate::early_end::EarlyEnd;
 use crate::mounted::mount;
 use dev_model::Devices;
 use replay::Loaded;
-use script_text::{Line, LineFault, Script, read_script};
+use script_text::{Script, read_script};
 use std::alloc::Global;
 use text_io::{Source, take_all};
 use vol_types::Bytes;
@@ -76,21 +76,5 @@ fn read_text<S: Source>(alloc: Global, source: &mut S) -> Result<Script, EarlyEn
     ensures early { IfErr result (TextCause S.tells (S.left source.old)) }
 {
     let text = take_text(alloc, source)?;
-    let script = read_script(alloc, text.as_slice())?;
-    match first_of_other(script.as_slice()) {
-        Some(line) => Err(EarlyEnd::BadLine(line, LineFault::BadClient)),
-        None => Ok(script),
-    }
-}
-
-// The number of the first line for another client than 0. A barrier is for none.
-fn first_of_other(lines: &[Line]) -> Option<u32>
-    ensures { result ≡ first_of_other lines.now }
-{
-    for line in lines {
-        if line.client != 0 && line.op.is_some() {
-            return Some(line.line);
-        }
-    }
-    None
+    Ok(read_script(alloc, text.as_slice())?)
 }

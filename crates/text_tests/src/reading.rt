@@ -162,21 +162,14 @@ fn bad_lines_are_named(rt: HostRuntime) {
     }
 }
 
-static NOT_RUN: [&str; 16] = [
-    "mkdir m:/a",
+static NOT_RUN: [&str; 9] = [
     "write m:/a 0 61",
     "trunc m:/a 0",
     "read m:/a 0 1",
-    "stat m:/a",
-    "link m:/a m:/b",
-    "unlink m:/a",
-    "rmdir m:/a",
-    "rename m:/a m:/b",
     "subvol a",
     "snap m a",
     "delsub a",
     "subs",
-    "fsync m:/a",
     "sweep 1",
     "usage",
 ];

@@ -1,18 +1,20 @@
 -- What an extension writes, and what a crash during it leaves.
-use Rattle.std.proofs.Common.{◌≡◌, ℕ, zero, suc, ◌+◌, ◌-◌, ◌<◌, ◌≤◌, Bool, true, false, ◌&&◌, cond, List, [], ◌∷◌, ◌++◌, length, get_or, slice_get, take, Option, Some, None, Result, Ok, Err, ⊎_elim, refl, ap, ◌∙◌, sym, subst, arith, All}
+use Rattle.std.proofs.Common.{◌≡◌, ℕ, zero, suc, ◌+◌, ◌-◌, ◌<◌, ◌≤◌, Bool, true, false, ◌&&◌, cond, List, [], ◌∷◌, ◌++◌, length, get_or, slice_get, take, Option, Some, None, Result, Ok, Err, ◌⊎◌, inl, inr, ⊎_elim, refl, ap, ◌∙◌, sym, subst, arith, All}
 use Rattle.std.specs.Prelude.{nat_lt, nat_le, ◌==◌, replicate}
 use Rattle.std.specs.Option.{IsSome}
 use Rattle.std.proofs.lemmas.Bool.{cases_lt, cases_eq, eq-eqb, ne_eqb, lt-ltb, le-ltb, le-leb, lt-leb}
 use Rattle.std.proofs.lemmas.List.{length-take, length-replicate}
 use Rattle.std.proofs.lemmas.List.Elements.{All-take, All-head, All-tail}
-use Rattle.std.proofs.lemmas.Option.{slice_get_past}
+use Rattle.std.proofs.lemmas.Option.{none-some, slice_get_past}
 use Rattle.std.proofs.Common.{length-append}
 use Rattle.dev_model.specs.Disk.{Disk, Image, IsDisk, IsBlock, IsCrashOf, IsCrashImage, as_read, block_at, changed, extended, sizes_of, zeros}
 use Rattle.dev_model.specs.Devices.{DevicesState, ChangesDisks, Is, MayBeExtended, now}
 use Rattle.dev_model.specs.CrashLaws.{goes_on}
 use Rattle.dev_model.specs.Crashes.{SameBut}
+use Rattle.dev_model.specs.HeldBlocks.{HasHeld, HaveHeld}
+use Rattle.dev_model.specs.HeldLaws.{hold_here, hold_on}
 use Rattle.vol_format.specs.Formatting.{if_so, or_held}
-use Rattle.vol_format.specs.Steps.{LeavesBut, Touches, Writes, extension, on_device}
+use Rattle.vol_format.specs.Steps.{AsksOnly, LeavesBut, Touches, Writes, extension, on_device}
 use Rattle.vol_format.proofs.Written.{changed_count, left_count, touches_none}
 
 get-take : (xs : List (List ℕ)) (n b : ℕ) → b < n → slice_get (take n xs) b ≡ slice_get xs b
@@ -120,6 +122,57 @@ touches_by_extend result dev size old new are longer goes = goes_on result (λ _
         let before = left_by_extend (now old) dev some size are le longer image (subst (λ ds. IsCrashImage ds image) is may) in
         record { count = left_count disks image may ∙ ap (λ (ds : List Disk). length ds) is ∙ changed_count dev (extended some) (now old); but = (before.0, before.1, before.2) }
 
+-- An extended disk has held what it had, and zeros in the new blocks.
+held_extended_disk : (disk : Disk) (some size b : ℕ) (x : List ℕ) → IsDisk disk → some ≤ size → HasHeld (extended some disk) b x → HasHeld disk b x ⊎ (extension (length disk.blocks) size b ≡ Some x)
+held_extended_disk disk some size b x is le (inr asked) = inl (inr asked)
+held_extended_disk disk some size b x is le (inl settled) =
+    let n : ℕ = length disk.blocks in
+    let long : length disk.settled ≡ n = is.as_long in
+    let zero_blocks : List (List ℕ) = replicate (some - n) zeros in
+    ⊎_elim
+    (λ (lower : b < n). inl (inl (sym (get-append_left disk.settled zero_blocks b (omega (arith, lower, long))) ∙ settled)))
+    (λ (past : n ≤ b). ⊎_elim
+    (λ (new : b < some).
+    let is_zeros : slice_get (disk.settled ++ zero_blocks) b ≡ Some zeros = get-append_right disk.settled zero_blocks b (b - n) (omega (arith, past, long)) ∙ get-copies (some - n) (b - n) zeros (omega (arith, past, new)) in
+    inr ((rw (le-leb n b past, lt-ltb b size (omega (arith, new, le))) refl) ∙ sym is_zeros ∙ settled))
+    (λ (beyond : some ≤ b).
+    absurd (none-some x (sym (slice_get_past (disk.settled ++ zero_blocks) b (omega (arith, beyond, past, long, length-append disk.settled zero_blocks, length-replicate (some - n) zeros))) ∙ settled)))
+    (cases_lt b some))
+    (cases_lt b n)
+
+-- So have disks of which one is extended.
+held_by_extend : (disks : List Disk) (dev some size : ℕ) → All IsDisk disks → some ≤ size → (d b : ℕ) (x : List ℕ) → HaveHeld (changed dev (extended some) disks) d b x
+    → HaveHeld disks d b x ⊎ (on_device dev (extension (get_or (sizes_of disks) dev 0) size) d b ≡ Some x)
+held_by_extend [] dev some size are le d b x held = inl held
+held_by_extend (disk ∷ disks) zero some size are le zero b x held =
+    let this : extended some disk ≡ held.0 = some_is held.1 in
+    ⊎_elim
+    (λ (before : HasHeld disk b x). inl (disk, refl, before))
+    (λ (new : extension (length disk.blocks) size b ≡ Some x). inr new)
+    (held_extended_disk disk some size b x (All-head IsDisk disk disks are) le (subst (λ (one : Disk). HasHeld one b x) (sym this) held.2))
+  where
+    some_is : {one other : Disk} → Some one ≡ Some other → one ≡ other
+    some_is e = cc
+held_by_extend (disk ∷ disks) zero some size are le (suc d) b x held = inl held
+held_by_extend (disk ∷ disks) (suc dev) some size are le zero b x held = inl held
+held_by_extend (disk ∷ disks) (suc dev) some size are le (suc d) b x held = ⊎_elim
+    (λ (before : HaveHeld disks d b x). inl before)
+    (λ (new : on_device dev (extension (get_or (sizes_of disks) dev 0) size) d b ≡ Some x). inr (on_next dev (extension (get_or (sizes_of disks) dev 0) size) d b ∙ new))
+    (held_by_extend disks dev some size (All-tail IsDisk disk disks are) le d b x held)
+
+-- An extension asks for zeros in the new blocks.
+asks_by_extend : {T E : Type 0} (result : Result T E) (dev size : ℕ) (old new : DevicesState) → All IsDisk (now old)
+    → ChangesDisks result (MayBeExtended dev size (now old)) (Is (changed dev (extended size) (now old))) old new → AsksOnly (on_device dev (extension (get_or (sizes_of (now old)) dev 0) size)) old new
+asks_by_extend result dev size old new are goes opens = hold_on result opens asked _ _ old old new (omega arith) (hold_here opens asked old) goes
+    (λ d b by_then disks (some : (some : ℕ) × (some ≤ size) × (disks ≡ changed dev (extended some) (now old))) x is_open held. here some.0 disks d b x some.1 some.2 held)
+    (λ d b by_then disks is x is_open held. here size disks d b x (omega arith) is held)
+  where
+    asked : ℕ → ℕ → List ℕ → Type 0
+    asked d b x = on_device dev (extension (get_or (sizes_of (now old)) dev 0) size) d b ≡ Some x
+
+    here : (some : ℕ) (disks : List Disk) (d b : ℕ) (x : List ℕ) → some ≤ size → disks ≡ changed dev (extended some) (now old) → HaveHeld disks d b x → HaveHeld (now old) d b x ⊎ asked d b x
+    here some disks d b x le is held = held_by_extend (now old) dev some size are le d b x (subst (λ (ds : List Disk). HaveHeld ds d b x) is held)
+
 -- Of one disk, zeros are read in the new blocks and elsewhere what was there.
 reads_extended_disk : (disk : Disk) (size b : ℕ) → length disk.blocks ≤ size → slice_get (disk.blocks ++ replicate (size - length disk.blocks) zeros) b ≡ or_held (extension (length disk.blocks) size b) (slice_get disk.blocks b)
 reads_extended_disk disk size b longer = ⊎_elim
@@ -147,9 +200,10 @@ reads_extended (disk ∷ disks) (suc dev) size (suc d) b within longer =
 -- An extension writes zeros into the new blocks.
 pub writes_by_extend : {T E : Type 0} (result : Result T E) (dev size : ℕ) (old new : DevicesState) → All IsDisk (now old) → dev < length (now old) → get_or (sizes_of (now old)) dev 0 ≤ size
     → ChangesDisks result (MayBeExtended dev size (now old)) (Is (changed dev (extended size) (now old))) old new → Writes result (on_device dev (extension (get_or (sizes_of (now old)) dev 0) size)) old new
-writes_by_extend (Err e) dev size old new are within longer goes = record { touches = touches_by_extend (Err e) dev size old new are longer goes; reads = tt }
+writes_by_extend (Err e) dev size old new are within longer goes = record { touches = touches_by_extend (Err e) dev size old new are longer goes; asks = asks_by_extend (Err e) dev size old new are goes; reads = tt }
 writes_by_extend (Ok x) dev size old new are within longer goes = record {
   touches = touches_by_extend (Ok x) dev size old new are longer goes;
+  asks = asks_by_extend (Ok x) dev size old new are goes;
   reads = λ d b. ap (λ (ds : List Disk). block_at (as_read ds) d b) goes.after ∙ reads_extended (now old) dev size d b within longer;
 }
 

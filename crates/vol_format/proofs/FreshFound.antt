@@ -1,6 +1,6 @@
 -- An image that holds the blocks of a fresh volume is the fresh volume.
 use Rattle.std.proofs.Common.{◌≡◌, ℕ, zero, suc, ◌+◌, ◌*◌, ◌/◌, ◌%◌, ◌^◌, ◌<◌, ◌≤◌, inl, true, List, [], ◌∷◌, ◌++◌, Option, Some, None, Ok, refl, ap, ◌∙◌, sym, subst, arith, All}
-use Rattle.std.specs.Prelude.{Contains, option_and_then, slice_index_or}
+use Rattle.std.specs.Prelude.{Contains, option_and_then, slice_index, slice_index_or}
 use Rattle.std.proofs.lemmas.List.Elements.{All-cons, All-contains, All-contains_itself, All-map, All-nil, All-weaker}
 use Rattle.dev_model.specs.Disk.{Image, block_at, zeros}
 use Rattle.vol_types.specs.declared.layout.Layout.{Layout}
@@ -18,7 +18,6 @@ use Rattle.geometry.specs.Sessions.{greater, greatest_session, session_at, sessi
 use Rattle.geometry.specs.Superblocks.{layout_in}
 use Rattle.journal_ring.specs.Leading.{IsBehind}
 use Rattle.journal_ring.specs.declared.found.FoundEntry.{FoundEntry}
-use Rattle.key_codec.specs.Formats.{carried}
 use Rattle.key_meaning.specs.Fresh.{fresh_keys}
 use Rattle.node_mem.specs.Nodes.{with_keys}
 use Rattle.node_store.specs.Answers.{AreAlike}
@@ -28,7 +27,8 @@ use Rattle.node_store.specs.declared.opening.OpenBlock.{OpenBlock}
 use Rattle.node_store.specs.declared.planning.Blocked.{Blocked}
 use Rattle.record_codec.specs.Entries.{IsEntry}
 use Rattle.record_codec.specs.Sets.{set_format}
-use Rattle.image_view.specs.Found.{IsAlike, IsBelowRoots, IsInOrder, IsMirrored, bad_place, found, node_places, read_in, sets_in}
+use Rattle.image_view.specs.BaseLaws.{mirrored-passes, sets_in-comes}
+use Rattle.image_view.specs.Found.{IsAlike, IsBelowRoots, IsInOrder, found, node_places, read_in, sets_in}
 use Rattle.image_view.specs.NewNodes.{AreLeafRoots, HoldSame, wanted_root}
 use Rattle.vol_format.specs.declared.fresh.FreshBlocks.{FreshBlocks}
 use Rattle.vol_format.specs.Fresh.{AreFreshBlocks, IsRootPlan, first_entry, first_found, fresh_content, fresh_found, fresh_root, fresh_roots, no_bucket, root_set}
@@ -36,7 +36,7 @@ use Rattle.vol_format.specs.Formatting.{IsFresh}
 use Rattle.vol_format.specs.Laws.{FoundLaws}
 use Rattle.vol_format.proofs.Copies.{zeros_closed}
 use Rattle.vol_format.proofs.FirstEntry.{HoldsEntry, needed_first, newest_first, only_made, owned_first}
-use Rattle.vol_format.proofs.Roots.{All-places, All-roots, is_mirrored, root_at, roots_placed}
+use Rattle.vol_format.proofs.Roots.{All-places, All-roots, is_mirrored, root_at, root_placed, roots_placed}
 use Rattle.vol_format.proofs.SameMeaning.{found_of}
 
 -- An image has the layout, and holds on each metadata device session 1, the first entry, and the roots.
@@ -183,8 +183,12 @@ module _ (laws : FoundLaws) (layout : Layout) (sizes : List ℕ) (fits : is_layo
       let is : (root_set number).btree ≡ btree = root_set_is btree in
       let content = (plan number (few_btrees btree)).holds (block_at image) (root_holds number (few_btrees btree)) in
       let length_is : blocks_for (set_format.encode (root_set number)) ≡ 1 = ap (λ n. (n + 3967) / 3968) (laws.set_lengths (root_set number) ∙ ap (λ b. set_length_of (keys_in (entries_of fresh_keys b))) is) ∙ short_set btree in
+      let inside : All (λ (place : Place). place.block + bucket_blocks ≤ slice_index layout.blocks place.dev) root.places =
+      All-places (λ (place : Place). place.block + bucket_blocks ≤ slice_index layout.blocks place.dev) layout number (λ dev mirror. (root_placed sizes layout fits number dev (few_btrees btree) mirror).on_device) in
       ap (λ b. sets_in layout image (wanted_root b root)) (sym is)
-      ∙ ap (carried (bad_place root)) content
+      ∙ sets_in-comes layout image (wanted_root (root_set number).btree root)
+      (record { entries = with_keys (keys_in (entries_of fresh_keys (root_set number).btree)) []; end = blocks_for (set_format.encode (root_set number)) })
+      (mirrored-passes layout root (is_mirrored layout number) inside) content
       ∙ ap (λ b. Ok (record { entries = with_keys (keys_in (entries_of fresh_keys b)) []; end = blocks_for (set_format.encode (root_set number)) })) is
       ∙ ap (λ end. Ok (record { entries = with_keys (keys_in (entries_of fresh_keys btree)) []; end = end })) length_is
       ∙ ap (λ entries. Ok (record { entries = entries; end = 1 })) (entries_are btree)
@@ -231,7 +235,6 @@ module _ (laws : FoundLaws) (layout : Layout) (sizes : List ℕ) (fits : is_layo
         };
     owners = owned_first laws.entries layout fresh image has.least has.mirrored has.mirrors_few entry_is blocks holds.entry;
     levels = All-cons (λ (one : FoundEntry). IsBelowRoots one.entry) (first_found layout) [] (All-nil _) (All-nil (λ (one : FoundEntry). IsBelowRoots one.entry));
-    places = All-roots (IsMirrored layout) layout (λ number low. is_mirrored layout number);
     copies = All-roots (IsAlike (fresh_found layout) image) layout (λ number low end there birth. copies_alike image (fresh_root layout number) (same_places number low) end.block);
     births = All-roots (λ (node : NodePtr). node.birth < (1 + 1) * 2 ^ 32) layout (λ number low. omega (arith, low));
   }

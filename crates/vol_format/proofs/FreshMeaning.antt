@@ -3,7 +3,7 @@ use Rattle.std.proofs.Common.{◌≡◌, ℕ, zero, suc, ◌+◌, ◌-◌, ◌/�
 use Rattle.std.specs.Prelude.{IsErr, nat_lt, slice_index_or, ◌==◌}
 use Rattle.std.specs.Option.{IsSome, is_some}
 use Rattle.std.proofs.lemmas.Bool.{cases_lt, eq-eqb, ne_eqb, lt-ltb, le-leb, false≢true}
-use Rattle.std.proofs.lemmas.Option.{slice_get_past, slice_get-get_or}
+use Rattle.std.proofs.lemmas.Option.{none-some, slice_get_past, slice_get-get_or}
 use Rattle.vol_types.specs.declared.layout.Layout.{Layout}
 use Rattle.dev_model.specs.Disk.{Image, block_at, blocks_of, zeros}
 use Rattle.geometry.specs.declared.copies.SuperCopy.{SuperCopy}
@@ -19,12 +19,12 @@ use Rattle.record_codec.specs.Entries.{IsEntry}
 use Rattle.image_view.specs.Found.{found}
 use Rattle.vol_format.specs.declared.fresh.FreshBlocks.{FreshBlocks}
 use Rattle.vol_format.specs.Fresh.{AreFreshBlocks, first_entry, no_bucket}
-use Rattle.vol_format.specs.Formatting.{Done, Extend, HasNoTornMatch, IsFresh, IsOfStep, MeansOldOrFresh, Prepare, Seal, Step, ZeroOthers, ZeroSpares, held_before, if_so, or_held, other_block, prepared, spare_beside, spare_block, step_writes, zeroed}
+use Rattle.vol_format.specs.Formatting.{Done, Extend, IsFresh, IsOfStep, MeansOldOrFresh, Prepare, Seal, Step, ZeroOthers, ZeroSpares, held_before, if_so, or_held, other_block, prepared, spare_beside, spare_block, step_writes, zeroed}
 use Rattle.vol_format.specs.Laws.{FoundLaws}
 use Rattle.vol_format.proofs.Copies.{copy_of, counting_of, no_copy_if, one_of}
 use Rattle.vol_format.proofs.FreshFound.{HoldsFresh, is_fresh}
-use Rattle.vol_format.proofs.Meaning.{HasLaws, all_cleared, all_or_one, cleared_in_prepare, cleared_in_seal, none_counts, none_in_all, nothing_prepared, others_keep, spares_keep, zeroed_elsewhere}
-use Rattle.vol_format.proofs.Preparing.{prepared_entry, prepared_five, prepared_other, prepared_root}
+use Rattle.vol_format.proofs.Meaning.{HasLaws, OpensOldOrNew, all_cleared, all_or_one, cleared_in_prepare, cleared_in_seal, none_counts, none_in_all, nothing_prepared, others_keep, spares_keep, zeroed_elsewhere}
+use Rattle.vol_format.proofs.Preparing.{prepared_eight, prepared_entry, prepared_five, prepared_none, prepared_other, prepared_root}
 use Rattle.vol_format.proofs.Room.{layout_fits_on}
 use Rattle.vol_format.proofs.SameMeaning.{SameBehind, no_layout, same_or_none, size_of, count_of}
 
@@ -121,7 +121,7 @@ module _ (layout : Layout) (fresh : FreshBlocks) (before : Image) (is : is_layou
   fresh_there image count laid sealed =
       is_fresh meant.laws layout (map (λ (blocks : List (List ℕ)). length blocks) image) (laid_fits image count laid) fresh image laws.named meant.entry_is meant.blocks (fresh_holds image count laid sealed)
 
-  sealed_or_none : (image : Image) → HasNoTornMatch layout fresh before Seal image → (dev : ℕ) → dev < length image → length image ≡ length before → IsSealed layout dev (counting (blocks_of image dev)) ⊎ (counting (blocks_of image dev) ≡ None)
+  sealed_or_none : (image : Image) → OpensOldOrNew layout fresh before Seal image → (dev : ℕ) → dev < length image → length image ≡ length before → IsSealed layout dev (counting (blocks_of image dev)) ⊎ (counting (blocks_of image dev) ≡ None)
   sealed_or_none image match dev within count =
       let inside : dev < length before = omega (arith, within, count) in
       let is_copy : (block : ℕ) → (block ≡ 0) ⊎ (block ≡ 8) → copy_of block (if_so (true && (block == 0 || block == 8)) (super_block layout dev block 1)) ≡ Some (super_copy layout dev block 1) =
@@ -132,7 +132,7 @@ module _ (layout : Layout) (fresh : FreshBlocks) (before : Image) (is : is_layou
       let choice : (block : ℕ) → (block ≡ 0) ⊎ (block ≡ 8) → (copy_of block (block_at image dev block) ≡ None) ⊎ (copy_of block (block_at image dev block) ≡ Some (super_copy layout dev block 1)) = λ block place.
       ⊎_elim (λ none. inl none) (λ more. ⊎_elim (λ held. inl (held ∙ cleared_in_seal layout fresh before dev block place))
       (λ new. inr (new ∙ ap (λ test. copy_of block (if_so (test && (block == 0 || block == 8)) (super_block layout dev block 1))) (lt-ltb dev (length before) inside) ∙ is_copy block place)) more)
-      (one_of block (block_at image dev block) (held_before layout fresh before Seal dev block) (step_writes layout fresh before Seal dev block) (match dev block)) in
+      (one_of block (block_at image dev block) (held_before layout fresh before Seal dev block) (step_writes layout fresh before Seal dev block) (match dev block place)) in
       subst (λ counts. IsSealed layout dev counts ⊎ (counts ≡ None)) (sym (counting_of image dev)) (later_sealed layout dev _ _ (choice 0 (inl refl)) (choice 8 (inr refl)))
 
   -- An image without a copy on the first device doesn't mount.
@@ -181,6 +181,12 @@ module _ (layout : Layout) (fresh : FreshBlocks) (before : Image) (is : is_layou
   pub done_holds : (image : Image) → IsOfStep layout fresh before Done image → HoldsFresh layout fresh image
   done_holds image of_step = fresh_holds image of_step.count (done_laid image of_step) (done_sealed image of_step)
 
+  -- The metadata devices hold what was prepared, which is no superblock,
+  pub done_prepared : (image : Image) → IsOfStep layout fresh before Done image → (dev block : ℕ) (bytes : List ℕ) → dev < layout.metadata_replicas → prepared layout fresh block ≡ Some bytes → block_at image dev block ≡ Some bytes
+  done_prepared image of_step dev block bytes mirror is_there =
+      done_laid image of_step dev block (λ first. none-some bytes (sym (prepared_none layout fresh block (omega (arith, first))) ∙ is_there)) (λ eighth. none-some bytes (sym (prepared_eight layout fresh block eighth) ∙ is_there))
+      ∙ in_prepared dev block bytes mirror is_there
+
   pub done_fits : (image : Image) → IsOfStep layout fresh before Done image → is_layout_of (map (λ blocks. length blocks) image) layout ≡ true
   done_fits image of_step = laid_fits image of_step.count (done_laid image of_step)
 
@@ -188,7 +194,7 @@ module _ (layout : Layout) (fresh : FreshBlocks) (before : Image) (is : is_layou
   done_means image of_step = fresh_there image of_step.count (done_laid image of_step) (done_sealed image of_step)
 
   -- An image of a step means what it may.
-  pub step_means : (step : Step) (image : Image) → IsOfStep layout fresh before step image → HasNoTornMatch layout fresh before step image → MeansOldOrFresh layout before image
+  pub step_means : (step : Step) (image : Image) → IsOfStep layout fresh before step image → OpensOldOrNew layout fresh before step image → MeansOldOrFresh layout before image
   step_means ZeroSpares image of_step match =
       ⊎_elim (λ same. inl same) (λ none. inr (inl none)) (same_or_none image before of_step.count (spares_keep layout fresh before image of_step match)
       (behind_zeroing image ZeroSpares unzeroed_spare (λ dev block one two. refl) of_step))
@@ -208,7 +214,7 @@ module _ (layout : Layout) (fresh : FreshBlocks) (before : Image) (is : is_layou
           (λ (past : length image ≤ dev). ap counting (past_all image dev past ∙ sym (past_all before dev (omega (arith, past, count))))) (cases_lt dev (length image))
   step_means Extend image of_step match = inr (inl (none_on_first image of_step.count (λ block place.
       none_in_all (copy_of block (block_at image 0 block)) (copy_of block (held_before layout fresh before Extend 0 block)) (copy_of block (step_writes layout fresh before Extend 0 block)) (all_cleared layout fresh before 0 block place) (no_copy_if block _)
-      (one_of block (block_at image 0 block) (held_before layout fresh before Extend 0 block) (step_writes layout fresh before Extend 0 block) (match 0 block)))))
+      (one_of block (block_at image 0 block) (held_before layout fresh before Extend 0 block) (step_writes layout fresh before Extend 0 block) (match 0 block place)))))
   step_means Prepare image of_step match = inr (inl (none_on_first image of_step.count (λ block place.
       ap (copy_of block) (of_step.others 0 block (nothing_prepared layout fresh before 0 block place)) ∙ cleared_in_prepare layout fresh before 0 block place)))
   step_means Seal image of_step match = ⊎_elim

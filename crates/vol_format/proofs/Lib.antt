@@ -7,6 +7,7 @@ pub mod HandedFaults
 pub mod Copies
 pub mod SameMeaning
 pub mod Room
+pub mod SameImages
 pub mod Meaning
 pub mod CounterKeys
 pub mod Roots

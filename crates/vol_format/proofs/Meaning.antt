@@ -5,12 +5,14 @@ use Rattle.std.proofs.lemmas.Bool.{cases_lt, cases_eq, eq-eqb, ne_eqb, lt-ltb, l
 use Rattle.std.proofs.lemmas.Option.{slice_get_past}
 use Rattle.vol_types.specs.declared.layout.Layout.{Layout}
 use Rattle.dev_model.specs.Disk.{Image, block_at, blocks_of, zeros}
+use Rattle.sealed_block.specs.declared.heads.Head.{Head}
+use Rattle.sealed_block.specs.Opening.{opened}
 use Rattle.geometry.specs.declared.copies.SuperCopy.{SuperCopy}
 use Rattle.geometry.specs.Sessions.{session_block, session_named}
 use Rattle.geometry.specs.SuperLaws.{block_of}
 use Rattle.geometry.specs.Superblocks.{copy_in, counting, later, super_block, super_copy}
 use Rattle.vol_format.specs.declared.fresh.FreshBlocks.{FreshBlocks}
-use Rattle.vol_format.specs.Formatting.{Extend, HasNoTornMatch, IsOfStep, Prepare, Seal, ZeroOthers, ZeroSpares, held_before, or_held, other_block, prepared, spare_beside, spare_block, step_writes, zeroed}
+use Rattle.vol_format.specs.Formatting.{Extend, IsOfStep, IsSuperBlock, Prepare, Seal, Step, ZeroOthers, ZeroSpares, held_before, or_held, other_block, prepared, spare_beside, spare_block, step_writes, zeroed}
 use Rattle.vol_format.proofs.Copies.{copy_number, copy_of, counting_of, first_counts, later_none, no_copy, no_copy_if, one_of, second_counts, spare_cases, zeros_closed}
 use Rattle.vol_format.proofs.Preparing.{prepared_eight, prepared_none}
 
@@ -18,6 +20,12 @@ use Rattle.vol_format.proofs.Preparing.{prepared_eight, prepared_none}
 pub record HasLaws (layout : Layout) : Type 0 where
   pub supers : (dev block : ℕ) → dev < length layout.blocks → (block ≡ 0) ⊎ (block ≡ 8) → copy_in block (super_block layout dev block 1) ≡ Some (super_copy layout dev block 1)
   pub named : session_named layout.id 5 (session_block layout.id 1) ≡ Some 1
+
+-- A superblock copy that opens stands as it did when the step began, or as the step writes it.
+abbrev pub OpensOldOrNew : Layout → FreshBlocks → Image → Step → Image → Type 0
+OpensOldOrNew layout fresh before step image =
+    (dev block : ℕ) → IsSuperBlock block → (bytes : List ℕ) (head : Head) → block_at image dev block ≡ Some bytes → opened bytes ≡ Some head
+    → (held_before layout fresh before step dev block ≡ Some bytes) ⊎ (step_writes layout fresh before step dev block ≡ Some bytes)
 
 -- One of two holds of each of the first numbers: then the first of all, or the second of one.
 pub all_or_one : (P Q : ℕ → Type 0) (n : ℕ) → ((i : ℕ) → i < n → P i ⊎ Q i) → ((i : ℕ) → i < n → P i) ⊎ ((i : ℕ) × (i < n) × Q i)
@@ -67,7 +75,7 @@ module _ (layout : Layout) (fresh : FreshBlocks) (before : Image) where
       (spare_cases c0 c8 (copy_number 0 (block_at before dev 0)) (copy_number 8 (block_at before dev 8)))
 
   -- While the spare copies are zeroed, the same copies count.
-  pub spares_keep : (image : Image) → IsOfStep layout fresh before ZeroSpares image → HasNoTornMatch layout fresh before ZeroSpares image → (dev : ℕ) → counting (blocks_of image dev) ≡ counting (blocks_of before dev)
+  pub spares_keep : (image : Image) → IsOfStep layout fresh before ZeroSpares image → OpensOldOrNew layout fresh before ZeroSpares image → (dev : ℕ) → counting (blocks_of image dev) ≡ counting (blocks_of before dev)
   unfolding was
   spares_keep image of_step match dev =
       let c0 : Option SuperCopy = copy_of 0 (block_at before dev 0) in
@@ -75,16 +83,16 @@ module _ (layout : Layout) (fresh : FreshBlocks) (before : Image) where
       let n0 : Option SuperCopy = copy_of 0 (block_at image dev 0) in
       let n8 : Option SuperCopy = copy_of 8 (block_at image dev 8) in
       let B : List (List ℕ) = blocks_of before dev in
-      let kept : (block : ℕ) → (copy_of block (block_at image dev block) ≡ None) ⊎ (copy_of block (block_at image dev block) ≡ copy_of block (block_at before dev block)) = λ block.
+      let kept : (block : ℕ) → IsSuperBlock block → (copy_of block (block_at image dev block) ≡ None) ⊎ (copy_of block (block_at image dev block) ≡ copy_of block (block_at before dev block)) = λ block place.
       ⊎_elim (λ none. inl none) (λ more. ⊎_elim (λ same. inr same) (λ new. inl (new ∙ no_copy_if block (block == spare_block B && nat_lt block (length B)))) more)
-      (one_of block (block_at image dev block) (block_at before dev block) (step_writes layout fresh before ZeroSpares dev block) (match dev block)) in
+      (one_of block (block_at image dev block) (block_at before dev block) (step_writes layout fresh before ZeroSpares dev block) (match dev block place)) in
       counting_of image dev ∙ ⊎_elim
       (λ (first : (spare_block B ≡ 8) × (later c0 c8 ≡ c0)).
       let stays : block_at image dev 0 ≡ block_at before dev 0 = of_step.others dev 0 (zeroed_elsewhere B (spare_block B) 0 (λ e. omega (arith, e, first.0))) in
-      ap (λ held. later (copy_of 0 held) n8) stays ∙ first_counts c0 c8 n8 first.1 (kept 8) ∙ sym first.1)
+      ap (λ held. later (copy_of 0 held) n8) stays ∙ first_counts c0 c8 n8 first.1 (kept 8 (inr refl)) ∙ sym first.1)
       (λ (second : (spare_block B ≡ 0) × (later c0 c8 ≡ c8)).
       let stays : block_at image dev 8 ≡ block_at before dev 8 = of_step.others dev 8 (zeroed_elsewhere B (spare_block B) 8 (λ e. omega (arith, e, second.0))) in
-      ap (λ held. later n0 (copy_of 8 held)) stays ∙ second_counts c0 c8 n0 second.1 (kept 0) ∙ sym second.1)
+      ap (λ held. later n0 (copy_of 8 held)) stays ∙ second_counts c0 c8 n0 second.1 (kept 0 (inl refl)) ∙ sym second.1)
       (which dev) ∙ sym (counting_of before dev)
 
   -- A place that was zeroed as the spare copy has none.
@@ -94,7 +102,7 @@ module _ (layout : Layout) (fresh : FreshBlocks) (before : Image) where
       ∙ cleared_at (blocks_of before dev) (spare_block (blocks_of before dev)) block is
 
   -- While the other copies are zeroed, the same copies count, or none.
-  pub others_keep : (image : Image) → IsOfStep layout fresh before ZeroOthers image → HasNoTornMatch layout fresh before ZeroOthers image → (dev : ℕ) → (counting (blocks_of image dev) ≡ counting (blocks_of before dev)) ⊎ (counting (blocks_of image dev) ≡ None)
+  pub others_keep : (image : Image) → IsOfStep layout fresh before ZeroOthers image → OpensOldOrNew layout fresh before ZeroOthers image → (dev : ℕ) → (counting (blocks_of image dev) ≡ counting (blocks_of before dev)) ⊎ (counting (blocks_of image dev) ≡ None)
   unfolding was
   others_keep image of_step match dev =
       let c0 : Option SuperCopy = copy_of 0 (block_at before dev 0) in
@@ -102,20 +110,20 @@ module _ (layout : Layout) (fresh : FreshBlocks) (before : Image) where
       let n0 : Option SuperCopy = copy_of 0 (block_at image dev 0) in
       let n8 : Option SuperCopy = copy_of 8 (block_at image dev 8) in
       let B : List (List ℕ) = blocks_of before dev in
-      let kept : (block : ℕ) → ¬ (block ≡ spare_block B) → (copy_of block (block_at image dev block) ≡ copy_of block (block_at before dev block)) ⊎ (copy_of block (block_at image dev block) ≡ None) = λ block other.
+      let kept : (block : ℕ) → IsSuperBlock block → ¬ (block ≡ spare_block B) → (copy_of block (block_at image dev block) ≡ copy_of block (block_at before dev block)) ⊎ (copy_of block (block_at image dev block) ≡ None) = λ block place other.
       ⊎_elim (λ none. inr none) (λ more. ⊎_elim
       (λ same. inl (same ∙ ap (λ zero_there. copy_of block (or_held zero_there (block_at before dev block))) (zeroed_elsewhere B (spare_block B) block other)))
       (λ new. inr (new ∙ no_copy_if block (block == other_block B && nat_lt block (length B)))) more)
-      (one_of block (block_at image dev block) (held_before layout fresh before ZeroOthers dev block) (step_writes layout fresh before ZeroOthers dev block) (match dev block)) in
+      (one_of block (block_at image dev block) (held_before layout fresh before ZeroOthers dev block) (step_writes layout fresh before ZeroOthers dev block) (match dev block place)) in
       ⊎_elim
       (λ (first : (spare_block B ≡ 8) × (later c0 c8 ≡ c0)).
       let gone : n8 ≡ None = ap (copy_of 8) (of_step.others dev 8 (zeroed_elsewhere B (other_block B) 8 (λ e. omega (arith, e, first.0)))) ∙ spare_cleared dev 8 (sym first.0) in
       let now : counting (blocks_of image dev) ≡ n0 = counting_of image dev ∙ ap (later n0) gone ∙ later_none n0 in
-      ⊎_elim (λ same. inl (now ∙ same ∙ sym first.1 ∙ sym (counting_of before dev))) (λ none. inr (now ∙ none)) (kept 0 (λ e. omega (arith, e, first.0))))
+      ⊎_elim (λ same. inl (now ∙ same ∙ sym first.1 ∙ sym (counting_of before dev))) (λ none. inr (now ∙ none)) (kept 0 (inl refl) (λ e. omega (arith, e, first.0))))
       (λ (second : (spare_block B ≡ 0) × (later c0 c8 ≡ c8)).
       let gone : n0 ≡ None = ap (copy_of 0) (of_step.others dev 0 (zeroed_elsewhere B (other_block B) 0 (λ e. omega (arith, e, second.0)))) ∙ spare_cleared dev 0 (sym second.0) in
       let now : counting (blocks_of image dev) ≡ n8 = counting_of image dev ∙ ap (λ n. later n n8) gone in
-      ⊎_elim (λ same. inl (now ∙ same ∙ sym second.1 ∙ sym (counting_of before dev))) (λ none. inr (now ∙ none)) (kept 8 (λ e. omega (arith, e, second.0))))
+      ⊎_elim (λ same. inl (now ∙ same ∙ sym second.1 ∙ sym (counting_of before dev))) (λ none. inr (now ∙ none)) (kept 8 (inr refl) (λ e. omega (arith, e, second.0))))
       (which dev)
 
   -- After both, no superblock copy is there.

@@ -136,7 +136,7 @@ roots_once layout dev bucket a (suc n) =
     (cases_eq (first_block layout a / bucket_blocks) bucket)
 
 module _ (sizes : List ℕ) (layout : Layout) (is : is_layout_of sizes layout ≡ true) where
-  root_placed : (number dev : ℕ) → number < 9 → dev < layout.metadata_replicas → IsNodePlaced layout (root_place layout number dev)
+  pub root_placed : (number dev : ℕ) → number < 9 → dev < layout.metadata_replicas → IsNodePlaced layout (root_place layout number dev)
   root_placed number dev low mirror =
       let has = has_places sizes layout is in
       let within : dev < length sizes = omega (arith, mirror, has.mirrors) in

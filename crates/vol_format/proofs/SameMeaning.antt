@@ -188,7 +188,6 @@ order_same one other same f placed order =
       others = λ entry blocks made. order.others entry blocks (subst (λ (area : Area). IsMadeOf f.layout area entry blocks) (sym areas) made);
       owners = subst (λ (area : Area). AreOwned f.layout f.session area) areas order.owners;
       levels = order.levels;
-      places = order.places;
       copies = alike_same f one other (nodes_of f.trees.nodes) (nodes_same one other same f placed) order.copies;
       births = order.births;
     }

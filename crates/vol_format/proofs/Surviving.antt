@@ -6,6 +6,7 @@ use Rattle.vol_types.specs.declared.layout.Layout.{Layout}
 use Rattle.dev_model.specs.Disk.{Disk, Image, IsCrashImage, as_read, block_at, blocks_of, sizes_of, zeros}
 use Rattle.dev_model.specs.Devices.{DevicesState, now}
 use Rattle.dev_model.specs.Frames.{DisksStay}
+use Rattle.std.specs.Option.{is_some}
 use Rattle.vol_types.specs.Layouts.{is_layout}
 use Rattle.geometry.specs.Sessions.{session_block, session_named}
 use Rattle.geometry.specs.Superblocks.{copy_in, super_block, super_copy}
@@ -14,7 +15,9 @@ use Rattle.vol_format.specs.Formatting.{FormatSurvives, KeepsMeaning, Step, Exte
 use Rattle.vol_format.specs.Steps.{ArePlaces, AreSupers, Formats, LeavesSteps, extension, if_there, on_first, super_copies}
 use Rattle.vol_format.proofs.Meaning.{HasLaws}
 use Rattle.vol_format.proofs.FreshMeaning.{AreMeant, step_means}
+use Rattle.vol_format.proofs.SameImages.{is_quiet}
 use Rattle.vol_format.proofs.SameMeaning.{keeps_itself}
+use Rattle.vol_format.proofs.Stepping.{rest_is_settled}
 
 -- The size of a disk is that of its device's image.
 pub size_at : (disks : List Disk) (dev : ℕ) → get_or (sizes_of disks) dev 0 ≡ length (blocks_of (as_read disks) dev)
@@ -69,19 +72,28 @@ formats_failed (Err e) result layout fresh step other old new is formats = recor
 
 -- Where a crash leaves only images of the steps, it leaves only what formatting may leave.
 pub survives_by_steps : (layout : Layout) (fresh : FreshBlocks) (old new : DevicesState) → is_layout layout ≡ true → length layout.blocks ≡ length (as_read (now old)) → HasLaws layout → AreMeant layout fresh → LeavesSteps layout fresh old new → FormatSurvives layout old new
-survives_by_steps layout fresh old new is count laws meant leaves quiet moment lo hi image may =
-    let some = leaves.each moment lo hi image may quiet in
-    record { fresh = fresh; step = some.step; of_step = some.of_step; means = step_means layout fresh (as_read (now old)) is count laws meant some.step image some.of_step }
+survives_by_steps layout fresh old new is count laws meant leaves rest moment lo hi image may =
+    let some = leaves.each rest moment lo hi in
+    let of_step = some.of_step image may in
+    record {
+      fresh = fresh;
+      step = some.step;
+      blocks = λ later. meant.blocks;
+      of_step = of_step;
+      means = λ untorn. step_means layout fresh (as_read (now old)) is count laws meant some.step image of_step
+          (λ dev block place bytes head there is_open. some.held dev block (untorn.reads dev block place) bytes (ap is_some is_open) (untorn.left dev block place bytes there (ap is_some is_open)));
+    }
 
 -- Devices that were only read survive: each image is what it was.
 pub survives_untouched : (layout : Layout) (old new : DevicesState) → DisksStay old new → FormatSurvives layout old new
-survives_untouched layout old new stays quiet moment lo hi image may =
-    let is : image ≡ as_read (now old) = quiet image (subst (λ ds. IsCrashImage ds image) (stays.same moment lo hi) may) in
+survives_untouched layout old new stays rest moment lo hi image may =
+    let is : image ≡ as_read (now old) = is_quiet (now old) (rest_is_settled (now old) rest) image (subst (λ ds. IsCrashImage ds image) (stays.same moment lo hi) may) in
     record {
       fresh = record { entry = []; roots = [] };
       step = ZeroSpares;
+      blocks = λ later. absurd (later refl);
       of_step = record { count = ap (λ (i : Image). length i) is; others = λ d b none. ap (λ (i : Image). block_at i d b) is };
-      means = λ match. inl (subst (λ (i : Image). KeepsMeaning (as_read (now old)) i × KeepsMeaning i (as_read (now old))) (sym is) (keeps_itself (as_read (now old)), keeps_itself (as_read (now old))));
+      means = λ untorn. inl (subst (λ (i : Image). KeepsMeaning (as_read (now old)) i × KeepsMeaning i (as_read (now old))) (sym is) (keeps_itself (as_read (now old)), keeps_itself (as_read (now old))));
     }
 
 -- The places that were found are those of the copies that don't count, and the others are beside them.

@@ -3,14 +3,19 @@ use Rattle.std.proofs.Common.{◌≡◌, ℕ, zero, suc, ◌+◌, ◌<◌, ◌�
 use Rattle.std.specs.Prelude.{OnOk, IsErr, nat_lt, ◌==◌}
 use Rattle.std.specs.Option.{IsSome, is_some}
 use Rattle.std.proofs.lemmas.Bool.{cases_Bool, cases_eq, cases_lt, eq-eqb, ne_eqb, lt-ltb, le-ltb, false≢true}
-use Rattle.dev_model.specs.Disk.{Disk, Image, IsDisk, IsBlock, IsCrashImage, after_write, as_read, block_at, changed, sizes_of, written}
+use Rattle.std.proofs.lemmas.List.Elements.{All-cons, All-nil}
+use Rattle.std.proofs.lemmas.Option.{none-some}
+use Rattle.dev_model.specs.Disk.{Disk, Image, IsDisk, IsAtRest, IsBlock, IsCrashImage, NothingPending, after_write, as_read, block_at, changed, sizes_of, written}
 use Rattle.dev_model.specs.Devices.{DevicesState, ChangesDisks, Is, MayBeWritten, now}
 use Rattle.dev_model.specs.Crashes.{EachCrash, IsAt}
 use Rattle.dev_model.specs.CrashLaws.{started, goes_on}
 use Rattle.dev_model.specs.CrashDisks.{left_by_write}
+use Rattle.dev_model.specs.HeldBlocks.{HaveHeld, HoldOnly}
+use Rattle.dev_model.specs.HeldLaws.{hold_by_write, hold_here, no_chance_before}
 use Rattle.dev_model.specs.PlaceLaws.{IsSettled, reads_written, reads_written_elsewhere}
+use Rattle.geometry.specs.Mirrors.{AreAtRest, NoBlock}
 use Rattle.vol_format.specs.Formatting.{if_so, or_held}
-use Rattle.vol_format.specs.Steps.{AllSettled, IsStep, LeavesBut, Reads, Touches, Writes, Wrote, if_there, in_block, in_first, on_device, on_first}
+use Rattle.vol_format.specs.Steps.{AllSettled, AsksOnly, IsStep, LeavesBut, Reads, Touches, Writes, Wrote, if_there, in_block, in_first, on_device, on_first}
 
 -- A crash leaves something of each disk.
 pub left_count : (disks : List Disk) (image : Image) → IsCrashImage disks image → length image ≡ length disks
@@ -30,7 +35,12 @@ leaves_itself writes disks image may = record { count = left_count disks image m
 
 -- One set of writes is part of another.
 abbrev pub IsPart : (ℕ → ℕ → Option (List ℕ)) → (ℕ → ℕ → Option (List ℕ)) → Type 0
-IsPart few many = (dev block : ℕ) → IsSome (few dev block) → IsSome (many dev block)
+IsPart few many = (dev block : ℕ) (bytes : List ℕ) → few dev block ≡ Some bytes → many dev block ≡ Some bytes
+
+-- So where the first writes, the second does.
+part_some : (few many : Option (List ℕ)) → ((bytes : List ℕ) → few ≡ Some bytes → many ≡ Some bytes) → IsSome few → IsSome many
+part_some None many part some = absurd (false≢true some)
+part_some (Some bytes) many part some = ap is_some (part bytes refl)
 
 -- What a crash leaves after one part and then another.
 leaves_then : (first second all : ℕ → ℕ → Option (List ℕ)) (old mid : List Disk) (image : Image)
@@ -40,11 +50,11 @@ leaves_then first second all old mid image one two before leaves =
     let start = before middle.0 middle.1 in
     record {
       count = leaves.count ∙ sym (left_count mid middle.0 middle.1) ∙ start.count;
-      but = (start.but.0, start.but.1, λ d b elsewhere. start.but.2 d b (λ is. elsewhere (one d b is)) ∙ middle.2 d b (λ is. elsewhere (two d b is)));
+      but = (start.but.0, start.but.1, λ d b elsewhere. start.but.2 d b (λ is. elsewhere (part_some (first d b) (all d b) (one d b) is)) ∙ middle.2 d b (λ is. elsewhere (part_some (second d b) (all d b) (two d b) is)));
     }
 
 leaves_more : (few many : ℕ → ℕ → Option (List ℕ)) (old : List Disk) (image : Image) → IsPart few many → LeavesBut few old image → LeavesBut many old image
-leaves_more few many old image part leaves = record { count = leaves.count; but = (leaves.but.0, leaves.but.1, λ d b elsewhere. leaves.but.2 d b (λ is. elsewhere (part d b is))) }
+leaves_more few many old image part leaves = record { count = leaves.count; but = (leaves.but.0, leaves.but.1, λ d b elsewhere. leaves.but.2 d b (λ is. elsewhere (part_some (few d b) (many d b) (part d b) is))) }
 
 -- Before the first call nothing is touched.
 pub touches_none : (writes : ℕ → ℕ → Option (List ℕ)) (history : DevicesState) → Touches writes history history
@@ -77,6 +87,41 @@ touches_by_flushes writes old new only = record {
   each = λ m lo hi image may. leaves_itself writes (now old) image (only.each m lo hi image may);
 }
 
+-- Before the first call nothing is asked.
+pub asks_none : (writes : ℕ → ℕ → Option (List ℕ)) (history : DevicesState) → AsksOnly writes history history
+asks_none writes history opens = hold_here opens (λ d b x. writes d b ≡ Some x) history
+
+-- One part after another asks what both write.
+pub asks_then : (first second all : ℕ → ℕ → Option (List ℕ)) (old mid new : DevicesState) → old.moment ≤ mid.moment → ((m : ℕ) → m ≤ mid.moment → new.disks m ≡ mid.disks m) → IsPart first all → IsPart second all
+    → AsksOnly first old mid → AsksOnly second mid new → AsksOnly all old new
+asks_then first second all old mid new begun past one two so_far then opens m lo hi d b no_chance x is_open held = ⊎_elim
+    (λ (later : mid.moment < m). ⊎_elim
+    (λ (before : HaveHeld (now mid) d b x). ⊎_elim
+    (λ (was : HaveHeld (now old) d b x). inl was)
+    (λ (asked : first d b ≡ Some x). inr (one d b x asked))
+    (so_far opens mid.moment begun (omega arith) d b (no_chance_before opens d b old.moment m mid new past mid.moment (omega (arith, later)) (omega arith) no_chance) x is_open before))
+    (λ (asked : second d b ≡ Some x). inr (two d b x asked))
+    (then opens m (omega (arith, later)) hi d b (λ n from to. no_chance n (omega (arith, begun, from)) to) x is_open held))
+    (λ (earlier : m ≤ mid.moment). ⊎_elim
+    (λ (was : HaveHeld (now old) d b x). inl was)
+    (λ (asked : first d b ≡ Some x). inr (one d b x asked))
+    (so_far opens m lo earlier d b (no_chance_before opens d b old.moment m mid new past m (omega arith) earlier no_chance) x is_open (subst (λ (ds : List Disk). HaveHeld ds d b x) (past m earlier) held)))
+    (cases_lt mid.moment m)
+
+-- More may be asked.
+pub asks_more : (few many : ℕ → ℕ → Option (List ℕ)) (old new : DevicesState) → IsPart few many → AsksOnly few old new → AsksOnly many old new
+asks_more few many old new part asks opens m lo hi d b no_chance x is_open held = ⊎_elim
+    (λ (was : HaveHeld (now old) d b x). inl was)
+    (λ (asked : few d b ≡ Some x). inr (part d b x asked))
+    (asks opens m lo hi d b no_chance x is_open held)
+
+-- Flushes ask for nothing.
+pub asks_by_flushes : (writes : ℕ → ℕ → Option (List ℕ)) (old new : DevicesState) → ((opens : List ℕ → Bool) → HoldOnly opens NoBlock old new) → AsksOnly writes old new
+asks_by_flushes writes old new none opens m lo hi d b no_chance x is_open held = ⊎_elim
+    (λ (was : HaveHeld (now old) d b x). inl was)
+    (λ (asked : ⊥). absurd asked)
+    (none opens m lo hi d b no_chance x is_open held)
+
 -- Where nothing is written, nothing is left to be read that wasn't.
 pub reads_none : (writes : ℕ → ℕ → Option (List ℕ)) (history : DevicesState) → ((dev block : ℕ) → writes dev block ≡ None) → Reads writes history history
 reads_none writes history none dev block = sym (ap (λ bytes. or_held bytes (block_at (as_read (now history)) dev block)) (none dev block))
@@ -85,40 +130,32 @@ pub or_held_twice : (second first there : Option (List ℕ)) → or_held second 
 or_held_twice None first there = refl
 or_held_twice (Some bytes) first there = refl
 
--- One set of writes is first one and then another.
-abbrev pub IsThen : (ℕ → ℕ → Option (List ℕ)) → (ℕ → ℕ → Option (List ℕ)) → (ℕ → ℕ → Option (List ℕ)) → Type 0
-IsThen first second all = (dev block : ℕ) → all dev block ≡ or_held (second dev block) (first dev block)
+-- One set of writes is first one and then another, elsewhere.
+pub record IsThen (first second all : ℕ → ℕ → Option (List ℕ)) : Type 0 where
+  pub is : (dev block : ℕ) → all dev block ≡ or_held (second dev block) (first dev block)
+  pub before : IsPart first all
 
 pub reads_then : (first second all : ℕ → ℕ → Option (List ℕ)) (old mid new : DevicesState) → IsThen first second all → Reads first old mid → Reads second mid new → Reads all old new
 reads_then first second all old mid new is one two dev block =
-    two dev block ∙ ap (or_held (second dev block)) (one dev block) ∙ or_held_twice (second dev block) (first dev block) (block_at (as_read (now old)) dev block) ∙ ap (λ bytes. or_held bytes (block_at (as_read (now old)) dev block)) (sym (is dev block))
-
-first_part : (first second all : Option (List ℕ)) → all ≡ or_held second first → IsSome first → IsSome all
-first_part first None all is some = subst IsSome (sym is) some
-first_part first (Some bytes) all is some = ap is_some is
-
-second_part : (first second all : Option (List ℕ)) → all ≡ or_held second first → IsSome second → IsSome all
-second_part first None all is some = absurd (false≢true some)
-second_part first (Some bytes) all is some = ap is_some is
-
-pub first_is_part : (first second all : ℕ → ℕ → Option (List ℕ)) → IsThen first second all → IsPart first all
-first_is_part first second all is dev block = first_part (first dev block) (second dev block) (all dev block) (is dev block)
+    two dev block ∙ ap (or_held (second dev block)) (one dev block) ∙ or_held_twice (second dev block) (first dev block) (block_at (as_read (now old)) dev block) ∙ ap (λ bytes. or_held bytes (block_at (as_read (now old)) dev block)) (sym (is.is dev block))
 
 pub second_is_part : (first second all : ℕ → ℕ → Option (List ℕ)) → IsThen first second all → IsPart second all
-second_is_part first second all is dev block = second_part (first dev block) (second dev block) (all dev block) (is dev block)
+second_is_part first second all is dev block bytes there = is.is dev block ∙ ap (λ written. or_held written (first dev block)) there
 
 -- Where nothing is written, all of it was.
 pub wrote_none : (writes : ℕ → ℕ → Option (List ℕ)) (history : DevicesState) → ((dev block : ℕ) → writes dev block ≡ None) → Wrote writes history history
-wrote_none writes history none = record { touches = touches_none writes history; reads = reads_none writes history none }
+wrote_none writes history none = record { touches = touches_none writes history; asks = asks_none writes history; reads = reads_none writes history none }
 
 -- All parts that were written, wherever the last one ends.
 pub writes_then : {T E : Type 0} (result : Result T E) (first second all : ℕ → ℕ → Option (List ℕ)) (old mid new : DevicesState) → IsThen first second all → Wrote first old mid → Writes result second mid new → Writes result all old new
 writes_then (Err e) first second all old mid new is so_far then = record {
-  touches = touches_then first second all old mid new (first_is_part first second all is) (second_is_part first second all is) so_far.touches then.touches;
+  asks = asks_then first second all old mid new so_far.touches.later then.touches.past is.before (second_is_part first second all is) so_far.asks then.asks;
+  touches = touches_then first second all old mid new is.before (second_is_part first second all is) so_far.touches then.touches;
   reads = tt;
 }
 writes_then (Ok x) first second all old mid new is so_far then = record {
-  touches = touches_then first second all old mid new (first_is_part first second all is) (second_is_part first second all is) so_far.touches then.touches;
+  asks = asks_then first second all old mid new so_far.touches.later then.touches.past is.before (second_is_part first second all is) so_far.asks then.asks;
+  touches = touches_then first second all old mid new is.before (second_is_part first second all is) so_far.touches then.touches;
   reads = reads_then first second all old mid new is so_far.reads then.reads;
 }
 
@@ -126,69 +163,101 @@ writes_then (Ok x) first second all old mid new is so_far then = record {
 pub failed_part : {T F E G : Type 0} (out : Result T G) (result : Result F E) (first second all : ℕ → ℕ → Option (List ℕ)) (old mid new : DevicesState) → IsErr out → IsPart first all → IsPart second all → Wrote first old mid → Writes result second mid new → Writes out all old new
 failed_part (Ok x) result first second all old mid new is one two so_far then = absurd (false≢true is)
 failed_part (Err e) result first second all old mid new is one two so_far then = record {
+  asks = asks_then first second all old mid new so_far.touches.later then.touches.past one two so_far.asks then.asks;
   touches = touches_then first second all old mid new one two so_far.touches then.touches;
   reads = tt;
 }
 
 -- One part more was written.
-pub wrote_next : (first second all : ℕ → ℕ → Option (List ℕ)) (old mid new : DevicesState) → IsThen first second all → Wrote first old mid → Touches second mid new → Reads second mid new → Wrote all old new
-wrote_next first second all old mid new is so_far touches reads = record {
-  touches = touches_then first second all old mid new (first_is_part first second all is) (second_is_part first second all is) so_far.touches touches;
+pub wrote_next : (first second all : ℕ → ℕ → Option (List ℕ)) (old mid new : DevicesState) → IsThen first second all → Wrote first old mid → Touches second mid new → AsksOnly second mid new → Reads second mid new → Wrote all old new
+wrote_next first second all old mid new is so_far touches asks reads = record {
+  asks = asks_then first second all old mid new so_far.touches.later touches.past is.before (second_is_part first second all is) so_far.asks asks;
+  touches = touches_then first second all old mid new is.before (second_is_part first second all is) so_far.touches touches;
   reads = reads_then first second all old mid new is so_far.reads reads;
 }
 
 -- Two parts that were written one after the other.
 pub wrote_also : (first second all : ℕ → ℕ → Option (List ℕ)) (old mid new : DevicesState) → IsThen first second all → Wrote first old mid → Wrote second mid new → Wrote all old new
-wrote_also first second all old mid new is so_far then = wrote_next first second all old mid new is so_far then.touches then.reads
+wrote_also first second all old mid new is so_far then = wrote_next first second all old mid new is so_far then.touches then.asks then.reads
 
 -- The same writes under another name.
 pub wrote_alike : (one other : ℕ → ℕ → Option (List ℕ)) (old new : DevicesState) → ((dev block : ℕ) → one dev block ≡ other dev block) → Wrote one old new → Wrote other old new
 wrote_alike one other old new same wrote = record {
-  touches = touches_more one other old new (λ d b some. subst IsSome (same d b) some) wrote.touches;
+  asks = asks_more one other old new (λ d b x there. sym (same d b) ∙ there) wrote.asks;
+  touches = touches_more one other old new (λ d b x there. sym (same d b) ∙ there) wrote.touches;
   reads = λ d b. wrote.reads d b ∙ ap (λ bytes. or_held bytes (block_at (as_read (now old)) d b)) (same d b);
 }
 
 pub writes_alike : {T E : Type 0} (result : Result T E) (one other : ℕ → ℕ → Option (List ℕ)) (old new : DevicesState) → ((dev block : ℕ) → one dev block ≡ other dev block) → Writes result one old new → Writes result other old new
-writes_alike (Err e) one other old new same writes = record { touches = touches_more one other old new (λ d b some. subst IsSome (same d b) some) writes.touches; reads = tt }
+writes_alike (Err e) one other old new same writes = record {
+  touches = touches_more one other old new (λ d b x there. sym (same d b) ∙ there) writes.touches;
+  asks = asks_more one other old new (λ d b x there. sym (same d b) ∙ there) writes.asks;
+  reads = tt;
+}
 writes_alike (Ok x) one other old new same writes = record {
-  touches = touches_more one other old new (λ d b some. subst IsSome (same d b) some) writes.touches;
+  asks = asks_more one other old new (λ d b x there. sym (same d b) ∙ there) writes.asks;
+  touches = touches_more one other old new (λ d b x there. sym (same d b) ∙ there) writes.touches;
   reads = λ d b. writes.reads d b ∙ ap (λ bytes. or_held bytes (block_at (as_read (now old)) d b)) (same d b);
 }
 
 -- What was written where all succeeds.
 pub writes_all : {T E : Type 0} (x : T) (writes : ℕ → ℕ → Option (List ℕ)) (old new : DevicesState) → Wrote writes old new → Writes {E = E} (Ok x) writes old new
-writes_all x writes old new wrote = record { touches = wrote.touches; reads = wrote.reads }
+writes_all x writes old new wrote = record { touches = wrote.touches; asks = wrote.asks; reads = wrote.reads }
+
+-- The first devices are some of more.
+pub fewer_devices : (few many : ℕ) (writes : ℕ → ℕ → Option (List ℕ)) → few ≤ many → IsPart (on_first few writes) (on_first many writes)
+fewer_devices few many writes le dev block bytes there = ⊎_elim
+    (λ (within : dev < few). rw (lt-ltb dev many (omega (arith, within, le))) (rw (lt-ltb dev few within) at there))
+    (λ (past : few ≤ dev). absurd (none-some bytes (rw (le-ltb dev few past) at there)))
+    (cases_lt dev few)
+
+-- So are the first blocks.
+fewer_of_blocks : (device few many : ℕ) (writes : ℕ → Option (List ℕ)) → few ≤ many → IsPart (on_device device (in_first few writes)) (on_device device (in_first many writes))
+fewer_of_blocks device few many writes le dev block bytes there = ⊎_elim
+    (λ (within : block < few). rw (lt-ltb block many (omega (arith, within, le))) (rw (lt-ltb block few within) at there))
+    (λ (past : few ≤ block). absurd (none-some bytes (sym (never (dev == device)) ∙ (rw (le-ltb block few past) at there))))
+    (cases_lt block few)
+  where
+    never : (here : Bool) → cond {A = Option (List ℕ)} here None None ≡ None
+    never true = refl
+    never false = refl
 
 -- One device more.
 pub one_device_more : (count : ℕ) (writes : ℕ → ℕ → Option (List ℕ)) → IsThen (on_first count writes) (on_device count (writes count)) (on_first (count + 1) writes)
-one_device_more count writes dev block = ⊎_elim
-    (λ (here : dev ≡ count). rw (eq-eqb dev count here, lt-ltb dev (count + 1) (omega (arith, here)), le-ltb dev count (omega (arith, here)), here) (last (writes count block)))
-    (λ (other : ¬ (dev ≡ count)). ⊎_elim
-    (λ (before : dev < count). rw (ne_eqb dev count other, lt-ltb dev (count + 1) (omega (arith, before)), lt-ltb dev count before) refl)
-    (λ (beyond : count ≤ dev). rw (ne_eqb dev count other, le-ltb dev (count + 1) (omega (arith, beyond, other)), le-ltb dev count beyond) refl)
-    (cases_lt dev count))
-    (cases_eq dev count)
+one_device_more count writes = record { is = both; before = fewer_devices count (count + 1) writes (omega arith) }
   where
     last : (bytes : Option (List ℕ)) → bytes ≡ or_held bytes None
     last None = refl
     last (Some b) = refl
 
+    both : (dev block : ℕ) → on_first (count + 1) writes dev block ≡ or_held (on_device count (writes count) dev block) (on_first count writes dev block)
+    both dev block = ⊎_elim
+        (λ (here : dev ≡ count). rw (eq-eqb dev count here, lt-ltb dev (count + 1) (omega (arith, here)), le-ltb dev count (omega (arith, here)), here) (last (writes count block)))
+        (λ (other : ¬ (dev ≡ count)). ⊎_elim
+        (λ (before : dev < count). rw (ne_eqb dev count other, lt-ltb dev (count + 1) (omega (arith, before)), lt-ltb dev count before) refl)
+        (λ (beyond : count ≤ dev). rw (ne_eqb dev count other, le-ltb dev (count + 1) (omega (arith, beyond, other)), le-ltb dev count beyond) refl)
+        (cases_lt dev count))
+        (cases_eq dev count)
+
 -- One block more.
 pub one_block_more : (device count : ℕ) (writes : ℕ → Option (List ℕ)) → IsThen (on_device device (in_first count writes)) (on_device device (in_block count (writes count))) (on_device device (in_first (count + 1) writes))
-one_block_more device count writes dev block = ⊎_elim
-    (λ (there : (dev == device) ≡ true). rw there (⊎_elim
-    (λ (here : block ≡ count). rw (eq-eqb block count here, lt-ltb block (count + 1) (omega (arith, here)), le-ltb block count (omega (arith, here)), here) (last (writes count)))
-    (λ (other : ¬ (block ≡ count)). ⊎_elim
-    (λ (before : block < count). rw (ne_eqb block count other, lt-ltb block (count + 1) (omega (arith, before)), lt-ltb block count before) refl)
-    (λ (beyond : count ≤ block). rw (ne_eqb block count other, le-ltb block (count + 1) (omega (arith, beyond, other)), le-ltb block count beyond) refl)
-    (cases_lt block count))
-    (cases_eq block count)))
-    (λ (elsewhere : (dev == device) ≡ false). rw elsewhere refl)
-    (cases_Bool (dev == device))
+one_block_more device count writes = record { is = both; before = fewer_of_blocks device count (count + 1) writes (omega arith) }
   where
     last : (bytes : Option (List ℕ)) → bytes ≡ or_held bytes None
     last None = refl
     last (Some b) = refl
+
+    both : (dev block : ℕ) → on_device device (in_first (count + 1) writes) dev block ≡ or_held (on_device device (in_block count (writes count)) dev block) (on_device device (in_first count writes) dev block)
+    both dev block = ⊎_elim
+        (λ (there : (dev == device) ≡ true). rw there (⊎_elim
+        (λ (here : block ≡ count). rw (eq-eqb block count here, lt-ltb block (count + 1) (omega (arith, here)), le-ltb block count (omega (arith, here)), here) (last (writes count)))
+        (λ (other : ¬ (block ≡ count)). ⊎_elim
+        (λ (before : block < count). rw (ne_eqb block count other, lt-ltb block (count + 1) (omega (arith, before)), lt-ltb block count before) refl)
+        (λ (beyond : count ≤ block). rw (ne_eqb block count other, le-ltb block (count + 1) (omega (arith, beyond, other)), le-ltb block count beyond) refl)
+        (cases_lt block count))
+        (cases_eq block count)))
+        (λ (elsewhere : (dev == device) ≡ false). rw elsewhere refl)
+        (cases_Bool (dev == device))
 
 -- A place is the one that is written, or nothing is written there.
 at_or_none : (device place : ℕ) (bytes : Option (List ℕ)) (dev block : ℕ) → ((dev ≡ device) × (block ≡ place) × (on_device device (in_block place bytes) dev block ≡ bytes)) ⊎ ((¬ IsAt device place dev block) × (on_device device (in_block place bytes) dev block ≡ None))
@@ -199,6 +268,18 @@ at_or_none device place bytes dev block = ⊎_elim
     (cases_eq block place))
     (λ (other : ¬ (dev ≡ device)). inr ((λ at. other at.0), rw (ne_eqb dev device other) refl))
     (cases_eq dev device)
+
+-- What is written in one block isn't in another.
+pub apart_blocks : (device one other : ℕ) (first second : Option (List ℕ)) → ¬ (one ≡ other) → (dev block : ℕ) (bytes : List ℕ) → on_device device (in_block one first) dev block ≡ Some bytes → on_device device (in_block other second) dev block ≡ None
+apart_blocks device one other first second differ dev block bytes there = ⊎_elim
+    (λ (here : (dev ≡ device) × (block ≡ one) × (on_device device (in_block one first) dev block ≡ first)). rw (eq-eqb dev device here.0, ne_eqb block other (λ same. differ (omega (arith, same, here.1)))) refl)
+    (λ (elsewhere : (¬ IsAt device one dev block) × (on_device device (in_block one first) dev block ≡ None)). absurd (none-some bytes (sym elsewhere.1 ∙ there)))
+    (at_or_none device one first dev block)
+
+-- Two sets of writes that write nowhere both are one after the other what they are together.
+pub then_apart : (first second all : ℕ → ℕ → Option (List ℕ)) → ((dev block : ℕ) → all dev block ≡ or_held (second dev block) (first dev block)) → ((dev block : ℕ) (bytes : List ℕ) → first dev block ≡ Some bytes → second dev block ≡ None)
+    → IsThen first second all
+then_apart first second all is apart = record { is = is; before = λ d b x there. is d b ∙ ap (λ written. or_held written (first d b)) (apart d b x there) ∙ there }
 
 is_written_at : (device place : ℕ) (bytes : List ℕ) (dev block : ℕ) → IsAt device place dev block → IsSome (on_device device (in_block place (Some bytes)) dev block)
 is_written_at device place bytes dev block at = rw (eq-eqb dev device at.0, eq-eqb block place at.1) refl
@@ -236,11 +317,19 @@ reads_by_write device place bytes old new within is dev block = ap (λ (ds : Lis
     after : List Disk
     after = changed device (written place bytes) (now old)
 
+-- A write asks for its bytes at its place.
+asks_by_write : {T E : Type 0} (result : Result T E) (device place : ℕ) (bytes : List ℕ) (old new : DevicesState)
+    → ChangesDisks result (MayBeWritten device place bytes (now old)) (Is (changed device (written place bytes) (now old))) old new → AsksOnly (on_device device (in_block place (Some bytes))) old new
+asks_by_write result device place bytes old new goes opens =
+    let asked : ℕ → ℕ → List ℕ → Type 0 = λ d b x. on_device device (in_block place (Some bytes)) d b ≡ Some x in
+    let here : on_device device (in_block place (Some bytes)) device place ≡ Some bytes = rw (eq-eqb device device refl, eq-eqb place place refl) refl in
+    hold_by_write opens asked old old (omega arith) (hold_here opens asked old) result device place bytes new here goes
+
 -- A write writes its bytes at its place.
 pub writes_by_write : {T E : Type 0} (result : Result T E) (device place : ℕ) (bytes : List ℕ) (old new : DevicesState) → All IsDisk (now old) → place < get_or (sizes_of (now old)) device 0
     → ChangesDisks result (MayBeWritten device place bytes (now old)) (Is (changed device (written place bytes) (now old))) old new → Writes result (on_device device (in_block place (Some bytes))) old new
-writes_by_write (Err e) device place bytes old new are within goes = record { touches = touches_by_write (Err e) device place bytes old new are goes; reads = tt }
-writes_by_write (Ok x) device place bytes old new are within goes = record { touches = touches_by_write (Ok x) device place bytes old new are goes; reads = reads_by_write device place bytes old new within goes.after }
+writes_by_write (Err e) device place bytes old new are within goes = record { touches = touches_by_write (Err e) device place bytes old new are goes; asks = asks_by_write (Err e) device place bytes old new goes; reads = tt }
+writes_by_write (Ok x) device place bytes old new are within goes = record { touches = touches_by_write (Ok x) device place bytes old new are goes; asks = asks_by_write (Ok x) device place bytes old new goes; reads = reads_by_write device place bytes old new within goes.after }
 
 -- Where each device is settled, every place is.
 pub all_settled : (disks : List Disk) (count : ℕ) → length disks ≤ count → ((dev : ℕ) → dev < count → IsSettled disks dev) → AllSettled disks
@@ -258,39 +347,45 @@ all_settled disks count most settled image may dev block = ⊎_elim
     read_count [] = refl
     read_count (disk ∷ disks) = ap suc (read_count disks)
 
+-- Where each device is at rest, nothing is pending.
+pub all_rest : (disks : List Disk) (count : ℕ) → length disks ≤ count → AreAtRest count disks → NothingPending disks
+all_rest [] count few rest = All-nil IsAtRest
+all_rest (disk ∷ disks) zero few rest = absurd (omega (arith, few))
+all_rest (disk ∷ disks) (suc count) few rest = All-cons IsAtRest disk disks (rest 0 disk (omega arith) refl) (all_rest disks count (omega (arith, few)) (λ dev d within there. rest (suc dev) d (omega (arith, within)) there))
+
 -- The flushes after writes that succeeded make a step of them.
 pub step_by_flushes : {T E : Type 0} (result : Result T E) (writes : ℕ → ℕ → Option (List ℕ)) (old mid new : DevicesState) (count : ℕ) → Wrote writes old mid → length (now new) ≤ count
     → EachCrash (λ _ _ image. IsCrashImage (now mid) image) mid new → ((dev block : ℕ) → block_at (as_read (now new)) dev block ≡ block_at (as_read (now mid)) dev block)
-    → OnOk result ((dev : ℕ) → dev < count → IsSettled (now new) dev) → IsStep result writes old new
-step_by_flushes (Err e) writes old mid new count wrote most only reads settled = record {
-  writes_so = record { touches = touches_then writes writes writes old mid new (λ d b some. some) (λ d b some. some) wrote.touches (touches_by_flushes writes mid new only); reads = tt };
-  settled = tt;
-}
-step_by_flushes (Ok x) writes old mid new count wrote most only reads settled = record {
+    → OnOk result ((dev : ℕ) → dev < count → IsSettled (now new) dev) → OnOk result (AreAtRest count (now new)) → ((opens : List ℕ → Bool) → HoldOnly opens NoBlock mid new) → IsStep result writes old new
+step_by_flushes (Err e) writes old mid new count wrote most only reads settled rest none = record {
   writes_so = record {
-    touches = touches_then writes writes writes old mid new (λ d b some. some) (λ d b some. some) wrote.touches (touches_by_flushes writes mid new only);
+    touches = touches_then writes writes writes old mid new (λ d b x there. there) (λ d b x there. there) wrote.touches (touches_by_flushes writes mid new only);
+    asks = asks_then writes writes writes old mid new wrote.touches.later only.past (λ d b x there. there) (λ d b x there. there) wrote.asks (asks_by_flushes writes mid new none);
+    reads = tt;
+  };
+  settled = tt;
+  rest = tt;
+}
+step_by_flushes (Ok x) writes old mid new count wrote most only reads settled rest none = record {
+  writes_so = record {
+    touches = touches_then writes writes writes old mid new (λ d b x there. there) (λ d b x there. there) wrote.touches (touches_by_flushes writes mid new only);
+    asks = asks_then writes writes writes old mid new wrote.touches.later only.past (λ d b x there. there) (λ d b x there. there) wrote.asks (asks_by_flushes writes mid new none);
     reads = λ d b. reads d b ∙ wrote.reads d b;
   };
   settled = all_settled (now new) count most settled;
+  rest = all_rest (now new) count most rest;
 }
 
 -- A step that failed while it wrote.
 pub step_failed : {T F E G : Type 0} (out : Result T G) (result : Result F E) (first second all : ℕ → ℕ → Option (List ℕ)) (old mid new : DevicesState) → IsErr out → IsPart first all → IsPart second all → Wrote first old mid → Writes result second mid new → IsStep out all old new
 step_failed (Ok x) result first second all old mid new is one two so_far then = absurd (false≢true is)
-step_failed (Err e) result first second all old mid new is one two so_far then = record { writes_so = failed_part (Err e) result first second all old mid new is one two so_far then; settled = tt }
-
--- The first devices are some of more.
-pub fewer_devices : (few many : ℕ) (writes : ℕ → ℕ → Option (List ℕ)) → few ≤ many → IsPart (on_first few writes) (on_first many writes)
-fewer_devices few many writes le dev block some = ⊎_elim
-    (λ (within : dev < few). rw (lt-ltb dev many (omega (arith, within, le))) (rw (lt-ltb dev few within) at some))
-    (λ (past : few ≤ dev). absurd (false≢true (rw (le-ltb dev few past) at some)))
-    (cases_lt dev few)
+step_failed (Err e) result first second all old mid new is one two so_far then = record { writes_so = failed_part (Err e) result first second all old mid new is one two so_far then; settled = tt; rest = tt }
 
 -- One device is one of the first.
 pub one_of_first : (device count : ℕ) (writes : ℕ → ℕ → Option (List ℕ)) → device < count → IsPart (on_device device (writes device)) (on_first count writes)
-one_of_first device count writes within dev block some = ⊎_elim
-    (λ (here : dev ≡ device). rw (lt-ltb dev count (omega (arith, within, here))) (subst (λ n. IsSome (writes n block)) (sym here) (rw (eq-eqb dev device here) at some)))
-    (λ (other : ¬ (dev ≡ device)). absurd (false≢true (rw (ne_eqb dev device other) at some)))
+one_of_first device count writes within dev block bytes there = ⊎_elim
+    (λ (here : dev ≡ device). rw (lt-ltb dev count (omega (arith, within, here))) (subst (λ n. writes n block ≡ Some bytes) (sym here) (rw (eq-eqb dev device here) at there)))
+    (λ (other : ¬ (dev ≡ device)). absurd (none-some bytes (rw (ne_eqb dev device other) at there)))
     (cases_eq dev device)
 
 -- Nothing is written into a block that isn't there.
@@ -335,10 +430,10 @@ disk_count (disk ∷ disks) = ap suc (disk_count disks)
 pub as_ok : {T E F G : Type 0} (result : Result T E) (x : T) (y : F) (writes : ℕ → ℕ → Option (List ℕ)) (old new : DevicesState) → result ≡ Ok x → Writes result writes old new → Writes {E = G} (Ok y) writes old new
 as_ok {T} {E} result x y writes old new is wrote =
     let ok : Writes {T = T} {E = E} (Ok x) writes old new = subst (λ (r : Result T E). Writes r writes old new) is wrote in
-    record { touches = ok.touches; reads = ok.reads }
+    record { touches = ok.touches; asks = ok.asks; reads = ok.reads }
 
 pub as_err : {T E F G : Type 0} (result : Result T E) (y : G) (writes : ℕ → ℕ → Option (List ℕ)) (old new : DevicesState) → Writes result writes old new → Writes {T = F} (Err y) writes old new
-as_err result y writes old new wrote = record { touches = wrote.touches; reads = tt }
+as_err result y writes old new wrote = record { touches = wrote.touches; asks = wrote.asks; reads = tt }
 
 -- Where the bytes are the same, so is what is written.
 pub same_bytes_there : (device place : ℕ) (one other : Option (List ℕ)) → one ≡ other → (dev block : ℕ) → on_device device (in_block place one) dev block ≡ on_device device (in_block place other) dev block
@@ -382,40 +477,40 @@ all_blocks device writes count none dev block = ⊎_elim
 
 -- The first blocks are some of all.
 pub fewer_blocks : (device count : ℕ) (writes : ℕ → Option (List ℕ)) → IsPart (on_device device (in_first count writes)) (on_device device writes)
-fewer_blocks device count writes dev block some = less (dev == device) (nat_lt block count) (writes block) some
+fewer_blocks device count writes dev block bytes some = less (dev == device) (nat_lt block count) (writes block) some
   where
-    less : (there within : Bool) (bytes : Option (List ℕ)) → IsSome (cond there (cond within bytes None) None) → IsSome (cond there bytes None)
-    less true true bytes is = is
-    less true false bytes is = absurd (false≢true is)
-    less false within bytes is = is
+    less : (there within : Bool) (held : Option (List ℕ)) → cond there (cond within held None) None ≡ Some bytes → cond there held None ≡ Some bytes
+    less true true held is = is
+    less true false held is = absurd (none-some bytes is)
+    less false within held is = is
 
 -- One block is one of all.
 pub one_of_blocks : (device count : ℕ) (writes : ℕ → Option (List ℕ)) → IsPart (on_device device (in_block count (writes count))) (on_device device writes)
-one_of_blocks device count writes dev block some = ⊎_elim
-    (λ (here : block ≡ count). subst (λ n. IsSome (on_device device writes dev n)) (sym here) (less (dev == device) (block == count) (writes count) some))
-    (λ (other : ¬ (block ≡ count)). absurd (false≢true (nowhere (dev == device) (ne_eqb block count other) some)))
+one_of_blocks device count writes dev block bytes some = ⊎_elim
+    (λ (here : block ≡ count). subst (λ n. on_device device writes dev n ≡ Some bytes) (sym here) (less (dev == device) (block == count) (writes count) some))
+    (λ (other : ¬ (block ≡ count)). absurd (nowhere (dev == device) (ne_eqb block count other) some))
     (cases_eq block count)
   where
-    less : (there here : Bool) (bytes : Option (List ℕ)) → IsSome (cond there (cond here bytes None) None) → IsSome (cond there bytes None)
-    less true true bytes is = is
-    less true false bytes is = absurd (false≢true is)
-    less false here bytes is = is
+    less : (there here : Bool) (held : Option (List ℕ)) → cond there (cond here held None) None ≡ Some bytes → cond there held None ≡ Some bytes
+    less true true held is = is
+    less true false held is = absurd (none-some bytes is)
+    less false here held is = absurd (none-some bytes is)
 
-    nowhere : (there : Bool) → (block == count) ≡ false → IsSome (cond there (cond (block == count) (writes count) None) None) → false ≡ true
-    nowhere true is some = rw is at some
-    nowhere false is some = some
+    nowhere : (there : Bool) → (block == count) ≡ false → ¬ (cond there (cond (block == count) (writes count) None) None ≡ Some bytes)
+    nowhere true is some = none-some bytes (rw is at some)
+    nowhere false is some = none-some bytes some
 
 -- What a call wrote that succeeded.
 pub wrote_by_ok : {T E : Type 0} (result : Result T E) (x : T) (writes : ℕ → ℕ → Option (List ℕ)) (old new : DevicesState) → result ≡ Ok x → Writes result writes old new → Wrote writes old new
 wrote_by_ok {T} {E} result x writes old new is wrote =
     let ok : Writes {T = T} {E = E} (Ok x) writes old new = subst (λ (r : Result T E). Writes r writes old new) is wrote in
-    record { touches = ok.touches; reads = ok.reads }
+    record { touches = ok.touches; asks = ok.asks; reads = ok.reads }
 
 -- A call that failed may be said to write more.
 pub failed_by : {T F E G : Type 0} (out : Result T G) (result : Result F E) (few many : ℕ → ℕ → Option (List ℕ)) (old new : DevicesState) → IsErr out → IsPart few many → Writes result few old new → Writes out many old new
 failed_by (Ok x) result few many old new is part writes = absurd (false≢true is)
-failed_by (Err e) result few many old new is part writes = record { touches = touches_more few many old new part writes.touches; reads = tt }
+failed_by (Err e) result few many old new is part writes = record { touches = touches_more few many old new part writes.touches; asks = asks_more few many old new part writes.asks; reads = tt }
 
 -- After a call that succeeded all of it was written.
 pub ok_wrote : {T E : Type 0} (x : T) (writes : ℕ → ℕ → Option (List ℕ)) (old new : DevicesState) → Writes {E = E} (Ok x) writes old new → Wrote writes old new
-ok_wrote x writes old new wrote = record { touches = wrote.touches; reads = wrote.reads }
+ok_wrote x writes old new wrote = record { touches = wrote.touches; asks = wrote.asks; reads = wrote.reads }

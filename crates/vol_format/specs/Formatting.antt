@@ -1,20 +1,19 @@
 -- How devices are formatted: in five steps, each settled before the next begins, and what a crash in one of them leaves.
-use Rattle.std.specs.Prelude.{◌≡◌, ◌⊎◌, ℕ, ◌+◌, ◌-◌, ◌/◌, ◌%◌, ◌≤◌, Bool, true, false, ◌&&◌, ◌||◌, ◌==◌, not, nat_lt, nat_le, if◌then◌else◌, List, [], ◌∷◌, length, slice_index, slice_index_or, Option, Some, None, Ok, IsErr}
+use Rattle.std.specs.Prelude.{◌≡◌, ◌≢◌, ◌⊎◌, ℕ, ◌<◌, ◌+◌, ◌-◌, ◌/◌, ◌%◌, ◌≤◌, Bool, true, false, ◌&&◌, ◌||◌, ◌==◌, not, nat_lt, nat_le, if◌then◌else◌, List, [], ◌∷◌, length, slice_index, slice_index_or, Option, Some, None, Ok, IsErr}
 use Rattle.dev_model.specs.Disk.{Disk, Image, NothingPending, IsCrashImage, as_read, block_at, blocks_of, zeros}
 use Rattle.dev_model.specs.Devices.{DevicesState, now}
-use Rattle.dev_model.specs.Crashes.{IsQuiet}
+use Rattle.dev_model.specs.HeldBlocks.{HasNoChanceMatch, OnlyHeldOpensAt}
 use Rattle.vol_types.specs.declared.layout.Layout.{Layout}
-use Rattle.sealed_block.specs.declared.heads.Head.{Head}
-use Rattle.sealed_block.specs.Opening.{opened}
 use Rattle.geometry.specs.declared.copies.SuperCopy.{SuperCopy}
 use Rattle.geometry.specs.Superblocks.{counting, super_block}
 use Rattle.geometry.specs.Sessions.{session_block}
 use Rattle.key_meaning.specs.Checks.{AreNodesPlaced}
 use Rattle.node_store.specs.Plans.{part_bytes}
+use Rattle.image_view.specs.CrashEntries.{opens}
 use Rattle.image_view.specs.Found.{Found, IsInOrder, MountsAs, Volume, found, node_places}
 use Rattle.replay.specs.Mending.{HasMended}
 use Rattle.vol_format.specs.declared.fresh.FreshBlocks.{FreshBlocks}
-use Rattle.vol_format.specs.Fresh.{fresh_found, fresh_volume, no_bucket}
+use Rattle.vol_format.specs.Fresh.{AreFreshBlocks, fresh_found, fresh_volume, no_bucket}
 
 -- the block of a device's superblock copy that doesn't count; block 8 where neither opens
 abbrev pub spare_beside : Option SuperCopy → ℕ
@@ -102,12 +101,15 @@ pub record IsOfStep (layout : Layout) (fresh : FreshBlocks) (before : Image) (st
   pub count : length image ≡ length before
   pub others : (dev block : ℕ) → step_writes layout fresh before step dev block ≡ None → block_at image dev block ≡ held_before layout fresh before step dev block
 
--- No chance match: a block that opens holds what its place held when the step began, which is when it was last settled, or
--- what the step writes there.
-abbrev pub HasNoTornMatch : Layout → FreshBlocks → Image → Step → Image → Type 0
-HasNoTornMatch layout fresh before step image =
-    (dev block : ℕ) (bytes : List ℕ) (head : Head) → block_at image dev block ≡ Some bytes → opened bytes ≡ Some head
-    → (held_before layout fresh before step dev block ≡ Some bytes) ⊎ (step_writes layout fresh before step dev block ≡ Some bytes)
+-- It is the block of a superblock copy.
+abbrev pub IsSuperBlock : ℕ → Type 0
+IsSuperBlock block = (block ≡ 0) ⊎ (block ≡ 8)
+
+-- No torn superblock opens by chance: neither in what was read at each moment up to this one, nor in this image that a crash left
+-- then.
+pub record AreSupersUntorn (first moment : ℕ) (state : DevicesState) (image : Image) : Type 0 where
+  pub reads : (dev block : ℕ) → IsSuperBlock block → HasNoChanceMatch opens dev block first moment state
+  pub left : (dev block : ℕ) → IsSuperBlock block → OnlyHeldOpensAt opens (state.disks moment) image dev block
 
 -- Images mean the same: what is found in one, with its nodes where nodes may lie, is found in the other one, in order where it was,
 -- and it mounts as the same volume.
@@ -127,23 +129,31 @@ pub record IsFresh (layout : Layout) (image : Image) : Type 0 where
 abbrev pub MeansOldOrFresh : Layout → Image → Image → Type 0
 MeansOldOrFresh layout before image = (KeepsMeaning before image × KeepsMeaning image before) ⊎ IsErr (found image) ⊎ IsFresh layout image
 
--- What a crash leaves of devices that are being formatted is of one of the steps, for some blocks that metadata devices get, and means
--- what it may.
-pub record IsFormatImage (layout : Layout) (before image : Image) : Type 0 where
+-- What a crash leaves at this moment of devices that are being formatted is of one of the steps, for some blocks that metadata devices
+-- get, which are those of the fresh volume, and it means what it may, where no torn superblock opens by chance.
+pub record IsFormatImage (layout : Layout) (old new : DevicesState) (moment : ℕ) (image : Image) : Type 0 where
   pub fresh : FreshBlocks
   pub step : Step
-  pub of_step : IsOfStep layout fresh before step image
-  pub means : HasNoTornMatch layout fresh before step image → MeansOldOrFresh layout before image
+  pub blocks : step ≢ ZeroSpares → AreFreshBlocks layout fresh
+  pub of_step : IsOfStep layout fresh (as_read (now old)) step image
+  pub means : AreSupersUntorn old.moment moment new image → MeansOldOrFresh layout (as_read (now old)) image
 
--- A crash at each moment of formatting quiet devices leaves only such images.
+-- A crash at each moment of formatting devices of which nothing is pending at first leaves only such images.
 abbrev pub FormatSurvives : Layout → DevicesState → DevicesState → Type 0
 FormatSurvives layout old new =
-    IsQuiet (now old) → (moment : ℕ) → old.moment ≤ moment → moment ≤ new.moment
-    → (image : Image) → IsCrashImage (new.disks moment) image → IsFormatImage layout (as_read (now old)) image
+    NothingPending (now old) → (moment : ℕ) → old.moment ≤ moment → moment ≤ new.moment
+    → (image : Image) → IsCrashImage (new.disks moment) image → IsFormatImage layout old new moment image
+
+-- The metadata devices hold what those of the fresh volume get: zeros, session 1, the first entry, and the buckets of the roots.
+pub record HoldsPrepared (layout : Layout) (image : Image) : Type 0 where
+  pub fresh : FreshBlocks
+  pub blocks : AreFreshBlocks layout fresh
+  pub hold : (dev block : ℕ) (bytes : List ℕ) → dev < layout.metadata_replicas → prepared layout fresh block ≡ Some bytes → block_at image dev block ≡ Some bytes
 
 -- The devices hold the fresh volume with this layout, and nothing of them is pending; and it is ready to be opened: its first entry
 -- stands whole on every metadata device, and no two records of the journal have one digest.
 pub record IsFormatted (layout : Layout) (disks : List Disk) : Type 0 where
   pub rest : NothingPending disks
   pub is_fresh : IsFresh layout (as_read disks)
+  pub holds : HoldsPrepared layout (as_read disks)
   pub mended : HasMended (fresh_found layout) 1 disks

@@ -9,6 +9,7 @@ use Rattle.vol_types.specs.declared.pointers.NodePtr.{NodePtr}
 use Rattle.vol_types.specs.declared.pointers.Place.{Place}
 use Rattle.vol_types.specs.declared.positions.Btree.{Btree}
 use Rattle.vol_types.specs.declared.positions.Btree.TheVariants.{Extents}
+use Rattle.record_codec.specs.Sets.{set_format}
 use Rattle.record_codec.specs.declared.entries.EntryRecord.{EntryRecord}
 use Rattle.record_codec.specs.declared.sets.SetRecord.{SetRecord}
 use Rattle.sealed_block.specs.declared.heads.Head.{Head}
@@ -16,7 +17,7 @@ use Rattle.sha2.specs.Sha256.{sha256}
 use Rattle.key_meaning.specs.Fresh.{fresh_keys}
 use Rattle.plain_forest.specs.Forest.{fresh}
 use Rattle.node_store.specs.NodeContents.{NodeContent}
-use Rattle.node_store.specs.Plans.{HoldsAlone, planned_blocks}
+use Rattle.node_store.specs.Plans.{AreZerosFrom, HoldsAlone, IsReadAlone, blocks_for, planned_blocks, set_stored}
 use Rattle.node_store.specs.declared.planning.Blocked.{Blocked}
 use Rattle.journal_ring.specs.EntryBlocks.{AreEntryBlocks}
 use Rattle.journal_ring.specs.declared.found.FoundEntry.{FoundEntry}
@@ -98,12 +99,15 @@ entry_head layout payload = record {
 abbrev pub no_bucket : Blocked
 no_bucket = record { places = []; block = 0; parts = [] }
 
--- The blocks are those of a bucket that holds the root of the btree with this number.
+-- The blocks are those of a bucket that holds the root of the btree with this number: its set, in whose head the sequence of the first entry
+-- stands, and zero blocks behind it.
 pub record IsRootPlan (layout : Layout) (number : ℕ) (blocked : Blocked) : Type 0 where
   pub places : blocked.places ≡ (fresh_root layout number).places
   pub first : blocked.block ≡ 0
   pub whole : planned_blocks blocked ≡ bucket_blocks
   pub size : length blocked.parts ≡ 65536
+  pub alone : IsReadAlone layout.id (fresh_root layout number) (set_stored 0 (first_entry layout).sequence (set_format.encode (root_set number))) blocked
+  pub zeros : AreZerosFrom (blocks_for (set_format.encode (root_set number))) blocked
   pub holds : HoldsAlone layout.id (fresh_root layout number) (root_set number) blocked
 
 -- They are those of the nine roots.

@@ -1,14 +1,16 @@
 -- What a step of formatting does to devices: where it writes what, what a crash during it leaves, and what is read and settled
 -- after it.
-use Rattle.std.specs.Prelude.{◌≡◌, ◌<◌, ℕ, ◌&&◌, ◌||◌, ◌==◌, nat_lt, nat_le, if◌then◌else◌, List, length, slice_index, slice_index_or, Option, Some, None, Result, OnOk}
+use Rattle.std.specs.Prelude.{◌≡◌, ◌⊎◌, ◌<◌, ◌≤◌, ℕ, Bool, IsTrue, ◌&&◌, ◌||◌, ◌==◌, nat_lt, nat_le, if◌then◌else◌, List, All, length, slice_index, slice_index_or, Option, Some, None, Result, OnOk}
 use Rattle.std.specs.Option.{IsSome}
 use Rattle.vol_types.specs.declared.layout.Layout.{Layout}
-use Rattle.dev_model.specs.Disk.{Disk, Image, IsCrashImage, as_read, block_at, blocks_of, zeros}
+use Rattle.dev_model.specs.Disk.{Disk, Image, IsCrashImage, IsDisk, NothingPending, as_read, block_at, blocks_of, zeros}
 use Rattle.dev_model.specs.Devices.{DevicesState, now}
-use Rattle.dev_model.specs.Crashes.{IsQuiet, EachCrash, IsCrashImageBut}
+use Rattle.dev_model.specs.Crashes.{EachCrash, IsCrashImageBut}
+use Rattle.dev_model.specs.HeldBlocks.{HasNoChanceMatch, HaveHeld, HoldOnly}
 use Rattle.geometry.specs.Superblocks.{copy_in, super_block, super_copy}
+use Rattle.image_view.specs.CrashEntries.{opens}
 use Rattle.vol_format.specs.declared.fresh.FreshBlocks.{FreshBlocks}
-use Rattle.vol_format.specs.Formatting.{IsOfStep, Step, held_before, if_so, or_held, other_block, spare_block}
+use Rattle.vol_format.specs.Formatting.{IsOfStep, Step, held_before, if_so, or_held, other_block, spare_block, step_writes}
 
 -- what is written on one device alone
 abbrev pub on_device : ℕ → (ℕ → Option (List ℕ)) → ℕ → ℕ → Option (List ℕ)
@@ -62,14 +64,20 @@ Touches writes old new = EachCrash (λ _ _ image. LeavesBut writes (now old) ima
 abbrev pub Reads : (ℕ → ℕ → Option (List ℕ)) → DevicesState → DevicesState → Type 0
 Reads writes old new = (dev block : ℕ) → block_at (as_read (now new)) dev block ≡ or_held (writes dev block) (block_at (as_read (now old)) dev block)
 
+-- Nothing else was asked of the devices.
+abbrev pub AsksOnly : (ℕ → ℕ → Option (List ℕ)) → DevicesState → DevicesState → Type 0
+AsksOnly writes old new = (opening : List ℕ → Bool) → HoldOnly opening (λ dev block bytes. writes dev block ≡ Some bytes) old new
+
 -- All of it was written.
 pub record Wrote (writes : ℕ → ℕ → Option (List ℕ)) (old new : DevicesState) : Type 0 where
   pub touches : Touches writes old new
+  pub asks : AsksOnly writes old new
   pub reads : Reads writes old new
 
 -- Nothing else was written, and where the call succeeds all of it.
 pub record Writes {T E : Type 0} (result : Result T E) (writes : ℕ → ℕ → Option (List ℕ)) (old new : DevicesState) : Type 0 where
   pub touches : Touches writes old new
+  pub asks : AsksOnly writes old new
   pub reads : OnOk result (Reads writes old new)
 
 -- A crash leaves every place as it is read.
@@ -80,21 +88,29 @@ AllSettled disks = (image : Image) → IsCrashImage disks image → (dev block :
 pub record IsStep {T E : Type 0} (result : Result T E) (writes : ℕ → ℕ → Option (List ℕ)) (old new : DevicesState) : Type 0 where
   pub writes_so : Writes result writes old new
   pub settled : OnOk result (AllSettled (now new))
+  pub rest : OnOk result (NothingPending (now new))
 
--- The image is of one of the steps.
-pub record IsOfSome (layout : Layout) (fresh : FreshBlocks) (before image : Image) : Type 0 where
+-- At a moment the devices are in a step: a crash leaves only images of it, and where nothing opened by chance up to then, a block that the disks have
+-- held and that opens is what its place held when the step began, or what the step writes there.
+pub record AreInStep (layout : Layout) (fresh : FreshBlocks) (old new : DevicesState) (moment : ℕ) : Type 0 where
   pub step : Step
-  pub of_step : IsOfStep layout fresh before step image
+  pub of_step : (image : Image) → IsCrashImage (new.disks moment) image → IsOfStep layout fresh (as_read (now old)) step image
+  pub held : (dev block : ℕ) → HasNoChanceMatch opens dev block old.moment moment new → (bytes : List ℕ) → IsTrue (opens bytes) → HaveHeld (new.disks moment) dev block bytes
+      → (held_before layout fresh (as_read (now old)) step dev block ≡ Some bytes) ⊎ (step_writes layout fresh (as_read (now old)) step dev block ≡ Some bytes)
 
--- If the disks were quiet at first, a crash leaves only images of the steps.
-abbrev pub LeavesSteps : Layout → FreshBlocks → DevicesState → DevicesState → Type 0
-LeavesSteps layout fresh old new = EachCrash (λ _ _ image. IsQuiet (now old) → IsOfSome layout fresh (as_read (now old)) image) old new
+-- If nothing was pending at first, the devices are in one of the steps at each moment.
+pub record LeavesSteps (layout : Layout) (fresh : FreshBlocks) (old new : DevicesState) : Type 0 where
+  pub later : old.moment ≤ new.moment
+  pub past : (m : ℕ) → m ≤ old.moment → new.disks m ≡ old.disks m
+  pub each : NothingPending (now old) → (m : ℕ) → old.moment ≤ m → m ≤ new.moment → AreInStep layout fresh old new m
 
 -- The devices are formatted up to where this step begins.
 pub record Reached (layout : Layout) (fresh : FreshBlocks) (step : Step) (old new : DevicesState) : Type 0 where
   pub leaves : LeavesSteps layout fresh old new
   pub held : (dev block : ℕ) → block_at (as_read (now new)) dev block ≡ held_before layout fresh (as_read (now old)) step dev block
-  pub settled : IsQuiet (now old) → AllSettled (now new)
+  pub settled : NothingPending (now old) → AllSettled (now new)
+  pub rest : NothingPending (now old) → NothingPending (now new)
+  pub disks : All IsDisk (now new)
   pub count : length (now new) ≡ length (now old)
 
 -- A part of formatting leaves only images of the steps, and where it succeeds, this step is reached, with all settled.

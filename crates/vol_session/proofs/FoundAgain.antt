@@ -1,11 +1,14 @@
 -- An image that means what was found when a run began is what the run leaves before it has acknowledged anything.
-use Rattle.std.proofs.Common.{◌≡◌, ℕ, List, Result, Ok, refl, sym, ap, ◌∙◌, arith}
+use Rattle.std.proofs.Common.{◌≡◌, ℕ, ◌+◌, ◌≤◌, List, Result, Ok, Some, refl, sym, ap, ◌∙◌, arith}
 use Rattle.dev_model.specs.Devices.{DevicesState, now}
 use Rattle.dev_model.specs.Disk.{Image, as_read}
 use Rattle.forest_ops.specs.History.{History}
+use Rattle.geometry.specs.Sessions.{session_in}
+use Rattle.image_view.specs.BaseLaws.{found-session}
 use Rattle.image_view.specs.Found.{Found, MountsAs, Volume, volume_of, with_session}
 use Rattle.image_view.specs.declared.fault.MountFault.{MountFault}
 use Rattle.replay.specs.Beginning.{MeansTheSame}
+use Rattle.replay.specs.Mending.{AreSessionsUntorn}
 use Rattle.forest_ops.specs.Acknowledged.{acknowledged}
 use Rattle.forest_ops.specs.declared.acks.Ack.{Ack}
 use Rattle.vol_session.specs.Marks.{forest_found}
@@ -28,12 +31,14 @@ module _ (f : Found) (first : DevicesState) (may : MayRun f (now first)) (image 
   forest_again = sym (ap (λ (v : Volume). v.forest) (mounts_again.volume_is ∙ ap (volume_of image) (one_value _ mounts_again.f found_again mounts_again.finds means.finds)))
 
   -- It may be run again.
-  pub left_unacknowledged : (trace : History) (acks : List Ack) (moment : ℕ) → acknowledged acks moment ≡ 0 → IsLeftOfRun f first trace acks moment image
-  left_unacknowledged trace acks moment none = record {
+  pub left_unacknowledged : (state : DevicesState) (trace : History) (acks : List Ack) (moment : ℕ) → (AreSessionsUntorn f.layout first.moment moment state image → (session : ℕ) → session_in f.layout image ≡ Some session → session ≤ f.session + 1)
+      → acknowledged acks moment ≡ 0 → IsLeftOfRun f first state trace acks moment image
+  left_unacknowledged state trace acks moment next none = record {
     left = found_again;
     again = record { finds = means.finds; in_order = means.in_order may.on.order; leaves = record { roots = may.leaves.roots; updates = may.leaves.updates }; sound = may.sound; tidy = may.tidy };
     mounts = record { f = found_again; finds = means.finds; sound = may.sound; volume_is = refl };
     layout = refl;
+    session = λ untorn. next untorn means.session (found-session image found_again means.finds);
     count = 0;
     commits = omega arith;
     least = omega (arith, none);

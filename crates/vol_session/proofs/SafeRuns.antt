@@ -1,5 +1,5 @@
 -- Whatever a crash has left since a run began is what the run leaves: before its session began it means what was found, and from then on it is what survives the session.
-use Rattle.std.proofs.Common.{◌≡◌, ◌<◌, ◌≤◌, ℕ, ⊎_elim, List, [], refl, ap, ◌∙◌, subst, arith}
+use Rattle.std.proofs.Common.{◌≡◌, ◌+◌, ◌<◌, ◌≤◌, ℕ, ⊎_elim, List, [], refl, ap, ◌∙◌, subst, arith}
 use Rattle.std.specs.Prelude.{All}
 use Rattle.std.proofs.lemmas.Bool.{cases_lt}
 use Rattle.dev_model.specs.CrashLaws.{as_read_may_be_left}
@@ -9,6 +9,7 @@ use Rattle.forest_ops.specs.History.{History, after_commits, commit_count}
 use Rattle.image_view.specs.Found.{Found}
 use Rattle.plain_forest.specs.Forest.{Forest}
 use Rattle.replay.specs.Mending.{IsUntorn, KeepsMeaning, KeepsPast}
+use Rattle.replay.proofs.NextSession.{sessions_before}
 use Rattle.forest_ops.specs.Acknowledged.{AreAcks}
 use Rattle.forest_ops.specs.declared.acks.Ack.{Ack}
 use Rattle.vol_session.specs.Marks.{forest_found}
@@ -20,13 +21,14 @@ use Rattle.vol_session.proofs.Unacknowledged.{none_before}
 use Rattle.vol_session.proofs.Untorn.{untorn_before, untorn_read, untorn_since}
 
 -- What has survived a session is left of the run that it is of, where the session found the forest that the run did.
-survived : (f : Found) (first start : DevicesState) (trace : History) (acks : List Ack) (moment : ℕ) (image : Image) → forest_found (in_next f) start ≡ forest_found f first
-    → HasSurvived (in_next f) start trace acks moment image → IsLeftOfRun f first trace acks moment image
-survived f first start trace acks moment image same survives = record {
+survived : (f : Found) (first start state : DevicesState) (trace : History) (acks : List Ack) (moment : ℕ) (image : Image) → forest_found (in_next f) start ≡ forest_found f first
+    → HasSurvived (in_next f) start trace acks moment image → IsLeftOfRun f first state trace acks moment image
+survived f first start state trace acks moment image same survives = record {
   left = survives.base;
   again = record { finds = survives.finds; in_order = survives.in_order; leaves = survives.leaves; sound = survives.sound; tidy = survives.tidy };
   mounts = record { f = survives.base; finds = survives.finds; sound = survives.sound; volume_is = refl };
   layout = survives.layout;
+  session = λ untorn. (let is : survives.base.session ≡ f.session + 1 = survives.session in let e : survives.base.session ≤ f.session + 1 = omega (arith, is) in e);
   count = survives.count;
   commits = survives.commits;
   least = survives.least;
@@ -41,17 +43,19 @@ module _ (f : Found) (first start state : DevicesState) (trace : History) (acks 
   -- The session found the forest that the run did, where no torn block opens by chance up to some later moment.
   same_forest : (moment : ℕ) (image : Image) → start.moment ≤ moment → IsUntorn f.layout first.moment moment state image → forest_found (in_next f) start ≡ forest_found f first
   same_forest moment image since untorn = forest_again f first may (as_read (now start))
-      (keeps start.moment begins (omega arith) (as_read (now start)) (as_read_may_be_left (now start) disks) (untorn_read f.layout first.moment moment start state image past begins since untorn))
+      (keeps.means start.moment begins (omega arith) (as_read (now start)) (as_read_may_be_left (now start) disks) (untorn_read f.layout first.moment moment start state image past begins since untorn))
 
   pub run_is_safe : AreAcks start.moment state.moment trace acks → Survive (in_next f) start state trace acks → RunSurvives f first state trace acks
   run_is_safe acked survive moment from to image crash untorn = ⊎_elim
       (λ (before : moment < start.moment).
       let earlier : moment ≤ start.moment = omega (arith, before) in
       left_unacknowledged f first may image
-      (keeps moment from earlier image (subst (λ (ds : List Disk). IsCrashImage ds image) (past moment earlier) crash) (untorn_before f.layout first.moment moment start state image past earlier untorn))
-      trace acks moment (none_before start.moment state.moment moment acks before acked.moments))
+      (keeps.means moment from earlier image (subst (λ (ds : List Disk). IsCrashImage ds image) (past moment earlier) crash) (untorn_before f.layout first.moment moment start state image past earlier untorn))
+      state trace acks moment
+      (λ sessions. keeps.session moment from earlier image (subst (λ (ds : List Disk). IsCrashImage ds image) (past moment earlier) crash) (sessions_before f.layout first.moment moment start state image past earlier sessions))
+      (none_before start.moment state.moment moment acks before acked.moments))
       (λ (since : start.moment ≤ moment).
-      survived f first start trace acks moment image (same_forest moment image since untorn) (survive moment since to image crash (untorn_since f.layout first.moment start.moment moment state image begins untorn)))
+      survived f first start state trace acks moment image (same_forest moment image since untorn) (survive moment since to image crash (untorn_since f.layout first.moment start.moment moment state image begins untorn)))
       (cases_lt moment start.moment)
 
 pub runs_are_safe : RunsAreSafe
@@ -59,4 +63,5 @@ runs_are_safe f first start state trace acks may keeps begins disks past later a
 
 -- So it is where no session began.
 pub opening_is_safe : OpeningIsSafe
-opening_is_safe f first last may keeps moment from to image crash untorn = left_unacknowledged f first may image (keeps moment from to image crash untorn) [] [] moment refl
+opening_is_safe f first last may keeps moment from to image crash untorn =
+    left_unacknowledged f first may image (keeps.means moment from to image crash untorn) last [] [] moment (keeps.session moment from to image crash) refl

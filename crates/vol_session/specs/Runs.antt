@@ -5,7 +5,7 @@ use Rattle.dev_model.specs.Disk.{Disk, Image, IsCrashImage}
 use Rattle.forest_ops.specs.History.{History, after_commits, commit_count}
 use Rattle.image_view.specs.Found.{Found, IsInOrder, MountsAs, found, volume_of}
 use Rattle.key_meaning.specs.Tidy.{IsTidy}
-use Rattle.replay.specs.Mending.{IsInOrderOn, IsUntorn}
+use Rattle.replay.specs.Mending.{AreSessionsUntorn, IsInOrderOn, IsUntorn}
 use Rattle.forest_ops.specs.Acknowledged.{acknowledged}
 use Rattle.forest_ops.specs.declared.acks.Ack.{Ack}
 use Rattle.vol_core.specs.Left.{AreLeaves, IsSoundFound}
@@ -29,12 +29,14 @@ pub record MayRunAgain (f : Found) (image : Image) : Type 0 where
   pub tidy : IsTidy f.trees.keys
 
 -- The image mounts as the volume after a prefix of the commits of the history, with all that was acknowledged by this moment, and may be run again. What was acknowledged stands whole
--- on every metadata device; and where what was found left room in the ring of the journal, so does the image.
-pub record IsLeftOfRun (f : Found) (first : DevicesState) (trace : History) (acks : List Ack) (moment : ℕ) (image : Image) : Type 0 where
+-- on every metadata device; at most one session more was begun than what was found had, where no torn block of a session opens by chance; and where what was found left room in the ring of the
+-- journal, so does the image.
+pub record IsLeftOfRun (f : Found) (first state : DevicesState) (trace : History) (acks : List Ack) (moment : ℕ) (image : Image) : Type 0 where
   pub left : Found
   pub again : MayRunAgain left image
   pub mounts : MountsAs image (volume_of image left)
   pub layout : left.layout ≡ f.layout
+  pub session : AreSessionsUntorn f.layout first.moment moment state image → left.session ≤ f.session + 1
   pub count : ℕ
   pub commits : commits_found left ≡ commits_found f + count
   pub least : acknowledged acks moment ≤ count
@@ -47,4 +49,4 @@ pub record IsLeftOfRun (f : Found) (first : DevicesState) (trace : History) (ack
 abbrev pub RunSurvives : Found → DevicesState → DevicesState → History → List Ack → Type 0
 RunSurvives f first state trace acks =
     (moment : ℕ) → first.moment ≤ moment → moment ≤ state.moment → (image : Image) → IsCrashImage (state.disks moment) image → IsUntorn f.layout first.moment moment state image
-    → IsLeftOfRun f first trace acks moment image
+    → IsLeftOfRun f first state trace acks moment image

@@ -1,5 +1,5 @@
 -- What is kept between operations is kept by a call.
-use Rattle.std.proofs.Common.{◌≡◌, ℕ, true, ◌≤◌, ◌<◌, ◌^◌, length, Result, Ok, Err, sym, ap, subst}
+use Rattle.std.proofs.Common.{◌≡◌, ℕ, ◌≤◌, ◌<◌, ◌^◌, length, Result, Ok, Err, sym, ap, subst}
 use Rattle.std.specs.Prelude.{IfOk, OnErr}
 use Rattle.std.specs.declared.alloc.AllocError.{AllocError}
 use Rattle.dev_model.specs.Devices.{AreFaultCounts, DevicesState}
@@ -7,7 +7,6 @@ use Rattle.dev_model.specs.Frames.{GoOn}
 use Rattle.forest_ops.specs.History.{History}
 use Rattle.forest_ops.specs.declared.operation.Op.{Op}
 use Rattle.forest_ops.specs.declared.operation.Reply.{Reply}
-use Rattle.fs_plan.specs.Plans.{is_planned}
 use Rattle.image_view.specs.Found.{Found}
 use Rattle.vol_core.specs.Room.{HasRoomForNext, LeavesRoom}
 use Rattle.vol_session.specs.Sessions.{SessionState}
@@ -40,14 +39,14 @@ module _ {D : Type 0} (tells : Type 0) (begun : Found) (start : DevicesState) (s
 
   module _ (old new : SessionState D) (left : IsLeft new) (room : FindsRoom new) (counting : AreCounting old.core.devices) (keeps : Keeps old) where
     -- by an operation that was answered
-    keeps_served : (client : ℕ) (op : Op) (reply : Reply) → is_planned op ≡ true → IsServed state client op reply old new → Keeps new
-    keeps_served client op reply planned served = record {
+    keeps_served : (client : ℕ) (op : Op) (reply : Reply) → IsServed state client op reply old new → Keeps new
+    keeps_served client op reply served = record {
       rest = served.rest;
       failures = subst (λ (trace : History). KeepsFailures begun start (state new.core.devices) new.core.memory.volume.halted trace) (sym served.answered.trace)
           (failures_served begun start (state old.core.devices) (state new.core.devices) old.trace served.goes_on counting.goes_on counting.counts counting.few old.core.memory.volume.halted new.core.memory.volume.halted client op reply
           (faults_caused client op reply new.core.memory.volume (state old.core.devices).faults (state new.core.devices).faults served.cause) served.halts served.writes keeps.failures);
       unspent = subst (λ (trace : History). AreUnspent tells begun start (state new.core.devices) trace) (sym served.answered.trace)
-          (unspent_served tells begun start (state old.core.devices) (state new.core.devices) old.trace client op reply new.core.memory.volume (state old.core.devices).faults (state new.core.devices).faults planned served.goes_on served.cause
+          (unspent_served tells begun start (state old.core.devices) (state new.core.devices) old.trace client op reply new.core.memory.volume (state old.core.devices).faults (state new.core.devices).faults served.goes_on served.cause
           (subst (λ (trace : History). IsFarFromSpent begun start (state new.core.devices) → length trace < 2 ^ 31 → HasNumbersLeft new.core.memory.volume) served.answered.trace left) room keeps.unspent);
     }
 
@@ -61,12 +60,12 @@ module _ {D : Type 0} (tells : Type 0) (begun : Found) (start : DevicesState) (s
           (unspent_later tells begun start (state old.core.devices) (state new.core.devices) old.trace unserved.goes_on keeps.unspent);
     }
 
-    keeps_result : (result : Result Reply AllocError) (client : ℕ) (op : Op) → is_planned op ≡ true → IfOk result (λ reply. IsServed state client op reply old new) → OnErr result (IsUnserved state old new) → Keeps new
-    keeps_result (Ok reply) client op planned served unserved = keeps_served client op reply planned served
-    keeps_result (Err error) client op planned served unserved = keeps_unserved unserved
+    keeps_result : (result : Result Reply AllocError) (client : ℕ) (op : Op) → IfOk result (λ reply. IsServed state client op reply old new) → OnErr result (IsUnserved state old new) → Keeps new
+    keeps_result (Ok reply) client op served unserved = keeps_served client op reply served
+    keeps_result (Err error) client op served unserved = keeps_unserved unserved
 
   -- Room was made first.
-  pub keeps_call : (result : Result Reply AllocError) (client : ℕ) (op : Op) → is_planned op ≡ true → (old mid new : SessionState D) → mid ≡ record old { spare = mid.spare } → IsLeft new → FindsRoom new → AreCounting old.core.devices → Keeps old
+  pub keeps_call : (result : Result Reply AllocError) (client : ℕ) (op : Op) (old mid new : SessionState D) → mid ≡ record old { spare = mid.spare } → IsLeft new → FindsRoom new → AreCounting old.core.devices → Keeps old
       → IfOk result (λ reply. IsServed state client op reply mid new) → OnErr result (IsUnserved state mid new) → Keeps new
-  keeps_call result client op planned old mid new same left room counting keeps served unserved =
-      keeps_result mid new left room (subst (λ (s : SessionState D). AreCounting s.core.devices) (sym same) counting) (subst Keeps (sym same) keeps) result client op planned served unserved
+  keeps_call result client op old mid new same left room counting keeps served unserved =
+      keeps_result mid new left room (subst (λ (s : SessionState D). AreCounting s.core.devices) (sym same) counting) (subst Keeps (sym same) keeps) result client op served unserved

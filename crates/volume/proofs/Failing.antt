@@ -146,6 +146,22 @@ not_done op reply forest not_so = ap (λ (t : Bool). is_changing (class_of op) &
     by true = refl
     by false = refl
 
+first_of : (first second third : Bool) → (first && second && third) ≡ true → first ≡ true
+first_of true second third is = refl
+first_of false second third is = absurd (false≢true is)
+
+second_of : (first second third : Bool) → (first && second && third) ≡ true → second ≡ true
+second_of true true third is = refl
+second_of true false third is = absurd (false≢true is)
+second_of false second third is = absurd (false≢true is)
+
+-- A commit changes the forest, and was done.
+pub commit_changes : (op : Op) (reply : Reply) (forest : Forest) → commits op reply forest ≡ true → is_changing (class_of op) ≡ true
+commit_changes op reply forest is = first_of (is_changing (class_of op)) (is_done reply) (not (is_idle op forest)) is
+
+pub commit_is_done : (op : Op) (reply : Reply) (forest : Forest) → commits op reply forest ≡ true → is_done reply ≡ true
+commit_is_done op reply forest is = second_of (is_changing (class_of op)) (is_done reply) (not (is_idle op forest)) is
+
 -- What is a commit only where the session writes is none once it has halted.
 no_commit_shown : (opening : Forest) (halted : Option Halt) (start state : DevicesState) (trace : History) (client : ℕ) (op : Op) (reply : Reply) → Halts halted start state trace → IsWriting op reply halted
     → has_halted trace ≡ true → is_commit (after_all opening trace) (entry_of client op reply) ≡ false
@@ -153,7 +169,7 @@ no_commit_shown opening None start state trace client op reply halts writes befo
 no_commit_shown opening (Some halt) start state trace client op reply halts writes before = by (commits op reply (after_all opening trace)) refl
   where
     by : (commit : Bool) → commits op reply (after_all opening trace) ≡ commit → commits op reply (after_all opening trace) ≡ false
-    by true is = absurd (none_some halt (sym (writes (after_all opening trace) is)))
+    by true is = absurd (none_some halt (sym (writes (commit_changes op reply (after_all opening trace) is) (commit_is_done op reply (after_all opening trace) is))))
     by false is = is
 
 -- While calls succeed, the halt stays.

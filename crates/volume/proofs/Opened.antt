@@ -10,7 +10,8 @@ use Rattle.dev_model.specs.Devices.{DevicesState}
 use Rattle.forest_ops.specs.History.{History, after_all, is_commit}
 use Rattle.forest_ops.specs.HistoryLaws.{EachEntry-none}
 use Rattle.forest_ops.specs.declared.operation.Entry.{Entry}
-use Rattle.forest_ops.specs.declared.operation.Op.TheVariants.{Sync}
+use Rattle.forest_ops.specs.Classes.{class_of}
+use Rattle.forest_ops.specs.declared.operation.Class.TheVariants.{Syncs}
 use Rattle.forest_ops.specs.declared.operation.Reply.TheVariants.{Spent}
 use Rattle.image_view.specs.Found.{Found}
 use Rattle.forest_ops.specs.Failures.{has_halted}
@@ -50,5 +51,5 @@ module _ (memory : State) (writes : memory.volume.halted ≡ None) (idle : memor
       (subst (λ (t : History). IsBetween tells begun start start memory t) (sym nothing) (record {
         rest = rests;
         failures = subst (λ (halted : Option Halt). KeepsFailures begun start start halted []) (sym writes) (none_failed begun start);
-        unspent = λ far few. All-nil (λ (entry : Entry). entry.reply ≡ Spent → (entry.op ≡ Sync) × ¬ BeganWithRoom tells begun start);
+        unspent = λ far few. All-nil (λ (entry : Entry). entry.reply ≡ Spent → (class_of entry.op ≡ Syncs) × ¬ BeganWithRoom tells begun start);
       }))

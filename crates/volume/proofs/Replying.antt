@@ -1,6 +1,6 @@
 -- What replies show of themselves: a failure is no commit, and what the forest answers a plan shows no failure.
-use Rattle.std.proofs.Common.{◌≡◌, ℕ, Bool, true, false, List, [], Option, None, Some, refl, sym, ap, ◌∙◌}
-use Rattle.std.specs.Prelude.{◌&&◌, ◌||◌, is_some, not}
+use Rattle.std.proofs.Common.{◌≡◌, ℕ, Bool, true, false, cond, List, [], Option, None, Some, refl, sym, ap, ◌∙◌, inl, inr, ⊎_elim}
+use Rattle.std.specs.Prelude.{◌≢◌, ◌⊎◌, ◌&&◌, ◌||◌, is_some}
 use Rattle.std.proofs.lemmas.Bool.{false≢true, true≢false}
 use Rattle.std.proofs.lemmas.Option.{none-some as none_some}
 use Rattle.core_state.specs.States.{State}
@@ -8,11 +8,10 @@ use Rattle.core_volume.specs.Volumes.{Volume}
 use Rattle.vol_types.specs.declared.failure.Halt.{Halt}
 use Rattle.dev_model.specs.Devices.{FaultCounts}
 use Rattle.forest_ops.specs.Classes.{class_of, is_changing, is_lost, looks, may_fail, may_have}
-use Rattle.forest_ops.specs.History.{commits, is_done, is_idle}
+use Rattle.forest_ops.specs.History.{commits, is_done}
 use Rattle.forest_ops.specs.declared.operation.Class.{Class}
 use Rattle.forest_ops.specs.declared.operation.Class.TheVariants.{Changes, Reads, Sweeps, Syncs}
 use Rattle.forest_ops.specs.declared.operation.Op.{Op}
-use Rattle.forest_ops.specs.declared.operation.Op.TheVariants.{Sync}
 use Rattle.forest_ops.specs.declared.operation.Reply.{Reply}
 use Rattle.forest_ops.specs.declared.operation.Reply.TheVariants as replies
 use Rattle.fs_plan.specs.Plans.{IsOfItsClass, is_failure, is_planned}
@@ -20,9 +19,9 @@ use Rattle.fs_plan.specs.declared.planned.Plan.{Plan}
 use Rattle.plain_forest.specs.Forest.{Forest}
 use Rattle.forest_ops.specs.Acknowledged.{synced_count}
 use Rattle.vol_session.specs.Sessions.{IsAnswerNow, IsFailureNow, IsPlanNow, IsSyncedNow}
-use Rattle.volume.specs.Answers.{HasCause}
-use Rattle.volume.specs.Serving.{HaltsAs, IsChange, IsDoneNow, IsIntended, IsWriting, is_synced}
-use Rattle.volume.proofs.Failing.{faults_after, not_done}
+use Rattle.volume.specs.Answers.{HasCause, nothing_short}
+use Rattle.volume.specs.Serving.{HaltsAs, IsChange, IsDoneNow, IsIntended, IsWriting, halt_told, is_synced}
+use Rattle.volume.proofs.Failing.{commit_changes, commit_is_done, faults_after, not_done}
 
 -- ---- classes
 
@@ -70,16 +69,6 @@ changes_are : (class : Class) → is_changing class ≡ true → class ≡ Chang
 changes_are Changes is = refl
 changes_are other is = absurd (false≢true is)
 
--- What doesn't look at what is stored syncs.
-unlooking_syncs : (op : Op) → looks op ≡ false → class_of op ≡ Syncs
-unlooking_syncs Sync is = refl
-unlooking_syncs other is = absurd (true≢false is)
-
--- So far one operation is planned that syncs.
-pub planned_sync : (op : Op) → is_planned op ≡ true → class_of op ≡ Syncs → op ≡ Sync
-planned_sync Sync planned syncs = refl
-planned_sync other planned syncs = cc
-
 -- ---- failures
 
 -- A failure isn't done, and acknowledges nothing.
@@ -120,22 +109,6 @@ sync_fails memory client op reply syncs may = record {
 
 -- ---- plans
 
-first_of : (first second third : Bool) → (first && second && third) ≡ true → first ≡ true
-first_of true second third is = refl
-first_of false second third is = absurd (false≢true is)
-
-second_of : (first second third : Bool) → (first && second && third) ≡ true → second ≡ true
-second_of true true third is = refl
-second_of true false third is = absurd (false≢true is)
-second_of false second third is = absurd (false≢true is)
-
--- A commit changes the forest, and was done.
-pub commit_changes : (op : Op) (reply : Reply) (forest : Forest) → commits op reply forest ≡ true → is_changing (class_of op) ≡ true
-commit_changes op reply forest is = first_of (is_changing (class_of op)) (is_done reply) (not (is_idle op forest)) is
-
-pub commit_is_done : (op : Op) (reply : Reply) (forest : Forest) → commits op reply forest ≡ true → is_done reply ≡ true
-commit_is_done op reply forest is = second_of (is_changing (class_of op)) (is_done reply) (not (is_idle op forest)) is
-
 -- a forest without anything
 abbrev pub bare : Forest
 bare = record { subvolumes = []; next = []; ids_left = 0 }
@@ -165,13 +138,20 @@ plan_answers memory client plan class now = record {
   answers = λ nodes layout sound tidy read. (now nodes layout sound tidy).reply read;
 }
 
--- A plan whose reply is a number of commits is one of an operation that syncs,
-pub synced_syncs : (plan : Plan) → IsOfItsClass plan → is_synced plan.reply ≡ true → class_of plan.op ≡ Syncs
-synced_syncs plan class synced = by (looks plan.op) refl
+-- Whether an operation syncs is known,
+syncs_or_not : (op : Op) → (class_of op ≡ Syncs) ⊎ (class_of op ≢ Syncs)
+syncs_or_not op = by (class_of op) refl
   where
-    by : (look : Bool) → looks plan.op ≡ look → class_of plan.op ≡ Syncs
-    by false is = unlooking_syncs plan.op is
-    by true is = absurd (false≢true (sym (ap is_some (class.unsynced is)) ∙ synced))
+    by : (class : Class) → class_of op ≡ class → (class_of op ≡ Syncs) ⊎ (class_of op ≢ Syncs)
+    by Syncs is = inl is
+    by Changes is = inr (λ same. true≢false (ap is_changing (sym is ∙ same)))
+    by Sweeps is = inr (λ same. true≢false (ap (λ c. may_have c (replies.NoSpace nothing_short)) (sym is ∙ same)))
+    by Reads is = inr (λ same. false≢true (ap (λ c. may_have c replies.Spent) (sym is ∙ same)))
+
+-- so that a plan whose reply is a number of commits is one of an operation that syncs,
+pub synced_syncs : (plan : Plan) → IsOfItsClass plan → is_synced plan.reply ≡ true → class_of plan.op ≡ Syncs
+synced_syncs plan class synced =
+    ⊎_elim (λ (syncs : class_of plan.op ≡ Syncs). syncs) (λ (other : class_of plan.op ≢ Syncs). absurd (false≢true (sym (ap is_some (class.unsynced other)) ∙ synced))) (syncs_or_not plan.op)
 
 -- which the forest answers so.
 pub plan_is_synced : (memory : State) (client : ℕ) (plan : Plan) → is_synced plan.reply ≡ true → IsPlanNow memory client plan → IsSyncedNow memory client plan.op
@@ -215,9 +195,27 @@ done_is_quiet replies.Okay done = forests_is_quiet replies.Okay refl refl
 done_is_quiet (replies.More size) done = forests_is_quiet (replies.More size) refl refl
 done_is_quiet other done = absurd (false≢true done)
 
--- What is no commit is one only where the session writes.
-pub uncommitted_writes : (op : Op) (reply : Reply) (halted : Option Halt) → ((forest : Forest) → commits op reply forest ≡ false) → IsWriting op reply halted
-uncommitted_writes op reply halted none forest is = absurd (false≢true (sym (none forest) ∙ is))
+-- What isn't done is done only where the session writes,
+pub undone_writes : (op : Op) (reply : Reply) (halted : Option Halt) → is_done reply ≡ false → IsWriting op reply halted
+undone_writes op reply halted not_so changes done = absurd (false≢true (sym not_so ∙ done))
+
+-- and so is what is told where no halt is.
+pub untold_writes : (op : Op) (reply : Reply) (halted : Option Halt) → halt_told op reply halted ≡ None → IsWriting op reply halted
+untold_writes op reply halted none changes done = sym (ap (λ (b : Bool). cond (b && is_done reply) halted None) changes ∙ ap (λ (b : Bool). cond b halted None) done) ∙ none
+
+-- The halt that is told of an operation is the session's, and the operation a change that would be done.
+pub record IsHaltTold (op : Op) (reply : Reply) (halted : Option Halt) (halt : Halt) : Type 0 where
+  pub changes : is_changing (class_of op) ≡ true
+  pub done : is_done reply ≡ true
+  pub halted_so : halted ≡ Some halt
+
+pub told_halts : (op : Op) (reply : Reply) (halted : Option Halt) (halt : Halt) → halt_told op reply halted ≡ Some halt → IsHaltTold op reply halted halt
+told_halts op reply halted halt is = by (is_changing (class_of op)) (is_done reply) refl refl is
+  where
+    by : (changing done : Bool) → is_changing (class_of op) ≡ changing → is_done reply ≡ done → cond (changing && done) halted None ≡ Some halt → IsHaltTold op reply halted halt
+    by true true changes done told = record { changes = changes; done = done; halted_so = told }
+    by true false changes done told = absurd (none_some halt told)
+    by false done changes is_it told = absurd (none_some halt told)
 
 -- The counts after a reply are as its cause says.
 pub faults_caused : (client : ℕ) (op : Op) (reply : Reply) (volume : Volume) (before after : FaultCounts) → HasCause client op reply volume before after → after ≡ faults_after reply before

@@ -10,7 +10,8 @@ use Rattle.core_volume.specs.Volumes.{changes_in}
 use Rattle.journal_writer.specs.Changes.{all_made}
 use Rattle.journal_writer.specs.Queues.{waiting}
 use Rattle.journal_writer.specs.declared.changes.KeyChanges.{KeyChanges}
-use Rattle.fs_plan.specs.Plans.{IsGiven, IsPlanOf}
+use Rattle.fs_plan.specs.Plans.{IsPlanOf}
+use Rattle.path_plan.specs.Given.{IsGiven}
 use Rattle.fs_plan.specs.declared.planned.Plan.{Plan}
 use Rattle.key_meaning.specs.Checks.{IsSound}
 use Rattle.key_meaning.specs.SoundLaws.{joined_are_trees}

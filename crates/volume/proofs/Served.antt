@@ -1,5 +1,5 @@
 -- What the parts of a call leave of a session, put together.
-use Rattle.std.proofs.Common.{◌≡◌, ℕ, ◌<◌, ◌≤◌, true, false, List, [], ◌∷◌, ◌++◌, length, Option, Some, None, Result, Ok, Err, refl, sym, ap, ◌∙◌, subst, arith, inl, inr}
+use Rattle.std.proofs.Common.{◌≡◌, ℕ, ◌<◌, ◌≤◌, true, List, [], ◌∷◌, ◌++◌, length, Option, Some, None, Result, Ok, Err, refl, sym, ap, ◌∙◌, subst, arith, inl, inr}
 use Rattle.std.specs.Prelude.{IfOk, IfSome, OnErr}
 use Rattle.std.specs.declared.alloc.AllocError.{AllocError}
 use Rattle.std.proofs.lemmas.Option.{none-some as none_some}
@@ -16,11 +16,10 @@ use Rattle.dev_model.specs.FrameLaws.{go_on_here, go_on_then}
 use Rattle.dev_model.specs.Frames.{GoOn, after_writes}
 use Rattle.forest_ops.specs.declared.operation.Op.{Op}
 use Rattle.forest_ops.specs.Classes.{class_of}
-use Rattle.forest_ops.specs.History.{commits, is_done}
+use Rattle.forest_ops.specs.History.{is_done}
 use Rattle.forest_ops.specs.declared.operation.Class.TheVariants.{Syncs}
 use Rattle.forest_ops.specs.declared.operation.Reply.{Reply}
 use Rattle.forest_ops.specs.declared.operation.Reply.TheVariants as replies
-use Rattle.plain_forest.specs.Forest.{Forest}
 use Rattle.forest_ops.specs.Acknowledged.{synced_count}
 use Rattle.forest_ops.specs.declared.acks.Ack.{Ack}
 use Rattle.vol_core.specs.Cores.{CoreState}
@@ -31,11 +30,11 @@ use Rattle.vol_session.specs.declared.writeback_end.WritebackEnd.{WritebackEnd}
 use Rattle.vol_session.specs.declared.writeback_end.WritebackEnd.TheVariants as stops
 use Rattle.volume.specs.Answers.{AcknowledgesAll, HasCause, IsNumberSpent, LacksSpace, acks_after}
 use Rattle.volume.specs.Planning.{Standing, standing_in}
-use Rattle.volume.specs.Serving.{HaltsAs, IsEntered, IsIntended, IsMoved, IsServed, IsStepped, IsUnmade, IsUnserved, IsWriting, TellsStop, TellsSync}
+use Rattle.volume.specs.Serving.{HaltsAs, IsEntered, IsIntended, IsMoved, IsServed, IsStepped, IsUnmade, IsUnserved, IsWriting, TellsStop, TellsSync, halt_told}
 use Rattle.volume.specs.States.{IsAtRest}
 use Rattle.volume.proofs.Acting.{has_committed, intended_still, refused_still, works_rest}
-use Rattle.volume.proofs.Failing.{entry_of, not_done}
-use Rattle.volume.proofs.Replying.{IsQuiet, change_is_done, done_is_quiet, uncommitted_writes}
+use Rattle.volume.proofs.Failing.{entry_of}
+use Rattle.volume.proofs.Replying.{IsQuiet, change_is_done, done_is_quiet, undone_writes, untold_writes}
 
 -- A reply that says nothing of commits being durable leaves the acknowledgements.
 acks_still : (reply : Reply) (moment : ℕ) (acks : List Ack) → synced_count reply ≡ None → acks ≡ acks_after reply moment acks
@@ -168,14 +167,10 @@ module _ {D : Type 0} (state : D → DevicesState) (client : ℕ) where
     goes_on = subst (λ (devices : D). GoOn (state old.core.devices) (state devices)) (sym entered.devices) (go_on_here (state old.core.devices));
   }
 
-  -- A reply that isn't done is no commit.
-  failed_writes : (op : Op) (reply : Reply) (halted : Option Halt) → is_done reply ≡ false → IsWriting op reply halted
-  failed_writes op reply halted not_so = uncommitted_writes op reply halted (λ forest. not_done op reply forest not_so)
-
   -- So does the forest's reply where it changes nothing,
-  pub quiet_served : (op : Op) (reply : Reply) (old new : SessionState D) → IsEntered client op reply old new → IsQuiet reply → ((forest : Forest) → commits op reply forest ≡ false) → IsServed state client op reply old new
+  pub quiet_served : (op : Op) (reply : Reply) (old new : SessionState D) → IsEntered client op reply old new → IsQuiet reply → halt_told op reply old.core.memory.volume.halted ≡ None → IsServed state client op reply old new
   quiet_served op reply old new entered quiet none =
-      entered_served op reply old new entered quiet.unsynced (quiet.cause client op old.core.memory.volume _ _ refl) (quiet.halts _ _ _ _ _ refl) (uncommitted_writes op reply old.core.memory.volume.halted none)
+      entered_served op reply old new entered quiet.unsynced (quiet.cause client op old.core.memory.volume _ _ refl) (quiet.halts _ _ _ _ _ refl) (untold_writes op reply old.core.memory.volume.halted none)
 
   -- a failure for want of space,
   pub lack_served : (op : Op) (reply : Reply) (short : Short) (old new : SessionState D) → reply ≡ replies.NoSpace short → LacksSpace client op short old.core.memory.volume → IsEntered client op reply old new → IsServed state client op reply old new
@@ -183,7 +178,7 @@ module _ {D : Type 0} (state : D → DevicesState) (client : ℕ) where
       entered_served op reply old new entered (ap synced_count is)
       (subst (λ (r : Reply). HasCause client op r old.core.memory.volume (state old.core.devices).faults (state old.core.devices).faults) (sym is) (refl, lacks))
       (subst (λ (r : Reply). HaltsAs r (state old.core.devices).moment (state old.core.devices).moment (state old.core.devices).sizes old.core.memory.volume.halted old.core.memory.volume.halted) (sym is) refl)
-      (failed_writes op reply old.core.memory.volume.halted (ap is_done is))
+      (undone_writes op reply old.core.memory.volume.halted (ap is_done is))
 
   -- for want of a number,
   pub spent_served : (op : Op) (reply : Reply) (old new : SessionState D) → reply ≡ replies.Spent → IsNumberSpent client op old.core.memory.volume → IsEntered client op reply old new → IsServed state client op reply old new
@@ -191,7 +186,7 @@ module _ {D : Type 0} (state : D → DevicesState) (client : ℕ) where
       entered_served op reply old new entered (ap synced_count is)
       (subst (λ (r : Reply). HasCause client op r old.core.memory.volume (state old.core.devices).faults (state old.core.devices).faults) (sym is) (refl, spent))
       (subst (λ (r : Reply). HaltsAs r (state old.core.devices).moment (state old.core.devices).moment (state old.core.devices).sizes old.core.memory.volume.halted old.core.memory.volume.halted) (sym is) refl)
-      (failed_writes op reply old.core.memory.volume.halted (ap is_done is))
+      (undone_writes op reply old.core.memory.volume.halted (ap is_done is))
 
   -- and one in a session that has stopped writing.
   pub halted_served : (op : Op) (reply : Reply) (halt : Halt) (old new : SessionState D) → reply ≡ replies.Halted halt.dev halt.tick → old.core.memory.volume.halted ≡ Some halt → IsEntered client op reply old new → IsServed state client op reply old new
@@ -199,7 +194,7 @@ module _ {D : Type 0} (state : D → DevicesState) (client : ℕ) where
       entered_served op reply old new entered (ap synced_count is)
       (subst (λ (r : Reply). HasCause client op r old.core.memory.volume (state old.core.devices).faults (state old.core.devices).faults) (sym is) (refl, halted))
       (subst (λ (r : Reply). HaltsAs r (state old.core.devices).moment (state old.core.devices).moment (state old.core.devices).sizes old.core.memory.volume.halted old.core.memory.volume.halted) (sym is) (refl, halted))
-      (failed_writes op reply old.core.memory.volume.halted (ap is_done is))
+      (undone_writes op reply old.core.memory.volume.halted (ap is_done is))
 
   -- A change that was committed is answered.
   pub made_served : (op : Op) (reply : Reply) (old new : SessionState D) → IsState old.core.memory → IsIntended old.core.memory client op reply → IsMade old.core.memory client true new.core.memory
@@ -211,7 +206,7 @@ module _ {D : Type 0} (state : D → DevicesState) (client : ℕ) where
         answered = record { trace = trace; acks = acks ∙ acks_still reply (state new.core.devices).moment old.acks quiet.unsynced; synced = λ count same. absurd (none_some count (sym quiet.unsynced ∙ ap synced_count same)) };
         cause = quiet.cause client op new.core.memory.volume _ _ (ap (λ (d : D). (state d).faults) devices);
         halts = quiet.halts _ _ _ _ _ committed.writes;
-        writes = λ forest commits. committed.wrote;
+        writes = λ changes done. committed.wrote;
         rest = committed.rest;
         goes_on = subst (λ (d : D). GoOn (state old.core.devices) (state d)) (sym devices) (go_on_here (state old.core.devices));
       }
@@ -265,7 +260,7 @@ module _ {D : Type 0} (state : D → DevicesState) (client : ℕ) where
       subst (λ (d : D). stopped.stops.1 ≤ (state d).moment) (sym entered.devices) stopped.stops.4,
       stopped.device,
     );
-    writes = failed_writes op (replies.DeviceFault dev) old.core.memory.volume.halted refl;
+    writes = undone_writes op (replies.DeviceFault dev) old.core.memory.volume.halted refl;
     rest = entered.rest;
     goes_on = subst (λ (d : D). GoOn (state old.core.devices) (state d)) (sym entered.devices) stopped.goes_on;
   }
@@ -336,7 +331,7 @@ module _ {D : Type 0} (state : D → DevicesState) (client : ℕ) where
         };
         cause = ap (λ (c : CoreState D). (state c.devices).faults) core ∙ unfailed;
         halts = ap (λ (c : CoreState D). c.memory.volume.halted) core ∙ halted;
-        writes = uncommitted_writes op (replies.Synced mid.commits) old.core.memory.volume.halted (λ forest. not_done op (replies.Synced mid.commits) forest refl);
+        writes = undone_writes op (replies.Synced mid.commits) old.core.memory.volume.halted refl;
         rest = subst (λ (c : CoreState D). IsAtRest c.memory) (sym core) (works_rest client old.core.memory mid.core.memory few worked.memory rest);
         goes_on = subst (λ (c : CoreState D). GoOn (state old.core.devices) (state c.devices)) (sym core) goes_on;
       })

@@ -1,5 +1,5 @@
 -- How the parts of a call move a session, and what an operation leaves of it.
-use Rattle.std.specs.Prelude.{◌≡◌, ◌≢◌, ◌⊎◌, ℕ, ◌<◌, ◌≤◌, ⊤, Bool, true, false, not, Option, Some, None, IsSome, is_some, List, [], ◌∷◌, ◌++◌, length}
+use Rattle.std.specs.Prelude.{◌≡◌, ◌≢◌, ◌⊎◌, ℕ, ◌<◌, ◌≤◌, ⊤, Bool, true, false, not, ◌&&◌, if◌then◌else◌, Option, Some, None, IsSome, is_some, List, [], ◌∷◌, ◌++◌, length}
 use Rattle.btree_map.specs.Trees.{keys_in}
 use Rattle.core_volume.specs.Commits.{AreIntended}
 use Rattle.core_state.specs.Events.{intended_by}
@@ -14,6 +14,7 @@ use Rattle.core_actors.specs.declared.answer.Refusal.TheVariants as refusals
 use Rattle.dev_model.specs.Devices.{DevicesState}
 use Rattle.dev_model.specs.Frames.{GoOn}
 use Rattle.forest_ops.specs.Acknowledged.{synced_count}
+use Rattle.forest_ops.specs.Classes.{class_of, is_changing}
 use Rattle.forest_ops.specs.History.{commits, is_done}
 use Rattle.forest_ops.specs.Steps.{answer_of}
 use Rattle.forest_ops.specs.declared.operation.Op.{Op}
@@ -65,9 +66,13 @@ HaltsAs (replies.DeviceFault dev) before after sizes old new =
 HaltsAs (replies.Halted dev tick) before after sizes old new = (new ≡ old) × (new ≡ Some (record { dev = dev; tick = tick }))
 HaltsAs reply before after sizes old new = new ≡ old
 
--- A commit is made only where the session hasn't stopped writing.
+-- A change is done only where the session hasn't stopped writing, even one that would change nothing.
 abbrev pub IsWriting : Op → Reply → Option Halt → Type 0
-IsWriting op reply halted = (forest : Forest) → commits op reply forest ≡ true → halted ≡ None
+IsWriting op reply halted = is_changing (class_of op) ≡ true → is_done reply ≡ true → halted ≡ None
+
+-- the halt that is told of an operation in the place of the forest's reply: the session's, where a change would be done
+abbrev pub halt_told : Op → Reply → Option Halt → Option Halt
+halt_told op reply halted = if is_changing (class_of op) && is_done reply then halted else None
 
 -- The client's operation was answered, with a cause, and no client has anything under way.
 pub record IsServed {D : Type 0} (state : D → DevicesState) (client : ℕ) (op : Op) (reply : Reply) (old new : SessionState D) : Type 0 where

@@ -8,7 +8,8 @@ use Rattle.dev_model.specs.Devices.{DevicesState}
 use Rattle.dev_model.specs.Frames.{after_writes}
 use Rattle.forest_ops.specs.History.{History}
 use Rattle.forest_ops.specs.declared.operation.Entry.{Entry}
-use Rattle.forest_ops.specs.declared.operation.Op.TheVariants.{Sync}
+use Rattle.forest_ops.specs.Classes.{class_of}
+use Rattle.forest_ops.specs.declared.operation.Class.TheVariants.{Syncs}
 use Rattle.forest_ops.specs.declared.operation.Reply.TheVariants.{Spent}
 use Rattle.image_view.specs.Found.{Found}
 use Rattle.forest_ops.specs.Failures.{Halts, HaveCauses, NoCommitAfterHalt, has_failed}
@@ -46,11 +47,11 @@ pub record BeganWithRoom (tells : Type 0) (begun : Found) (start : DevicesState)
   pub well : BeginsWell begun start
   pub room : LeavesRoom begun
 
--- Where what was found is far from the end of each number, and the session and its history are short, no entry says that a number is used up, but a sync's, and that only
--- where the session didn't begin with room.
+-- Where what was found is far from the end of each number, and the session and its history are short, no entry says that a number is used up, but that of an operation which syncs, and that
+-- only where the session didn't begin with room.
 abbrev pub AreUnspent : Type 0 → Found → DevicesState → DevicesState → History → Type 0
 AreUnspent tells begun start state trace =
-    IsFarFromSpent begun start state → length trace < 2 ^ 31 → All (λ (entry : Entry). entry.reply ≡ Spent → (entry.op ≡ Sync) × ¬ BeganWithRoom tells begun start) trace
+    IsFarFromSpent begun start state → length trace < 2 ^ 31 → All (λ (entry : Entry). entry.reply ≡ Spent → (class_of entry.op ≡ Syncs) × ¬ BeganWithRoom tells begun start) trace
 
 -- What is kept between operations.
 pub record IsBetween (tells : Type 0) (begun : Found) (start state : DevicesState) (memory : State) (trace : History) : Type 0 where

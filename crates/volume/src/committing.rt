@@ -323,8 +323,8 @@ fn give_up<D: Devices, O: Opening>(
     }
 }
 
-// A change fails, as the session has stopped writing.
-fn fail_halted<D: Devices, O: Opening>(
+/// A change fails, as the session has stopped writing.
+pub(crate) fn fail_halted<D: Devices, O: Opening>(
     session: &mut Session<D, O>,
     client: u8,
     op: Op,

@@ -1,22 +1,22 @@
-ghost use Rattle.std.specs.Prelude.{◌≡◌, ◌<◌, true, false, IfOk, OnErr};
+ghost use Rattle.std.specs.Prelude.{◌≡◌, ◌<◌, true, false, IfOk, None, OnErr, Some};
 ghost use Rattle.forest_ops.specs.Classes.{class_of, is_changing};
 ghost use Rattle.forest_ops.specs.declared.operation.Class.TheVariants.{Syncs};
 ghost use Rattle.fs_plan.specs.Plans.{IsBounded, IsOfItsClass, is_planned};
 ghost use Rattle.vol_session.specs.Sessions.{IsFailureNow, IsPlanNow, IsSyncedNow};
 ghost use Rattle.vol_session.specs.Writeback.{MayStopSync};
 ghost use Rattle.volume.specs.Answers.{nothing_short};
-ghost use Rattle.volume.specs.Serving.{IsDoneNow, IsEntered, IsServed, IsStepped, IsUnderWay, IsUnserved, TellsSync, is_synced};
+ghost use Rattle.volume.specs.Serving.{IsDoneNow, IsEntered, IsServed, IsStepped, IsUnderWay, IsUnserved, TellsSync, halt_told, is_synced};
 ghost use Rattle.volume.specs.States.{IsAtRest};
 
-use crate::committing::make;
+use crate::committing::{fail_halted, make};
 use crate::planner::planned;
 use dev_model::Devices;
-use forest_ops::{Op, Reply};
+use forest_ops::{Class, Op, Reply};
 use fs_plan::Plan;
 use std::alloc::{AllocError, Global};
 use vol_core::{Event, Opening};
 use vol_session::{Session, WritebackEnd, sync_all};
-use vol_types::{Counts, Duplicate, Short};
+use vol_types::{Counts, Duplicate, Halt, Short};
 
 /// Answers an operation of a client, where the history has room for its entry: it is planned, and then committed, or told, or all commits are made durable.
 pub(crate) fn answer<D: Devices, O: Opening>(
@@ -44,7 +44,8 @@ pub(crate) fn answer<D: Devices, O: Opening>(
     }
 }
 
-// Carries a plan out: a commit is made, an operation that syncs makes all commits durable, and the forest's reply to anything else is told.
+// Carries a plan out: a commit is made, an operation that syncs makes all commits durable, and the forest's reply to anything else is told;
+// but where the session has stopped writing, a change that would be done fails, even one that would change nothing.
 fn carry_out<D: Devices, O: Opening>(
     alloc: Global,
     session: &mut Session<D, O>,
@@ -66,6 +67,69 @@ fn carry_out<D: Devices, O: Opening>(
     if is_synced(&plan.reply) {
         return sync_after(session, client, plan);
     }
+    match halt_told(session.memory().halted(), &plan) {
+        Some(halt) => Ok(stop_change(session, client, plan, halt)),
+        None => tell_copied(alloc, session, client, plan),
+    }
+}
+
+// The halt that is told in the place of a plan's reply: the session's, where a change would be done, if it would change nothing.
+fn halt_told(halted: Option<Halt>, plan: &Plan) -> Option<Halt>
+    ensures { result ≡ halt_told plan.now.op plan.now.reply halted }
+{
+    if plan.op.class() != Class::Changes {
+        return None;
+    }
+    if !plan.reply.is_done() {
+        return None;
+    }
+    halted
+}
+
+// A change that would change nothing fails, as the session has stopped writing.
+fn stop_change<D: Devices, O: Opening>(
+    session: &mut Session<D, O>,
+    client: u8,
+    plan: Plan,
+    halt: Halt,
+) -> Reply
+    requires spare { 0 < session.old.spare }
+    requires under { IsUnderWay session.old.core.memory client }
+    requires planned { is_planned plan.op ≡ true }
+    requires now { IsPlanNow session.old.core.memory client plan }
+    requires told { halt_told plan.op plan.reply session.old.core.memory.volume.halted ≡ Some halt }
+    ensures { IsServed D.state client plan.op result session.old session.new }
+{
+    let Plan {
+        op,
+        updates,
+        reply,
+        commits: _,
+    } = plan;
+    drop(updates);
+    drop(reply);
+    fail_halted(session, client, op, halt)
+}
+
+// Tells the forest's reply to an operation that is no commit, and hands a copy of it back.
+fn tell_copied<D: Devices, O: Opening>(
+    alloc: Global,
+    session: &mut Session<D, O>,
+    client: u8,
+    plan: Plan,
+) -> Result<Reply, AllocError>
+    requires spare { 0 < session.old.spare }
+    requires under { IsUnderWay session.old.core.memory client }
+    requires planned { is_planned plan.op ≡ true }
+    requires now { IsPlanNow session.old.core.memory client plan }
+    requires class { IsOfItsClass plan }
+    requires no_commit { plan.commits ≡ false }
+    requires unsynced { is_synced plan.reply ≡ false }
+    requires told { halt_told plan.op plan.reply session.old.core.memory.volume.halted ≡ None }
+    ensures served { IfOk result (λ reply. IsServed D.state client plan.op reply session.old
+        session.new) }
+    ensures unserved { OnErr result (IsUnserved D.state session.old session.new) }
+{
     match plan.reply.copy(alloc) {
         Ok(reply) => {
             tell(session, client, plan);

@@ -13,6 +13,7 @@ ghost use Rattle.vol_session.specs.Marks.{forest_found};
 ghost use Rattle.vol_session.specs.Sessions.{IsExact};
 ghost use Rattle.vol_session.specs.Survivors.{BeginsWell, Survive};
 ghost use Rattle.volume.specs.Answers.{AcknowledgesAll, HasCause, IsAnswered};
+ghost use Rattle.volume.specs.Serving.{IsWriting};
 ghost use Rattle.volume.specs.States.{AreUnspent, halted_device};
 
 use crate::serving::answer;
@@ -87,9 +88,10 @@ impl<D: Devices, O: Opening> VolState<D, O> {
     }
 
     /// Answers an operation of a client: its entry joins the history, and its reply is handed back. An `Err` says that it is out of memory, which no reply says, and
-    /// leaves the history and the acknowledgements as they were. A sync acknowledges all commits before it.
+    /// leaves the history and the acknowledgements as they were. A sync acknowledges all commits before it. Once the session has stopped writing, no change is done (`writes`),
+    /// not even one that would change nothing.
     ///
-    /// A change or a listing costs the looks of its plan; a change calls devices only where the journal or the buckets are short, and then makes a checkpoint. A sync writes and
+    /// An operation costs the looks of its plan; a change calls devices only where the journal or the buckets are short, and then makes a checkpoint. A sync writes and
     /// flushes what isn't durable. A listing is copied once, for the history.
     pub fn call(&mut self, client: u8, op: Op) -> Result<Reply, AllocError>
         requires client { client < 16 }
@@ -101,6 +103,8 @@ impl<D: Devices, O: Opening> VolState<D, O> {
             self.new.core.memory.volume (D.state self.old.core.devices).faults (D.state self.new.core.devices).faults) }
         ensures synced { IfOk result (AcknowledgesAll (commit_count
             (forest_found O.found O.start) self.old.trace)) }
+        ensures writes { IfOk result (λ reply. IsWriting op reply
+            self.old.core.memory.volume.halted) }
         ensures err { OnErr result (self.new ≡ record self.old
             { core = self.new.core; spare = self.new.spare }) }
         ensures unfailed { OnErr result ((D.state self.new.core.devices).faults

@@ -1,6 +1,6 @@
 -- What is given where the tree was told is seen with it.
 use Rattle.std.proofs.Common.{◌∙◌, ap, sym, Some}
-use Rattle.fs_plan.proofs.Looks.{carried, given_is_seen}
+use Rattle.path_plan.specs.LookLaws.{carried, given_is_seen}
 use Rattle.fs_plan.proofs.listing.list.Goals as goal
 
 pub returns-clause-reply : goal.returns-clause-reply

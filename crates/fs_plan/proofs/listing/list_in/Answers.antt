@@ -3,9 +3,9 @@ use Rattle.std.proofs.Common.{◌∙◌, ap, sym, refl}
 use Rattle.forest_ops.specs.Refusals.{result_map}
 use Rattle.forest_ops.specs.declared.operation.Reply.TheVariants.{List as ListIs}
 use Rattle.fs_plan.proofs.Listed.{listing_given, listing_refused}
-use Rattle.fs_plan.proofs.Looks.{looks_then, seen_before}
-use Rattle.fs_plan.proofs.Walked.{along_is, spot_is}
-use Rattle.fs_plan.specs.Looking.{directory_of}
+use Rattle.path_plan.specs.LookLaws.{looks_then, seen_before}
+use Rattle.path_plan.specs.PathLaws.{along_is, spot_is}
+use Rattle.path_plan.specs.Looking.{directory_of}
 use Rattle.key_meaning.specs.Forest.{forest_in}
 use Rattle.fs_plan.proofs.listing.list_in.Goals as goal
 

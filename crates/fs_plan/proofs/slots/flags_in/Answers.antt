@@ -3,7 +3,7 @@ use Rattle.std.proofs.Common.{◌∙◌, ◌≤◌, ◌+◌, ℕ, Option, ap, su
 use Rattle.std.specs.Prelude.{IfSome}
 use Rattle.fs_plan.proofs.Bounds.{slot_fits}
 use Rattle.fs_plan.proofs.Gathered.{gathered_all, gathered_next, gathered_to}
-use Rattle.fs_plan.proofs.Looks.{looks_then, seen_before}
+use Rattle.path_plan.specs.LookLaws.{looks_then, seen_before}
 use Rattle.dirent_keys.specs.Slots.{HasNoSlot}
 use Rattle.fs_plan.specs.Listing.{with_links}
 use Rattle.key_meaning.specs.Forest.{links_of}

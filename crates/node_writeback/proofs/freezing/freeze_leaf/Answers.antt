@@ -1,13 +1,11 @@
 -- What is written of a leaf may stand, and what was frozen is what the btree has by durable entries alone.
 use Rattle.std.proofs.Common.{◌≤◌, ℕ, subst, sym}
 use Rattle.std.specs.Map.{values_of}
-use Rattle.std.specs.Prelude.{All, IfErr, OnOk}
+use Rattle.std.specs.Prelude.{All, OnOk}
 use Rattle.node_mem.specs.Nodes.{Node, size_of}
 use Rattle.vol_types.specs.Limits.{node_limit}
 use Rattle.vol_types.specs.Standing.{MayStand}
-use Rattle.node_writeback.specs.Due.{root_in}
-use Rattle.node_writeback.specs.Freezing.{HasBirth, IsFreezeFault, fresh_leaf, leaf_set, next_birth}
-use Rattle.node_writeback.specs.NodeWork.{IsFrozen}
+use Rattle.node_writeback.specs.Freezing.{HasBirth}
 use Rattle.node_writeback.proofs.freezing.freeze_leaf.Goals as goal
 
 pub freeze_as-frozen-requires-clause-has : goal.freeze_as-frozen-requires-clause-has

@@ -1,4 +1,4 @@
-use Rattle.std.proofs.Common.{◌≡◌, ◌+◌, ℕ, Some, subst, sym}
+use Rattle.std.proofs.Common.{◌≡◌, ◌+◌, ℕ, Some, ap, subst, sym}
 use Rattle.dev_model.specs.Crashes.{EachCrash, EachCrashNow, IsCrashImageBut}
 use Rattle.dev_model.specs.Devices.{DevicesState, now}
 use Rattle.geometry.specs.Mirrors.{HoldMirrors}
@@ -6,6 +6,8 @@ use Rattle.geometry.specs.Sessions.{IsSessionPlace, session_block, session_named
 use Rattle.image_view.specs.Found.{Found, with_session}
 use Rattle.vol_types.specs.declared.layout.Layout.{Layout}
 use Rattle.replay.specs.Beginning.{IsFoundOn}
+use Rattle.dev_model.specs.FrameLaws.{stay_here}
+use Rattle.replay.proofs.NextSession.{stay_session}
 use Rattle.replay.proofs.Sessions.{ImageLaws, each_means, has_begun}
 use Rattle.replay.proofs.beginning.begin_session.Goals as goal
 
@@ -48,3 +50,14 @@ returns-clause-begun g c tells f on layouts sessions =
     (subst (λ s. EachCrashNow (HoldMirrors c.args.layout.now.metadata_replicas (session_place (s + 1)) (session_block c.args.layout.now.id (s + 1))) new) (sym sessions) (c.in_ok-settle_session.ensures.held tells)))
     (subst (λ (l : Layout). session_named l.id (session_place (f.session + 1)) (session_block l.id (f.session + 1)) ≡ Some (f.session + 1)) (sym layouts)
     (subst (λ s. session_named c.args.layout.now.id (session_place (s + 1)) (session_block c.args.layout.now.id (s + 1)) ≡ Some (s + 1)) (sym sessions) c.in_ok-settle_session.ensures.named)))
+
+pub returns-in_err-settle_session-clause-session : goal.returns-in_err-settle_session-clause-session
+returns-in_err-settle_session-clause-session g c tells f on layouts sessions = c.settle_session.ensures.session tells f on layouts (ap (λ s. s + 1) sessions)
+
+pub returns-clause-session : goal.returns-clause-session
+returns-clause-session g c tells f on layouts sessions = c.settle_session.ensures.session tells f on layouts (ap (λ s. s + 1) sessions)
+
+pub returns-then-session-ge-LAST_SESSION-clause-session : goal.returns-then-session-ge-LAST_SESSION-clause-session
+returns-then-session-ge-LAST_SESSION-clause-session g c tells f on layouts sessions =
+    let state = g.D.Devices.state c.args.devices.now in
+    stay_session f state state on.on (stay_here state)

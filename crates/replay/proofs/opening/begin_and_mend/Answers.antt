@@ -9,6 +9,7 @@ pub returns-in_err-next-clause-crashes : goal.returns-in_err-next-clause-crashes
 returns-in_err-next-clause-crashes g c tells f on layouts sessions needs =
     let D = g.D.Devices in
     keeps_begun f c.args.layout.now c.args.session layouts sessions (D.state c.args.devices.now) (D.state c.begin_session.new.devices) on (c.begin_session.ensures.crashes tells f on.on layouts sessions)
+    (c.begin_session.ensures.session tells f on layouts sessions)
 
 pub returns-in_err-mend_journal-clause-crashes : goal.returns-in_err-mend_journal-clause-crashes
 returns-in_err-mend_journal-clause-crashes g c tells f on layouts sessions needs =
@@ -21,8 +22,8 @@ returns-in_err-mend_journal-clause-crashes g c tells f on layouts sessions needs
     let rest = c.in_ok-next.ensures.rest tells in
     let elsewhere = c.begin_session.ensures.elsewhere tells in
     let order = in_order_begun f c.args.layout.now c.args.session layouts sessions old mid on crashes are begun rest elsewhere in
-    keeps_both f c.args.layout.now c.args.session layouts sessions old mid on crashes are begun rest elsewhere (D.state c.mend_journal.new.devices) (c.mend_journal.ensures.elsewhere tells begun.quiet).past
-    (c.mend_journal.ensures.means tells (with_session (c.args.session + 1) f) order layouts needs)
+    keeps_both f c.args.layout.now c.args.session layouts sessions old mid on crashes are begun rest elsewhere (D.state c.mend_journal.new.devices) (c.mend_journal.ensures.elsewhere tells begun.quiet)
+    (c.begin_session.ensures.session tells f on layouts sessions) (c.mend_journal.ensures.means tells (with_session (c.args.session + 1) f) order layouts needs)
 
 pub returns-clause-crashes : goal.returns-clause-crashes
 returns-clause-crashes g c tells f on layouts sessions needs =
@@ -35,8 +36,8 @@ returns-clause-crashes g c tells f on layouts sessions needs =
     let rest = c.in_ok-next.ensures.rest tells in
     let elsewhere = c.begin_session.ensures.elsewhere tells in
     let order = in_order_begun f c.args.layout.now c.args.session layouts sessions old mid on crashes are begun rest elsewhere in
-    keeps_both f c.args.layout.now c.args.session layouts sessions old mid on crashes are begun rest elsewhere (D.state c.mend_journal.new.devices) (c.mend_journal.ensures.elsewhere tells begun.quiet).past
-    (c.mend_journal.ensures.means tells (with_session (c.args.session + 1) f) order layouts needs)
+    keeps_both f c.args.layout.now c.args.session layouts sessions old mid on crashes are begun rest elsewhere (D.state c.mend_journal.new.devices) (c.mend_journal.ensures.elsewhere tells begun.quiet)
+    (c.begin_session.ensures.session tells f on layouts sessions) (c.mend_journal.ensures.means tells (with_session (c.args.session + 1) f) order layouts needs)
 
 pub returns-clause-ready : goal.returns-clause-ready
 returns-clause-ready g c tells f on layouts sessions needs =

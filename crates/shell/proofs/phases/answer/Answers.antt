@@ -1,10 +1,6 @@
 use Rattle.vol_session.specs.Marks.{forest_found}
-use Rattle.std.proofs.Common.{[], sym, subst, Some}
-use Rattle.std.specs.List.{cons_option}
-use Rattle.forest_ops.specs.Fits.{entry_if_any}
+use Rattle.std.proofs.Common.{Some}
 use Rattle.script_text.specs.declared.reading.Line.{Line}
-use Rattle.shell.specs.Outcome.{ack_by}
-use Rattle.shell.specs.Phases.{AddsEntries}
 use Rattle.shell.proofs.Running.{runs_one, same_moment}
 use Rattle.shell.proofs.phases.answer.Goals as goal
 
@@ -20,9 +16,8 @@ returns g c =
     let last = c.print_reply.new.page in
     let last_sink = c.print_reply.new.sink in
     let reply = c.reply_to-reply.result in
-    let acks = cons_option (ack_by (D.state new.core.devices).moment reply) [] in
     runs_one (forest_found g.O.Opening.found g.O.Opening.start) D.state D.tells K.tells K.held K.given_at K.faults line reply old new page last c.args.sink.now last_sink
-    (subst (λ n. AddsEntries (forest_found g.O.Opening.found g.O.Opening.start) D.state old new (cons_option (entry_if_any n op reply) []) acks) (sym c.requires.client) c.reply_to-reply.ensures)
+    c.reply_to-reply.ensures
     c.print_reply.ensures.prints
     (λ told told_too. same_moment K.held K.given_at c.args.sink.now last_sink c.devices.result.now new.core.devices D.state c.devices.ensures (c.print_reply.ensures.gains told))
     c.print_reply.ensures.made c.print_reply.ensures.ended c.print_reply.ensures.same c.print_reply.ensures.tally

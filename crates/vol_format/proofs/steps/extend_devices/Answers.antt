@@ -62,4 +62,4 @@ returns-clause-step g c tells =
     let few : length (now new) ≤ c.count-count.result = omega (arith, disk_count (now new), ap (λ (sizes : List ℕ). length sizes) (g.met.D.Devices.agree tells c.flush_devices.new.devices), ap (λ (sizes : List ℕ). length sizes) c.flush_devices.ensures.goes_on.sizes, c.loop-dev.invariant.count) in
     step_by_flushes c.flush_devices.result _ _ (D.state c.loop-dev.devices) new c.count-count.result
     (subst (λ n. Wrote (on_first n (λ (dev : ℕ). extension (get_or (D.state first).sizes dev 0) (get_or c.args.layout.now.blocks dev 0))) (D.state first) (D.state c.loop-dev.devices)) same (c.loop-dev.invariant.wrote tells))
-    few (c.flush_devices.ensures.crashes tells) (c.flush_devices.ensures.reads tells) (c.flush_devices.ensures.settled tells)
+    few (c.flush_devices.ensures.crashes tells) (c.flush_devices.ensures.reads tells) (c.flush_devices.ensures.settled tells) (c.flush_devices.ensures.rest tells) (c.flush_devices.ensures.asks tells)

@@ -48,4 +48,4 @@ returns-clause-step g c tells =
     let few : length (now new) ≤ c.count-all.result = omega (arith, disk_count (now new), ap (λ (sizes : List ℕ). length sizes) (g.met.D.Devices.agree tells c.flush_devices.new.devices), ap (λ (sizes : List ℕ). length sizes) c.flush_devices.ensures.goes_on.sizes, ap (λ (sizes : List ℕ). length sizes) c.loop-dev.invariant.goes_on.sizes) in
     step_by_flushes c.flush_devices.result _ _ (D.state c.loop-dev.devices) new c.count-all.result
     (subst (λ n. Wrote (on_first n (λ (dev : ℕ). if_there (get_or (D.state first).sizes dev 0) (get_or c.args.places.now dev 0) c.args.bytes.now)) (D.state first) (D.state c.loop-dev.devices)) same (c.loop-dev.invariant.wrote tells))
-    few (c.flush_devices.ensures.crashes tells) (c.flush_devices.ensures.reads tells) (c.flush_devices.ensures.settled tells)
+    few (c.flush_devices.ensures.crashes tells) (c.flush_devices.ensures.reads tells) (c.flush_devices.ensures.settled tells) (c.flush_devices.ensures.rest tells) (c.flush_devices.ensures.asks tells)

@@ -24,7 +24,7 @@ loop-block-preserved g c =
     let so_far = c.loop-block.invariant in
     record {
       started = omega arith;
-      wrote = λ tells. wrote_next _ _ _ _ _ _ (one_block_more c.args.dev c.loop-block.block (prepared c.args.layout.now c.args.fresh.now)) (so_far.wrote tells) (c.prepare_block.ensures.writes tells).touches (c.in_ok-prepare_block.ensures.writes tells).reads;
+      wrote = λ tells. wrote_next _ _ _ _ _ _ (one_block_more c.args.dev c.loop-block.block (prepared c.args.layout.now c.args.fresh.now)) (so_far.wrote tells) (c.prepare_block.ensures.writes tells).touches (c.prepare_block.ensures.writes tells).asks (c.in_ok-prepare_block.ensures.writes tells).reads;
       goes_on = go_on_then _ _ _ so_far.goes_on c.prepare_block.ensures.goes_on;
       faults = c.in_ok-prepare_block.ensures.cause ∙ so_far.faults;
     }

@@ -87,7 +87,8 @@ returns-clause-frozen c =
       birth = subst (λ (t : Trees). HasBirth inside.session inside.nodes.born t.nodes) c.map-3.ensures made.birth;
       fits = subst (λ (es : Entries). size_of es ≤ node_limit) durable made.fits;
       free = made.free;
-      frozen = subst (λ (es : Entries). IsFrozen inside.layout.id node fresh (leaf_set birth btree es) inside.nodes c.freeze_leaf.new.nodes) durable
-          (subst (λ (n : ℕ). IsFrozen inside.layout.id n fresh (leaf_set birth btree (durable_entries (option_copied c.in_flight.result) inside.queue.queue c.map-3.result.now btree)) inside.nodes c.freeze_leaf.new.nodes) root made.frozen);
+      frozen = subst (λ (es : Entries). IsFrozen inside.layout.id inside.writer.durable.sequence node fresh (leaf_set birth btree es) inside.nodes c.freeze_leaf.new.nodes) durable
+          (subst (λ (n : ℕ). IsFrozen inside.layout.id inside.writer.durable.sequence n fresh (leaf_set birth btree (durable_entries (option_copied c.in_flight.result) inside.queue.queue c.map-3.result.now btree)) inside.nodes c.freeze_leaf.new.nodes) root
+          (subst (λ (s : ℕ). IsFrozen inside.layout.id s (root_in c.map-3.result.now.nodes btree).birth fresh (leaf_set birth btree (durable_entries (option_copied c.in_flight.result) inside.queue.queue c.map-3.result.now btree)) inside.nodes c.freeze_leaf.new.nodes) (λ i. (c.durable.ensures i).sequence) made.frozen));
       rest = λ i. record old { pins = c.freeze_leaf.ensures.pins i; marks = c.freeze_leaf.ensures.marks i; later = later i; space = made.pool i; work = c.freeze_leaf.new.nodes };
     })

@@ -1,4 +1,4 @@
-use Rattle.std.proofs.Common.{subst, sym, Some, Option, ◌∙◌}
+use Rattle.std.proofs.Common.{subst, sym, Option, ◌∙◌}
 use Rattle.node_writeback.specs.NodeWork.{IsWork}
 use Rattle.node_writeback.specs.declared.node.UnfinishedNode.{UnfinishedNode}
 use Rattle.node_writeback.proofs.writer.NodeWriter.advance.Goals as goal

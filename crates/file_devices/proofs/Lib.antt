@@ -1,0 +1,4 @@
+mod DeviceCalls
+mod FileCalls
+mod OpenedFiles
+mod Recalling

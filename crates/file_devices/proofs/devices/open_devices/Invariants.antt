@@ -1,6 +1,0 @@
-use Rattle.std.proofs.Common.{◌≡◌, length}
-use Rattle.file_devices.proofs.devices.open_devices.Given as goal
-
--- one file was opened for each path so far
-abbrev pub invariant-loop-path : goal.invariant-loop-path
-invariant-loop-path g l = length l.images.items ≡ l.path-index

@@ -1,0 +1,42 @@
+use Rattle.std.proofs.Common.{◌≡◌, ◌++◌, ◌∷◌, [], ◌∙◌, List, ap, refl, arith, length}
+use Rattle.dev_model.specs.Disk.{Disk, changed, flushed}
+use Rattle.dev_model.specs.Devices.{Is, now}
+use Rattle.dev_model.specs.Memory.{mem_state}
+use Rattle.file_devices.specs.Files.{IsDiskNow}
+use Rattle.file_devices.specs.MemFiles.{file_state}
+use Rattle.file_devices.specs.Recalled.{disk_in}
+use Rattle.file_devices.proofs.Recalling.{held_here, mem_changes, mem_ends, mem_past, only_changed, only_one, only_same}
+use Rattle.file_devices.proofs.memory.MemFileImageFile.flush_blocks.Goals as goal
+
+pub invariant_of-self-2 : goal.invariant_of-self-2
+invariant_of-self-2 c =
+    let file = c.args.self.now in
+    let marked : c.push.new.self.members ≡ c.args.self.now.marks.members ++ record { at = c.args.moment; before = (mem_state c.args.self.now.devices).moment; behind = (mem_state c.flush-result.new.self).moment } ∷ [] =
+    c.push.ensures.members ∙ (λ i. c.make_room.ensures.marks i ++ record { at = c.args.moment; before = c.moment-before.ensures.moment i; behind = c.moment-behind.ensures.moment i } ∷ []) in
+    record {
+      one = ap length c.flush-result.ensures.sizes ∙ file.one;
+      few = file.few;
+      start_past = omega (arith, file.start_past, c.flush-result.ensures.call.later);
+      past = mem_past c.flush-result.result file.devices c.flush-result.new.self file.marks.members c.push.new.self.members file.start c.args.moment marked c.flush-result.ensures.call.later file.past;
+      ends = mem_ends c.flush-result.result file.devices c.flush-result.new.self file.marks.members c.push.new.self.members file.start c.args.moment marked;
+    }
+
+pub returns : goal.returns
+returns c =
+    let file = c.args.self.now in
+    let disks : List Disk = now (mem_state file.devices) in
+    let disk : Disk = (file_state file).story c.args.moment in
+    let some = only_one file.devices file.one in
+    let here : disk ≡ disk_in disks = held_here file.devices file.marks.members file.start c.args.moment file.ends (c.requires.ready tt).still in
+    let marked : c.push.new.self.members ≡ c.args.self.now.marks.members ++ record { at = c.args.moment; before = (mem_state c.args.self.now.devices).moment; behind = (mem_state c.flush-result.new.self).moment } ∷ [] =
+    c.push.ensures.members ∙ (λ i. c.make_room.ensures.marks i ++ record { at = c.args.moment; before = c.moment-before.ensures.moment i; behind = c.moment-behind.ensures.moment i } ∷ []) in
+    record {
+      call = λ _. record {
+        changes = mem_changes c.flush-result.result file.devices c.flush-result.new.self file.marks.members c.push.new.self.members file.start c.args.moment marked
+            (IsDiskNow disk) (IsDiskNow (flushed disk)) (Is disks) (Is (changed 0 flushed disks))
+            c.in_ok-make_room.ensures.soon file.start_past file.past (c.flush-result.ensures.call.disks tt)
+            (λ ds is. only_same disks disk here some ds is)
+            (λ ds is. only_changed disks disk here some flushed ds is);
+        beside = record { rest = refl; locked = refl };
+      };
+    }

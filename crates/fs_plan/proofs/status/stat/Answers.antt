@@ -1,0 +1,10 @@
+-- What is given where the tree was told is seen with it.
+use Rattle.std.proofs.Common.{◌∙◌, ap, sym, Some}
+use Rattle.path_plan.specs.LookLaws.{carried, given_is_seen}
+use Rattle.fs_plan.proofs.status.stat.Goals as goal
+
+pub returns-clause-reply : goal.returns-clause-reply
+returns-clause-reply g c = carried c.stat_in.result _ _
+    (λ reply holds keys read given. holds keys read
+    (given_is_seen keys (g.V.View.made c.stat_in.new.view) (g.V.View.told c.stat_in.new.view) c.deref.result.now (c.stat_in.ensures.ids ∙ c.in_ok-tree.ensures.ok ∙ ap Some (sym c.deref.ensures)) given))
+    c.stat_in.ensures.reply
