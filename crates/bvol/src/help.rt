@@ -94,7 +94,8 @@ prints
                      of the J
   btree NAME level L nodes N keys K
                      for each of nine btrees: its root is of level L (0: it is one
-                     leaf); K counts the keys that the journal alone has yet
+                     leaf); K counts the keys that the journal alone has yet. Those
+                     of `deleted` note unlinked files, and aren't cleared yet
   device D buckets B free F used U
                      for each file, from 0: of its B buckets of 16 blocks F are
                      free, and in U a btree node or blocks of files lie; the
