@@ -49,9 +49,7 @@ fn trouble_text(trouble: Trouble) -> &'static str {
 fn line_text(fault: LineFault) -> &'static str {
     match fault {
         LineFault::BadVerb => "has no verb that `run` knows",
-        LineFault::BadArgs => {
-            "has too few or too many words, or one that is no number, no length and no bytes where one of these is wanted"
-        }
+        LineFault::BadArgs => "has too few or too many words",
         LineFault::BadPath => {
             "has no path like main:/NAME where one is wanted, or a bad escape in a name"
         }

@@ -12,7 +12,7 @@ usage:
   bvol help format                 the options, and the statuses
   bvol help run                    the script, its replies and the statuses
   bvol help info                   the lines, and the statuses
-  bvol help, bvol --help, bvol -h  this text; also after a command
+  bvol help, bvol --help, bvol -h  this text; behind a command, its own help
   bvol --version                   the program's version
 
 An IMAGE is a file that can be read and written. A volume is run with all files
@@ -108,6 +108,7 @@ exit status:
   3  mount refused ..: no volume is found; `bvol help run` has the reasons
   5  standard output couldn't be written
   6  error 6 device D: file D, from 0, isn't there, is in use, or can't be read
+     and written
   7  error 7 memory: out of memory
 
 example:
@@ -147,28 +148,34 @@ part of its commits, with all that a `sync` had acknowledged.
 
 A volume's btrees are one node each today, which bounds it: up to 1,397 files
 and directories, of whose names each counts its bytes and 32 more, 47,560 bytes
-in all. A file whose last name is unlinked leaves a note, which isn't cleared yet:
-up to 2,264 of these fit.
+in all. A file whose last name is unlinked leaves a note, which isn't cleared yet,
+so that a volume takes 2,264 of these in its life: each further one is
+`err no-space need 0`. `rename`, `rmdir` and `unlink` of another name go on; a new
+`format` alone makes room.
 
-script lines, each ended by a line feed:
+script lines, each ended by a line feed, which the last one may lack (a carriage
+return before it is a bad byte of the line):
   mkdir P              make an empty directory
   mkfile P             make an empty file
   link P Q             give the file P the further name Q
   unlink P             take a name of a file away, and the file with its last one
   rmdir P              remove an empty directory
-  rename P Q           move the file or directory P to Q, which must not be there
-  ls P                 list a directory, its names in order of their bytes
+  rename P Q           move the file or directory P to Q, which must not be there,
+                       or be P itself: then nothing is done
+  ls P                 list a directory, its names in order of their bytes; a byte
+                       above 127 is written as % and two hex digits
   stat P               say what stands at P
   sync                 make all commits so far durable
   fsync P              the same, where something stands at P
   barrier              nothing yet: lines run one after the other anyhow
   # TEXT               a comment; it is skipped, as an empty line is
 P and Q are paths: main:/ is the root of the subvolume main, and main:/a/b the
-name b in its directory a; at most 32 names. `..` and `.` aren't names. A name has
-1 to 255 bytes. Each stands for itself if it is from ! to ~ but neither / nor %,
-or above 127; any other is % and two hex digits, as %20 for a space. One space
-stands between two words, and nowhere else. `@C `, with C from 0 to 15, may stand
-before a verb: the line is client C's, who draws inode numbers of its own.
+name b in its directory a; at most 32 names, and no / at the end but the root's.
+`..` and `.` aren't names. A name has 1 to 255 bytes. Each stands for itself if it
+is from ! to ~ but neither / nor %, or above 127; any other is % and two hex
+digits, as %20 for a space. One space stands between two words, and nowhere else.
+`@C `, with C from 0 to 15, may stand before a verb: the line is client C's, who
+draws inode numbers of its own.
 
 replies, one a line, with the client and the number of the script's line:
   @0 1 ok                    done
@@ -178,8 +185,9 @@ replies, one a line, with the client and the number of the script's line:
   @0 4 ok 2                  two commits of this run are on the disks, by `sync`
                              or `fsync`
   @0 3 err exists            the new name is there already, or is a root
-  @0 3 err bad-path          a name is too long, or has a byte that no name has;
-                             or a path has more than 32 names
+  @0 3 err bad-path          a name is empty, as behind a / at the end, or too long,
+                             or has a byte that no name has; or a path has more
+                             than 32 names
   @0 3 err no-subvolume      no subvolume has that name; today all is in main
   @0 3 err not-found         a name on the path isn't there
   @0 3 err not-dir           a file stands where a directory should
@@ -189,10 +197,14 @@ replies, one a line, with the client and the number of the script's line:
                              neither moved nor removed
   @0 3 err cross             the two paths name different subvolumes
   @0 3 err links-full        the file has 255 names
+  @0 3 err crowded           eight names of that directory have the slot of the new
+                             one, a piece of its digest; another name goes
+  @0 3 err ids-spent         the client has drawn all of its inode numbers
   @0 3 err no-space need 0   the volume has no room for this change
   @0 3 err device 0          file 0 couldn't be written, and the run halts: from
                              here on it changes and writes nothing
   @0 4 err halted 0          it has halted; `ls` and `stat` go on
+  @0 3 err spent             one of the volume's numbers is used up
   @0 3 err no-memory         out of memory
 The last line is `end commits N synced M`: the run made N commits, and M of them
 are known to be on the disks.
