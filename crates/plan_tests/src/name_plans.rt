@@ -25,8 +25,19 @@ const ROOT: u64 = 1;
 
 const LETTERS: u64 = 2;
 
+/// Two names of one slot: half of the first eight bytes of the SHA-256 digest of each, as coreutils' sha256sum prints it, is
+/// 0x0c52eb0023e4a389.
+const TWIN: &[u8] = b"eblnjkdoidedckda";
+
+const OTHER_TWIN: &[u8] = b"glnnmfdpllkpgcfg";
+
+/// The numbers of two directories in `d`: `s`, where the first twin is alone in its slot, and `t`, where it is beside seven names.
+const ALONE: u64 = 12;
+
+const FULL: u64 = 16;
+
 /// Ids with inodes, and the links of each.
-static INODES: [(u32, u64, FileKind, u32); 13] = [
+static INODES: [(u32, u64, FileKind, u32); 15] = [
     (30, ROOT, Directory, 1),
     (30, LETTERS, Directory, 1),
     (20, 3, File, 2),
@@ -40,6 +51,8 @@ static INODES: [(u32, u64, FileKind, u32); 13] = [
     (20, 13, File, 254),
     (30, 14, Directory, 1),
     (30, 15, File, 1),
+    (20, ALONE, Directory, 1),
+    (20, FULL, Directory, 1),
 ];
 
 /// Ids with inodes that they don't see.
@@ -51,7 +64,7 @@ type Named = (u64, FileKind, &'static [u8]);
 /// Ids with directories, each with a name, and those that stand under its slot.
 type Slot = (u32, u64, &'static [u8], &'static [Named]);
 
-static SLOTS: [Slot; 15] = [
+static SLOTS: [Slot; 19] = [
     (30, ROOT, b"d", &[(LETTERS, Directory, b"d")]),
     // a file with two names
     (20, ROOT, b"a", &[(3, File, b"a")]),
@@ -101,6 +114,24 @@ static SLOTS: [Slot; 15] = [
         ],
     ),
     (20, LETTERS, b"y", &[(11, File, b"y")]),
+    (20, LETTERS, b"s", &[(ALONE, Directory, b"s")]),
+    (20, LETTERS, b"t", &[(FULL, Directory, b"t")]),
+    (20, ALONE, TWIN, &[(3, File, TWIN)]),
+    (
+        20,
+        FULL,
+        TWIN,
+        &[
+            (3, File, b"A"),
+            (3, File, b"B"),
+            (3, File, b"C"),
+            (3, File, b"D"),
+            (3, File, b"E"),
+            (3, File, b"F"),
+            (3, File, b"G"),
+            (11, File, TWIN),
+        ],
+    ),
 ];
 
 /// Ids with directories and names that they don't see.
@@ -378,7 +409,7 @@ type Done = (
     &'static [Put],
 );
 
-static DONE: [Done; 16] = [
+static DONE: [Done; 20] = [
     (
         Mkdir,
         &[b"d", b"n"],
@@ -513,6 +544,65 @@ static DONE: [Done; 16] = [
             Names(ROOT, b"g", &[(LETTERS, Directory, b"g")]),
         ],
     ),
+    // inside one slot: one update
+    (
+        Rename,
+        &[b"d", b"s", TWIN],
+        &[b"d", b"s", OTHER_TWIN],
+        &[Names(ALONE, TWIN, &[(3, File, OTHER_TWIN)])],
+    ),
+    // inside a full one, which has room without the old name
+    (
+        Rename,
+        &[b"d", b"t", TWIN],
+        &[b"d", b"t", OTHER_TWIN],
+        &[Names(
+            FULL,
+            TWIN,
+            &[
+                (3, File, b"A"),
+                (3, File, b"B"),
+                (3, File, b"C"),
+                (3, File, b"D"),
+                (3, File, b"E"),
+                (3, File, b"F"),
+                (3, File, b"G"),
+                (11, File, OTHER_TWIN),
+            ],
+        )],
+    ),
+    // under that slot of another directory: two updates
+    (
+        Rename,
+        &[b"d", b"t", TWIN],
+        &[b"d", b"s", OTHER_TWIN],
+        &[
+            Names(
+                FULL,
+                TWIN,
+                &[
+                    (3, File, b"A"),
+                    (3, File, b"B"),
+                    (3, File, b"C"),
+                    (3, File, b"D"),
+                    (3, File, b"E"),
+                    (3, File, b"F"),
+                    (3, File, b"G"),
+                ],
+            ),
+            Names(ALONE, TWIN, &[(3, File, TWIN), (11, File, OTHER_TWIN)]),
+        ],
+    ),
+    // the other of the two stays
+    (
+        Verb::Link,
+        &[b"a"],
+        &[b"d", b"s", OTHER_TWIN],
+        &[
+            Put::Inode(3, File, 3),
+            Names(ALONE, TWIN, &[(3, File, TWIN), (3, File, OTHER_TWIN)]),
+        ],
+    ),
     // out of a full slot
     (
         Rename,
@@ -601,7 +691,7 @@ type Refused = (
     Cause,
 );
 
-static REFUSED: [Refused; 39] = [
+static REFUSED: [Refused; 42] = [
     // a full slot without the name
     (Mkdir, b"main", &[b"x"], b"main", &[], Cause::Crowded),
     (Mkfile, b"main", &[b"x"], b"main", &[], Cause::Crowded),
@@ -614,6 +704,31 @@ static REFUSED: [Refused; 39] = [
         Cause::Crowded,
     ),
     (Rename, b"main", &[b"a"], b"main", &[b"x"], Cause::Crowded),
+    // a name of the slot that isn't there yet; only a move inside the directory leaves room
+    (
+        Mkfile,
+        b"main",
+        &[b"d", b"t", OTHER_TWIN],
+        b"main",
+        &[],
+        Cause::Crowded,
+    ),
+    (
+        Rename,
+        b"main",
+        &[b"d", b"s", TWIN],
+        b"main",
+        &[b"d", b"t", OTHER_TWIN],
+        Cause::Crowded,
+    ),
+    (
+        Stat,
+        b"main",
+        &[b"d", b"s", OTHER_TWIN],
+        b"main",
+        &[],
+        Cause::NotFound,
+    ),
     // a full slot with the name
     (Mkfile, b"main", &[b"y"], b"main", &[], Cause::Exists),
     (Rename, b"main", &[b"a"], b"main", &[b"y"], Cause::Exists),
@@ -760,11 +875,14 @@ fn answers(alloc: Global, verb: Verb, at: At, reply: &Reply) -> Result<bool, Fai
 /// A subvolume, names in it, and what stands there: its kind, its number, and how many links it has, or names.
 type Told = (&'static [u8], &'static [&'static [u8]], FileKind, u64, u32);
 
-static TOLD: [Told; 9] = [
+static TOLD: [Told; 12] = [
     // nine names with a slot of their own, and two full slots
     (b"main", &[], Directory, ROOT, 25),
     (b"copy", &[], Directory, ROOT, 5),
-    (b"main", &[b"d"], Directory, LETTERS, 2),
+    (b"main", &[b"d"], Directory, LETTERS, 4),
+    (b"main", &[b"d", b"s"], Directory, ALONE, 1),
+    (b"main", &[b"d", b"t"], Directory, FULL, 8),
+    (b"main", &[b"d", b"t", TWIN], File, 11, 2),
     (b"main", &[b"h"], Directory, 14, 0),
     (b"copy", &[b"h"], Directory, 14, 1),
     (b"main", &[b"d", b"b"], File, 3, 2),
