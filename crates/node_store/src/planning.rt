@@ -170,19 +170,30 @@ pub fn plan_set(
     ensures new { block ≡ 0 → IfOk result (HoldsAlone layout.now.id ptr.now set.now) }
     ensures more { 0 < block → IfOk result (HoldsBehind layout.now.id ptr.now set.now) }
 {
-    let payload = put_set(alloc, set)?;
+    let Ok(payload) = put_set(alloc, set) else {
+        return Err(AllocError);
+    };
     set_lengths();
     sets_are_exact();
-    let parts = seal_parts(
+    let Ok(parts) = seal_parts(
         alloc,
         &layout.id,
         ptr.birth,
         block,
         sequence,
         payload.as_slice(),
-    )?;
-    let parts = fill_bucket(alloc, block, parts)?;
-    let places = ptr.places.copy(alloc)?;
+    ) else {
+        drop(payload);
+        return Err(AllocError);
+    };
+    drop(payload);
+    let Ok(parts) = fill_bucket(alloc, block, parts) else {
+        return Err(AllocError);
+    };
+    let Ok(places) = ptr.places.copy(alloc) else {
+        drop(parts);
+        return Err(AllocError);
+    };
     sealed_blocks_open();
     Ok(Blocked {
         places,
