@@ -35,7 +35,9 @@ pub fn sync_all<D: Devices, O: Opening>(
         if is_synced(session, client, stage, durable) {
             return Ok(());
         }
-        make(session, client, stage)?;
+        if let Err(end) = make(session, client, stage) {
+            return Err(end);
+        }
     }
 }
 
@@ -62,6 +64,8 @@ pub fn checkpoint<D: Devices, O: Opening>(
         if stage == Stage::Rest {
             return Ok(());
         }
-        make(session, client, stage)?;
+        if let Err(end) = make(session, client, stage) {
+            return Err(end);
+        }
     }
 }
