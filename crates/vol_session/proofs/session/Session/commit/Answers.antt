@@ -1,5 +1,5 @@
-use Rattle.std.proofs.Common.{[], ◌∷◌, ◌++◌, ◌+◌, ◌∙◌, true, refl, ap, sym, subst}
-use Rattle.core_state.specs.Events.{intended_by}
+use Rattle.std.proofs.Common.{◌≡◌, [], ◌∷◌, ◌++◌, ◌+◌, ◌∙◌, min, true, refl, ap, sym, subst}
+use Rattle.core_state.specs.Events.{IsMade, intended_by}
 use Rattle.core_volume.specs.Volumes.{IsVolume, KeepParts}
 use Rattle.vol_session.proofs.NextEntries.{commit_is_unsynced}
 use Rattle.vol_session.proofs.SessionInvariant.{committed, stays, uncommitted}
@@ -32,3 +32,21 @@ returns-in_default g c =
       err = (subst (λ self. IsUncommitted self.core.memory c.args.client c.step-given.result c.step-given.new.self.memory) c.self.view_is not_made, refl, refl, λ i. record (c.self.view_is i) { core = c.step-given.new.self });
       devices = c.step-given.ensures.gives.1 ∙ (λ i. (c.self.view_is i).core.devices);
     }
+
+pub returns-in-Done-clause-made : goal.returns-in-Done-clause-made
+returns-in-Done-clause-made g c = subst (λ self. IsMade self.core.memory c.args.client true c.step-given.new.self.memory) c.self.view_is c.in-Done.ensures.gives.0
+
+pub returns-in-Done-clause-entry : goal.returns-in-Done-clause-entry
+returns-in-Done-clause-entry g c =
+    let trace : c.push.new.self.members ≡ c.args.self.now.trace ++ record { client = c.args.client; op = c.args.op; reply = c.args.reply } ∷ [] =
+    c.push.ensures.members ∙ (λ i. (c.self.view_is i).trace ++ record { client = c.args.client; op = c.args.op; reply = c.args.reply } ∷ []) in
+    λ i. record {
+      core = c.step-given.new.self;
+      trace = trace i;
+      acks = (c.self.view_is i).acks;
+      commits = (c.self.view_is i).commits + 1;
+      spare = min c.push.new.self.spare c.self.inside.acks.spare;
+    }
+
+pub returns-in-Done-clause-devices : goal.returns-in-Done-clause-devices
+returns-in-Done-clause-devices g c = c.in-Done.ensures.gives.1 ∙ (λ i. (c.self.view_is i).core.devices)
