@@ -1,0 +1,15 @@
+pub mod Common
+pub mod Counting
+pub mod Growing
+pub mod Joined
+pub mod Living
+pub mod Made
+pub mod Making
+pub mod Origins
+pub mod Puts
+pub mod Records
+pub mod Removal
+pub mod Rooted
+pub mod SlotLists
+pub mod Slots
+pub mod Snapshot
