@@ -1,5 +1,7 @@
 -- An image that means what was found when a run began is what the run leaves before it has acknowledged anything.
 use Rattle.std.proofs.Common.{◌≡◌, ℕ, ◌+◌, ◌≤◌, List, Result, Ok, Some, refl, sym, ap, ◌∙◌, arith}
+use Rattle.std.proofs.lemmas.List.Elements.{All-nil, All-cons}
+use Rattle.std.specs.Prelude.{All, [], ◌∷◌}
 use Rattle.dev_model.specs.Devices.{DevicesState, now}
 use Rattle.dev_model.specs.Disk.{Image, as_read}
 use Rattle.forest_ops.specs.History.{History}
@@ -16,6 +18,11 @@ use Rattle.vol_session.specs.Runs.{IsLeftOfRun, MayRun}
 
 one_value : (result : Result Found MountFault) (one other : Found) → result ≡ Ok one → result ≡ Ok other → one ≡ other
 one_value result one other is again = cc
+
+-- Where there are no commits there are none after an acknowledgement.
+none_at_all : (moment : ℕ) (acks : List Ack) → All (λ (ack : Ack). moment ≤ ack.moment → 0 ≤ ack.commits) acks
+none_at_all moment [] = All-nil (λ (ack : Ack). moment ≤ ack.moment → 0 ≤ ack.commits)
+none_at_all moment (ack ∷ acks) = All-cons (λ (a : Ack). moment ≤ a.moment → 0 ≤ a.commits) ack acks (λ by. omega arith) (none_at_all moment acks)
 
 module _ (f : Found) (first : DevicesState) (may : MayRun f (now first)) (image : Image) (means : MeansTheSame f (as_read (now first)) image) where
   -- what is found in it
@@ -43,6 +50,7 @@ module _ (f : Found) (first : DevicesState) (may : MayRun f (now first)) (image 
     commits = omega arith;
     least = omega (arith, none);
     most = omega arith;
+    none_later = none_at_all moment acks;
     forest = forest_again;
     whole = λ some. absurd (some none);
     room = λ leaves. leaves;

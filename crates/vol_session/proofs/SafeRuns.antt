@@ -33,6 +33,7 @@ survived f first start state trace acks moment image same survives = record {
   commits = survives.commits;
   least = survives.least;
   most = subst (λ (forest : Forest). survives.count ≤ commit_count forest trace) same survives.most;
+  none_later = survives.none_later;
   forest = survives.forest ∙ ap (λ (forest : Forest). after_commits forest trace survives.count) same;
   whole = λ some. record { read = survives.whole.read; durable = survives.whole.durable; finds = survives.whole.finds; had = survives.whole.had; whole = survives.whole.whole };
   room = survives.room;

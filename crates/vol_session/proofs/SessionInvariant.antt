@@ -405,7 +405,7 @@ module _ (laws : FoundKeys) (tells : Type 0) (begun : Found) (start state : Devi
     at = safe.at;
     survive =
         survive_told begun start state trace (acks ++ ack ∷ []) sync
-        (survive_acknowledged laws begun start state memory.volume trace acks commits safe.marks ack begins safe.at safe.good is.counted here refl all_durable safe.survive);
+        (survive_acknowledged laws begun start state memory.volume trace acks commits safe.marks ack begins safe.at safe.good is.counted here refl refl all_durable safe.survive);
     legal = IsLegal-push whole_opening trace sync safe.legal (sync_is_legal whole_opening trace client commits op is.counted.counted (answered safe));
     exact = EachEntry-push (IsExact whole_opening) trace sync safe.exact (sync_is_exact whole_opening trace sync syncs);
   }

@@ -1,5 +1,5 @@
 -- What a run leaves of a volume, from the first read of its devices on: the volume after a prefix of its commits, which may be run again.
-use Rattle.std.specs.Prelude.{◌≡◌, ◌≢◌, ℕ, ◌+◌, ◌≤◌, Ok, List}
+use Rattle.std.specs.Prelude.{◌≡◌, ◌≢◌, ℕ, ◌+◌, ◌≤◌, All, Ok, List}
 use Rattle.dev_model.specs.Devices.{DevicesState}
 use Rattle.dev_model.specs.Disk.{Disk, Image, IsCrashImage}
 use Rattle.forest_ops.specs.History.{History, after_commits, commit_count}
@@ -28,8 +28,8 @@ pub record MayRunAgain (f : Found) (image : Image) : Type 0 where
   pub sound : IsSoundFound f
   pub tidy : IsTidy f.trees.keys
 
--- The image mounts as the volume after a prefix of the commits of the history, with all that was acknowledged by this moment, and may be run again. What was acknowledged stands whole
--- on every metadata device; at most one session more was begun than what was found had, where no torn block of a session opens by chance; and where what was found left room in the ring of the
+-- The image mounts as the volume after a prefix of the commits of the history, with all that was acknowledged by this moment, and may be run again. Up to the moment of an acknowledgement it
+-- has none of the commits that were made after it. What was acknowledged stands whole on every metadata device; at most one session more was begun than what was found had, where no torn block of a session opens by chance; and where what was found left room in the ring of the
 -- journal, so does the image.
 pub record IsLeftOfRun (f : Found) (first state : DevicesState) (trace : History) (acks : List Ack) (moment : ℕ) (image : Image) : Type 0 where
   pub left : Found
@@ -41,6 +41,7 @@ pub record IsLeftOfRun (f : Found) (first state : DevicesState) (trace : History
   pub commits : commits_found left ≡ commits_found f + count
   pub least : acknowledged acks moment ≤ count
   pub most : count ≤ commit_count (forest_found f first) trace
+  pub none_later : All (λ (ack : Ack). moment ≤ ack.moment → count ≤ ack.commits) acks
   pub forest : (volume_of image left).forest ≡ after_commits (forest_found f first) trace count
   pub whole : acknowledged acks moment ≢ 0 → IsAcknowledgedOnAll f acks moment image
   pub room : LeavesRoom f → LeavesRoom left

@@ -1,5 +1,5 @@
 -- What a crash leaves of a session: the volume after a prefix of its commits, with all that was acknowledged by then.
-use Rattle.std.specs.Prelude.{◌≡◌, ℕ, ◌+◌, ◌<◌, ◌≤◌, Ok, List, length, slice_index_or}
+use Rattle.std.specs.Prelude.{◌≡◌, ℕ, ◌+◌, ◌<◌, ◌≤◌, All, Ok, List, length, slice_index_or}
 use Rattle.dev_model.specs.Devices.{DevicesState, now}
 use Rattle.dev_model.specs.Disk.{Image, IsCrashImage}
 use Rattle.forest_ops.specs.History.{History, after_commits, commit_count}
@@ -29,8 +29,8 @@ pub record IsAcknowledgedOnAll (begun : Found) (acks : List Ack) (moment : ℕ) 
   pub whole : (index : ℕ) → index < length durable.needed → StandsOnAll begun.layout image (slice_index_or durable.needed index durable.last)
 
 -- The image mounts as the volume after a prefix of the commits of the history, in the layout and the session that began, with all that was acknowledged by this
--- moment: it is in order, sound and tidy, and each of its btrees is one leaf, so that it can be opened again; it leaves room in the ring where what was found did; and what was
--- acknowledged stands whole on every metadata device.
+-- moment, and up to the moment of an acknowledgement none of the commits that were made after it: it is in order, sound and tidy, and each of its btrees is one leaf, so that it can be opened
+-- again; it leaves room in the ring where what was found did; and what was acknowledged stands whole on every metadata device.
 pub record HasSurvived (begun : Found) (start : DevicesState) (trace : History) (acks : List Ack) (moment : ℕ) (image : Image) : Type 0 where
   pub base : Found
   pub finds : found image ≡ Ok base
@@ -45,6 +45,7 @@ pub record HasSurvived (begun : Found) (start : DevicesState) (trace : History) 
   pub commits : base.last.entry.commits ≡ commits_found begun + count
   pub least : acknowledged acks moment ≤ count
   pub most : count ≤ commit_count (forest_found begun start) trace
+  pub none_later : All (λ (ack : Ack). moment ≤ ack.moment → count ≤ ack.commits) acks
   pub forest : forest_in base.trees.keys (read_in image) ≡ after_commits (forest_found begun start) trace count
   pub whole : IsAcknowledgedOnAll begun acks moment image
 
