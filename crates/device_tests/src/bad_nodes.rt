@@ -151,7 +151,7 @@ fn sets_that_are_none_of_the_node(rt: HostRuntime) -> Result<(), Fail> {
 }
 
 // Writes two sets, one of two blocks and behind it one of three.
-fn put_two_sets(alloc: Global, devices: &mut MemDevices) -> Result<(), Fail> {
+pub fn put_two_sets(alloc: Global, devices: &mut MemDevices) -> Result<(), Fail> {
     let first = counters(alloc, 200, 3)?;
     write_set(alloc, devices, BIRTH, 0, &first)?;
     let second = counters(alloc, 400, 5)?;
@@ -160,7 +160,7 @@ fn put_two_sets(alloc: Global, devices: &mut MemDevices) -> Result<(), Fail> {
 }
 
 // Wipes the blocks of the bucket at a place that have a bit in the mask.
-fn lose(devices: &mut MemDevices, place: Place, mask: u8, zeros: &[u8]) -> Result<(), Fail> {
+pub fn lose(devices: &mut MemDevices, place: Place, mask: u8, zeros: &[u8]) -> Result<(), Fail> {
     for n in 0..8 {
         if mask >> n & 1 == 1 {
             put(devices, place, n, zeros)?;
@@ -190,7 +190,7 @@ fn with_lost(alloc: Global, first: u8, second: u8) -> Result<Result<Seen, NodeFa
 
 static EARLIER: [u64; 4] = [4, 7, 10, 13];
 
-static LATER: [u64; 4] = [6, 11, 16, 21];
+pub static LATER: [u64; 4] = [6, 11, 16, 21];
 
 // What is read where each part of both sets, or of the first alone, is on some place; and where the first isn't.
 #[derive(Clone, Copy)]

@@ -13,6 +13,8 @@ mod journals;
 #[cfg(test)]
 mod layouts;
 #[cfg(test)]
+mod mended;
+#[cfg(test)]
 mod nodes;
 #[cfg(test)]
 mod queues;

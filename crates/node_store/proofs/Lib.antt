@@ -17,3 +17,5 @@ pub mod AlikeCopies
 pub mod BadWithin
 pub mod PlannedContents
 pub mod WrittenLengths
+pub mod MendedFrames
+pub mod MendedNodes

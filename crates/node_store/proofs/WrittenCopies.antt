@@ -1,12 +1,9 @@
 -- What a write leaves to be read, at its place and elsewhere.
-use Rattle.std.proofs.Common.{◌≡◌, ◌≢◌, ⊎_elim, ℕ, zero, suc, ◌+◌, ◌<◌, ◌≤◌, List, [], ◌∷◌, length, get_or, Some, refl, ap, ◌∙◌, sym, subst, arith, MatchResult, Result, Ok, Err}
+use Rattle.std.proofs.Common.{◌≡◌, ◌≢◌, ⊎_elim, ℕ, ◌+◌, ◌<◌, ◌≤◌, List, length, get_or, Some, ap, ◌∙◌, sym, subst, arith}
 use Rattle.std.proofs.lemmas.Bool.{cases_eq, cases_lt}
 use Rattle.std.proofs.lemmas.List.{get_or_default}
 use Rattle.vol_types.specs.declared.pointers.Place.{Place}
-use Rattle.dev_model.specs.Disk.{Disk, IsBlock, as_read, block_at, changed, after_write, written, sizes_of}
-use Rattle.dev_model.specs.Devices.{DevicesState, ChangesDisks, Is, MayBeWritten, now}
-use Rattle.dev_model.specs.Crashes.{IsAt, SameBut}
-use Rattle.dev_model.specs.CrashDisks.{slice_get-set_other}
+use Rattle.dev_model.specs.Disk.{Disk, as_read, block_at, changed, written, sizes_of}
 use Rattle.dev_model.specs.PlaceLaws.{reads_written, reads_written_elsewhere}
 
 -- After a write of bytes, places that had these still have them.

@@ -6,3 +6,4 @@ pub mod FailedReads
 pub mod Answers
 pub mod Plans
 pub mod Writes
+pub mod Mending

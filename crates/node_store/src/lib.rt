@@ -12,13 +12,14 @@
 //!
 //! `specs/StoredSets` says which sets the blocks of a bucket hold and where they end, `specs/NodeContents` what the node
 //! holds by them. `read_node` reads that, `plan_set` seals the blocks of one set, and `write_part` writes one of these on
-//! each place of the node.
+//! each place of the node. `mend_node` writes blocks of a node at places that lack them.
 #![tactic(auto)]
 
 mod alike;
 mod contents;
 mod fault;
 mod laws;
+mod mending;
 mod opening;
 mod planning;
 mod reading;
@@ -27,6 +28,7 @@ mod writing;
 
 pub use fault::{NodeFault, SetFault};
 pub use laws::failed_reads_are_made_up;
+pub use mending::mend_node;
 pub use opening::OpenBlock;
 pub use planning::{Blocked, plan_set};
 pub use reading::{ReadNode, read_node};

@@ -112,7 +112,7 @@ fn write_copy<D: Devices>(
 }
 
 // The block of a device that is block n of the bucket at a place.
-fn block_of<D: Devices>(devices: &D, place: &Place, n: u8) -> u32
+pub(crate) fn block_of<D: Devices>(devices: &D, place: &Place, n: u8) -> u32
     requires { IsPlace (D.state devices.now).sizes place.now.dev (place.now.block + n) }
     ensures { result ≡ place.now.block + n }
 {
