@@ -1,5 +1,5 @@
 -- Which blocks a node's places show before and after it is mended.
-use Rattle.std.proofs.Common.{◌≡◌, ◌⊎◌, ℕ, zero, suc, ◌+◌, ◌<◌, ◌≤◌, inl, inr, ⊎_elim, Bool, true, false, List, [], ◌∷◌, length, get_or, Option, Some, None, refl, ap, ◌∙◌, sym, subst, arith}
+use Rattle.std.proofs.Common.{◌≡◌, ◌⊎◌, ℕ, zero, suc, ◌+◌, ◌<◌, ◌≤◌, inl, inr, ⊎_elim, Bool, true, false, List, [], ◌∷◌, length, get_or, Option, Some, None, Result, Ok, refl, ap, ◌∙◌, sym, subst, arith}
 use Rattle.std.specs.Prelude.{Contains, option_and_then, option_map}
 use Rattle.std.specs.Option.{option_map_or}
 use Rattle.std.proofs.lemmas.Bool.{and_parts, eqb-true, false≢true}
@@ -12,6 +12,7 @@ use Rattle.sealed_block.specs.declared.heads.Head.{Head}
 use Rattle.vol_types.specs.declared.layout.Layout.{Layout}
 use Rattle.vol_types.specs.declared.pointers.Place.{Place}
 use Rattle.node_store.specs.declared.opening.OpenBlock.{OpenBlock}
+use Rattle.node_store.specs.declared.sets.StoredSets.{StoredSets}
 use Rattle.node_store.specs.Answers.{AgreeOn, AreAlike, IsOfNode}
 use Rattle.node_store.specs.Copies.{Reading, block_in, copies_at, copy_at, shown_at, shown_in}
 use Rattle.node_store.specs.Mending.{AreWritten, IsLacking, IsShown, IsWanted, IsWholeOrNone, MayBeMended, is_node_head, is_of_node}
@@ -21,6 +22,14 @@ use Rattle.node_store.proofs.NoBlocks.{block_in-copy_at}
 abbrev pub test_cases : (b : Bool) → (b ≡ true) ⊎ (b ≡ false)
 test_cases true = inl refl
 test_cases false = inr refl
+
+-- a result
+abbrev ok_sets : StoredSets → Result StoredSets ℕ
+ok_sets sets = Ok sets
+
+-- There is one result.
+pub one_result : (one other : StoredSets) → ok_sets one ≡ ok_sets other → one ≡ other
+one_result one other same = cc
 
 -- ---- places and copies
 

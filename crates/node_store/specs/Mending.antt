@@ -1,5 +1,5 @@
 -- Mending a node: what some place of it shows of a block is written on each place that lacks it.
-use Rattle.std.specs.Prelude.{◌≡◌, ◌⊎◌, ℕ, ◌+◌, ◌<◌, ◌≤◌, Bool, true, false, ◌&&◌, ◌==◌, List, Contains, length, Option, Some, None, option_and_then, slice_index_or}
+use Rattle.std.specs.Prelude.{◌≡◌, ◌⊎◌, ℕ, ◌+◌, ◌<◌, ◌≤◌, Bool, true, false, ◌&&◌, ◌==◌, List, Contains, length, Option, Some, None, Ok, option_and_then, slice_index_or}
 use Rattle.std.specs.Option.{option_map_or}
 use Rattle.std.specs.Str.{bytes_eq}
 use Rattle.dev_model.specs.Crashes.{EachCrash, IsCrashImageBut, IsQuiet, SameBut}
@@ -13,7 +13,10 @@ use Rattle.sealed_block.specs.declared.heads.Head.{Head}
 use Rattle.vol_types.specs.Limits.{bucket_blocks}
 use Rattle.vol_types.specs.declared.layout.Layout.{Layout}
 use Rattle.vol_types.specs.declared.pointers.Place.{Place}
-use Rattle.node_store.specs.Answers.{AgreeOn}
+use Rattle.vol_types.specs.declared.pointers.NodePtr.{NodePtr}
+use Rattle.node_store.specs.Answers.{AgreeOn, AreAlike}
+use Rattle.node_store.specs.StoredSets.{Copies, sets_in, sets_of}
+use Rattle.node_store.specs.declared.sets.StoredSets.{StoredSets}
 use Rattle.node_store.specs.Copies.{copies_at}
 use Rattle.node_store.specs.Writes.{HaveCopies, IsCopyOf}
 
@@ -56,6 +59,14 @@ pub record IsWanted (id : List ℕ) (birth : ℕ) (places : List Place) (end : �
   pub below : number < end
   pub copy : IsCopyOf places number dev block
   pub shown : IsShown id birth places image number bytes
+
+-- The sets of a node that copies hold end at this block.
+abbrev pub IsEndOf : List ℕ → ℕ → Copies → ℕ → Type 0
+IsEndOf id birth copies end = (found : StoredSets) × (sets_in copies id birth ≡ Ok found) × (end ≡ found.end)
+
+-- The places of a node show the same up to where its sets end, if it has some.
+abbrev pub IsWholeNode : List ℕ → NodePtr → Image → Type 0
+IsWholeNode id ptr image = (found : StoredSets) → sets_of (block_at image) id ptr ≡ Ok found → AreAlike found.end (copies_at (block_at image) ptr.places)
 
 -- The place is on this metadata device, behind its superblocks and its journal.
 pub record IsPlaced (layout : Layout) (dev : ℕ) (place : Place) : Type 0 where

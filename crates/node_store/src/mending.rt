@@ -1,4 +1,4 @@
-ghost use Rattle.std.specs.Prelude.{◌≡◌, ◌↔◌, ◌⊎◌, ◌+◌, ◌<◌, ◌≤◌, ℕ, Contains, List, length, true, false, None, Some, IsTrue, IfOk, IfSome, OnOk};
+ghost use Rattle.std.specs.Prelude.{◌≡◌, ◌↔◌, ◌⊎◌, ◌+◌, ◌<◌, ◌≤◌, ℕ, Contains, List, length, true, false, None, Some, Ok, IsTrue, IfOk, IfSome, OnOk};
 ghost use Rattle.dev_model.specs.Crashes.{IsAt};
 ghost use Rattle.dev_model.specs.Devices.{IsPlace, now};
 ghost use Rattle.dev_model.specs.Disk.{as_read, block_at};
@@ -7,9 +7,12 @@ ghost use Rattle.vol_types.specs.declared.pointers.Place.{Place as APlace};
 ghost use Rattle.geometry.specs.Faults.{DeviceFailed, SomeFailed, failed_device};
 ghost use Rattle.node_store.specs.Answers.{AreAlike};
 ghost use Rattle.node_store.specs.Copies.{copies_at};
-ghost use Rattle.node_store.specs.Mending.{ArePlaced, AreWritten, CanBeMended, IsLacking, IsCopyShown, IsDeviceOf, IsPlaced, IsShown, IsWanted, IsWholeOrNone, KeepsRest, MayBeMended, OnlyWriteFailed, WritesOnly, is_node_head, is_of_node};
+ghost use Rattle.node_store.specs.Mending.{ArePlaced, AreWritten, CanBeMended, IsLacking, IsCopyShown, IsDeviceOf, IsPlaced, IsShown, IsWanted, IsWholeNode, IsWholeOrNone, KeepsRest, MayBeMended, OnlyWriteFailed, WritesOnly, is_node_head, is_of_node};
+ghost use Rattle.node_store.specs.StoredSets.{sets_of};
+ghost use Rattle.node_store.specs.declared.sets.StoredSets.{StoredSets as ASets};
 ghost use Rattle.node_store.specs.Writes.{HaveCopies, IsCopyBlock, IsCopyOf};
 
+use crate::reading::read_end;
 use crate::sets::BUCKET;
 use crate::writing::block_of;
 use dev_model::Devices;
@@ -380,4 +383,40 @@ pub fn mend_node<D: Devices>(
         return Ok(());
     }
     mend_blocks(alloc, devices, layout, ptr.birth, places, end)
+}
+
+/// Mends a node up to where its sets end, as `mend_node` does, where its whole bucket can be read at each place. Where a block of it
+/// can't, or there are no sets, nothing is written: it isn't sure then where they end.
+///
+/// It reads the bucket once at each place besides, and takes memory for what it holds.
+pub fn mend_sets<D: Devices>(
+    alloc: Global,
+    devices: &mut D,
+    layout: &Layout,
+    ptr: &NodePtr,
+) -> Result<(), DiskFault>
+    ensures writes { D.tells → WritesOnly (IsLacking layout.now.id ptr.now.birth ptr.now.places 16
+        (as_read (now (D.state devices.old)))) (IsWanted layout.now.id ptr.now.birth
+        ptr.now.places 16 (as_read (now (D.state devices.old)))) (D.state devices.old)
+        (D.state devices.new) }
+    // A node that stands everywhere costs no write, whichever reads fail.
+    ensures idle { D.tells → IsWholeNode layout.now.id ptr.now (as_read (now (D.state devices.old)))
+        → AreOnlyRead D.tells (D.state devices.old) (D.state devices.new) }
+    ensures mended { D.tells → ¬ SomeFailed (D.state devices.old).faults
+        (D.state devices.new).faults → (found : ASets)
+        → sets_of (block_at (as_read (now (D.state devices.old)))) layout.now.id ptr.now ≡ Ok found
+        → CanBeMended layout.now ptr.now.birth ptr.now.places found.end
+        (D.state devices.old).sizes (as_read (now (D.state devices.old)))
+        → OnOk result (AreAlike found.end (copies_at
+        (block_at (as_read (now (D.state devices.new)))) ptr.now.places)) }
+    ensures rest { D.tells → OnOk result (KeepsRest (D.state devices.old) (D.state devices.new)) }
+    ensures goes_on { GoOn (D.state devices.old) (D.state devices.new) }
+    ensures cause { OnlyWriteFailed (failed_device result) (D.state devices.old).faults
+        (D.state devices.new).faults }
+    ensures device { IfSome (failed_device result) (IsDeviceOf ptr.now.places) }
+{
+    match read_end(alloc, devices, &layout.id, ptr)? {
+        None => Ok(()),
+        Some(end) => mend_node(alloc, devices, layout, ptr, end),
+    }
 }
