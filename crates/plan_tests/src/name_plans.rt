@@ -409,7 +409,7 @@ type Done = (
     &'static [Put],
 );
 
-static DONE: [Done; 20] = [
+static DONE: [Done; 23] = [
     (
         Mkdir,
         &[b"d", b"n"],
@@ -429,6 +429,16 @@ static DONE: [Done; 20] = [
             Next(NEXT + 1),
             Put::Inode(NEXT, File, 1),
             Names(ROOT, b"v", &[(NEXT, File, b"v")]),
+        ],
+    ),
+    (
+        Mkdir,
+        &[b"v"],
+        &[],
+        &[
+            Next(NEXT + 1),
+            Put::Inode(NEXT, Directory, 1),
+            Names(ROOT, b"v", &[(NEXT, Directory, b"v")]),
         ],
     ),
     // an inode of its own, one of an ancestor, and one that gets its last link
@@ -542,6 +552,25 @@ static DONE: [Done; 20] = [
         &[
             HiddenNames(ROOT, b"d"),
             Names(ROOT, b"g", &[(LETTERS, Directory, b"g")]),
+        ],
+    ),
+    // to where a name is hidden: what led there from an ancestor is hidden in its turn
+    (
+        Rename,
+        &[b"o"],
+        &[b"v"],
+        &[
+            HiddenNames(ROOT, b"o"),
+            Names(ROOT, b"v", &[(5, File, b"v")]),
+        ],
+    ),
+    (
+        Rename,
+        &[b"w"],
+        &[b"h", b"k"],
+        &[
+            HiddenNames(ROOT, b"w"),
+            Names(14, b"k", &[(8, Directory, b"k")]),
         ],
     ),
     // inside one slot: one update
