@@ -122,7 +122,7 @@ module _ {D K : Type 0} (forest : Forest) (state : D → DevicesState) (devices_
         entries = is_trace ∙ entries;
         acknowledged = is_acks ∙ are_acks ∙ ap (λ d. acks_of runs.answered ends.reply (state d).moment) (sym is_devices);
         counted = subst (AreSyncsCounted forest) (sym is_trace) (adds.counted (subst (AreSyncsCounted forest) (sym begins) (EachEntry-none (λ before one. (count : ℕ) → synced_count one.reply ≡ Some count → count ≡ commit_count forest before))));
-        made = were_made sink_tells devices_tell held given_at sink shown mid_sink last_sink [] (state last.core.devices).moment runs.answered ends.ended ends.gains printed.made;
+        made = were_made sink_tells devices_tell held given_at sink shown mid_sink last_sink (state mid.core.devices).moment (state last.core.devices).moment ends.ended ends.gains ends.since [] runs.answered runs.until printed.made;
         prefix = ended.prefix;
         whole = ended.whole;
         failed = ended.failed;

@@ -56,6 +56,7 @@ module _ {D K : Type 0} (source_tells sink_tells devices_tell : Type 0) (held gi
     means = tt;
     legal = λ told f may sure. legal_none (forest_found nothing_found run.state) run.trace ends.nothing;
     told = record { nothing = ends.nothing; prefix = ends.prefix; whole = ends.whole };
+    printed = λ told told_too. tt;
     survives = λ told f may.
         subst (λ (trace : History). RunSurvives f run.state run.state_after trace run.acks) (sym ends.nothing)
         (subst (λ (acks : List Ack). RunSurvives f run.state run.state_after [] acks) (sym ends.no_acks) (survives told f may));
@@ -83,6 +84,7 @@ module _ {D K : Type 0} (source_tells sink_tells devices_tell : Type 0) (held gi
     means = tt;
     legal = λ told f may sure. legal_none (forest_found nothing_found run.state) run.trace formats.ends.nothing;
     told = record { nothing = formats.ends.nothing; prefix = formats.ends.prefix; whole = formats.ends.whole };
+    printed = λ told told_too. tt;
     survives = λ told. (formats.survives told, formats.done told);
     acknowledged = without_acks run.state.moment run.state_after.moment run.trace run.acks formats.ends.nothing formats.ends.no_acks formats.later;
     caused = record {

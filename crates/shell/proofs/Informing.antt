@@ -103,6 +103,7 @@ module _ {D K : Type 0} (source_tells sink_tells devices_tell : Type 0) (held gi
     means = tells.informs;
     legal = λ told f may sure. legal_none (forest_found nothing_found run.state) run.trace tells.ends.nothing;
     told = record { nothing = tells.ends.nothing; prefix = tells.ends.prefix; whole = tells.ends.whole };
+    printed = λ told told_too. tt;
     survives = survived tells.informs.read tells.ends.nothing tells.ends.no_acks;
     acknowledged = without_acks run.state.moment run.state_after.moment run.trace run.acks tells.ends.nothing tells.ends.no_acks tells.informs.read.later;
     caused = record {

@@ -8,6 +8,7 @@ pub mod LoadedFront
 pub mod Mounting
 pub mod Preparing
 pub mod Printing
+pub mod Moments
 pub mod Running
 pub mod EndingEarly
 pub mod Informing

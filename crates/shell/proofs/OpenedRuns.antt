@@ -1,11 +1,12 @@
 -- What a run promises whose arguments ask for a run and whose source gave a script, once a volume was opened: its lines ran over it, or there was no memory to keep it.
-use Rattle.std.proofs.Common.{◌≡◌, ◌≤◌, ◌<◌, ◌^◌, length, inl, inr, ℕ, List, [], Option, sym, subst}
+use Rattle.std.proofs.Common.{◌≡◌, ◌≤◌, ◌<◌, ◌^◌, length, inl, inr, ℕ, List, [], Option, sym, subst, arith}
 use Rattle.std.specs.Prelude.{All}
 use Rattle.dev_model.specs.Devices.{DevicesState, now}
 use Rattle.dev_model.specs.Disk.{IsDisk}
 use Rattle.dev_model.specs.Frames.{GoOn}
 use Rattle.forest_ops.specs.History.{History}
 use Rattle.image_view.specs.Found.{Found}
+use Rattle.forest_ops.specs.Acknowledged.{acknowledged}
 use Rattle.forest_ops.specs.declared.acks.Ack.{Ack}
 use Rattle.vol_session.specs.RunLaws.{OpeningIsSafe, RunsAreSafe, SessionsBeginWell}
 use Rattle.vol_session.specs.Runs.{RunSurvives}
@@ -24,6 +25,7 @@ use Rattle.shell.specs.Runs.{Run}
 use Rattle.shell.specs.Tasks.{IsRun}
 use Rattle.shell.proofs.EndingEarly.{ended_early}
 use Rattle.shell.proofs.Fitting.{run_fits}
+use Rattle.shell.proofs.Moments.{told_is_acknowledged}
 use Rattle.shell.proofs.ShortRuns.{few_entries}
 use Rattle.shell.proofs.Sessions.{acks_since, all_unspent, begins_well, causes_since, halts_since, opening_leaves, run_survives, same_forest}
 
@@ -79,6 +81,15 @@ module _ {D K : Type 0} (source_tells sink_tells devices_tell : Type 0) (state :
           whole = ran.whole;
         };
         survives = λ told f may sure. run_survives devices_tell opening old mounted opened told f may sure keeps before (disks told) begins safe new trace acks opened_ran.after opened_ran.acknowledged (opened_ran.survive told);
+        printed = λ told told_too f may sure moment from to image crash untorn.
+            let left = run_survives devices_tell opening old mounted opened told_too f may sure keeps before (disks told_too) begins safe new trace acks opened_ran.after opened_ran.acknowledged (opened_ran.survive told_too) moment from to image crash untorn in
+            let least = left.least in
+            record {
+              left = left;
+              told = λ count tells.
+                  let all : count ≤ acknowledged acks moment = told_is_acknowledged held given_at sink_tells devices_tell sink sink_after ran.answered ran.last acks new.moment moment count ran.acknowledged told told_too ran.made tells in
+                  omega (arith, all, least);
+            };
         acknowledged = acks_since old.moment mounted.moment new.moment trace acks before.later opened_ran.acknowledged;
         caused = record {
           arguments = is_run;

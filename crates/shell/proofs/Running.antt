@@ -1,11 +1,12 @@
 -- How answers follow one another.
 use Rattle.std.proofs.Common.{◌≡◌, ◌⊎◌, inl, inr, ⊎_elim, ℕ, ◌||◌, true, false, Bool, List, [], ◌∷◌, ◌++◌, length, map, refl, ap, ◌∙◌, sym, subst, arith, append_assoc, append-nil, Some, None, Option}
-use Rattle.std.specs.Prelude.{max, Result, Ok, Err, OnOk, OnErr, is_err}
+use Rattle.std.specs.Prelude.{◌+◌, ◌≤◌, All, IsSome, max, Result, Ok, Err, OnOk, OnErr, is_err}
 use Rattle.std.specs.Option.{option_to_list}
 use Rattle.std.specs.List.{cons_option, filter_map}
-use Rattle.std.proofs.lemmas.List.{map-append}
+use Rattle.std.proofs.lemmas.Bool.{false≢true}
+use Rattle.std.proofs.lemmas.List.{length-append, map-append}
 use Rattle.std.proofs.lemmas.Option.{same_Some, none-some as none_some}
-use Rattle.std.proofs.lemmas.List.Elements.{All-head, All-tail, filter_map-append}
+use Rattle.std.proofs.lemmas.List.Elements.{All-append, All-cons, All-head, All-nil, All-tail, All-weaker, filter_map-append}
 use Rattle.std.proofs.lemmas.Grind.{flat_map-append}
 use Rattle.dev_model.specs.Devices.{DevicesState, FaultCounts}
 use Rattle.dev_model.specs.Frames.{GoOn}
@@ -18,8 +19,8 @@ use Rattle.forest_ops.specs.declared.operation.Op.TheVariants.{Sync}
 use Rattle.forest_ops.specs.declared.operation.Reply.{Reply}
 use Rattle.forest_ops.specs.declared.operation.Reply.TheVariants.{Okay, More, Synced, Content, List as Listed, File, Dir, SubNames, Used, Refused, NoSpace, DeviceFault, DataLost, Halted, Spent, NoMemory}
 use Rattle.forest_ops.specs.declared.operation.Entry.{Entry}
-use Rattle.text_io.specs.Streams.{GainsBy, GainsTextBy, GivesPrefix}
-use Rattle.text_io.specs.StreamLaws.{gains_nothing, gains_text, gains_text_still, gains_then}
+use Rattle.text_io.specs.Streams.{GainsBy, GivesPrefix}
+use Rattle.text_io.specs.StreamLaws.{gains_nothing, gains_text, gains_then}
 use Rattle.script_text.specs.declared.reading.Line.{Line}
 use Rattle.core_volume.specs.Volumes.{Volume}
 use Rattle.forest_ops.specs.Acknowledged.{synced_count}
@@ -31,9 +32,11 @@ use Rattle.shell.specs.declared.tally.Tally.{Tally}
 use Rattle.shell.specs.declared.page.Page.{Page}
 use Rattle.shell.specs.Printing.{Prints, has_ended}
 use Rattle.shell.specs.Output.{WereMade}
-use Rattle.shell.proofs.Printing.{all_given, all_or_part}
+use Rattle.shell.specs.Moments.{GainsAllBut, GainsAt, GainsSince}
+use Rattle.shell.proofs.Moments.{all_but_still, at_by, at_nothing, at_since, since_behind, since_nothing, since_still}
+use Rattle.shell.proofs.Printing.{all_or_part, neither}
 use Rattle.forest_ops.specs.declared.acks.Ack.{Ack}
-use Rattle.shell.specs.Outcome.{Answered, ack_by, ack_of, acknowledges, entry_of, reply_line, reply_line_by, reply_lines}
+use Rattle.shell.specs.Outcome.{Answered, ack_by, ack_of, entry_of, may_wait, reply_line, reply_line_by, reply_lines}
 use Rattle.shell.specs.Causes.{is_no_memory}
 use Rattle.shell.specs.Phases.{AddsEntries, AreSyncsCounted, AreMade, Gains, RunsLines, tally_after, tally_with}
 
@@ -71,33 +74,44 @@ module _ {K : Type 0} (sink_tells devices_tell : Type 0) (held given_at : K → 
   made_append page last text (answered ∷ first) second one two =
       (one.0, made_append page last (text ++ reply_line answered) first second one.1 (subst (λ t. AreMade sink_tells devices_tell held given_at start page last t second) (sym (append_assoc text (reply_line answered) (reply_lines first))) two))
 
-  -- what was printed when it was made stays so while more is printed
-  made_later : (page new_page : Page) (last new_last : K) (text : List ℕ) (moment : ℕ) (answered : List Answered) → (has_ended page ≡ true → (has_ended new_page ≡ true) × (new_last ≡ last)) → (sink_tells → devices_tell → GainsBy held given_at last new_last moment)
-      → AreMade sink_tells devices_tell held given_at start page last text answered → AreMade sink_tells devices_tell held given_at start new_page new_last text answered
-  made_later page new_page last new_last text moment [] ended gains made = tt
-  made_later page new_page last new_last text moment (first ∷ answered) ended gains made = (
-    (λ ack told told_too. ⊎_elim
-        (λ (all : GainsTextBy held given_at start last (text ++ reply_line first) first.moment). inl (gains_text_still held given_at start last new_last (text ++ reply_line first) first.moment moment all (gains told told_too)))
-        (λ (end : (has_ended page ≡ true) × GivesPrefix (text ++ reply_line first) (held start) (held last)). inr ((ended end.0).0, subst (λ k. GivesPrefix (text ++ reply_line first) (held start) (held k)) (sym (ended end.0).1) end.1))
-        (made.0 ack told told_too)),
-    made_later page new_page last new_last (text ++ reply_line first) moment answered ended gains made.1,
-  )
+  -- what was given in time stays so while more is printed, from a moment on that the answers had come to
+  module _ (page new_page : Page) (last new_last : K) (from moment : ℕ) (ended : has_ended page ≡ true → (has_ended new_page ≡ true) × (new_last ≡ last)) (gains : sink_tells → devices_tell → GainsBy held given_at last new_last moment)
+      (since : sink_tells → devices_tell → GainsSince held given_at last new_last 0 from) where
+    made_later : (text : List ℕ) (answered : List Answered) → All (λ (a : Answered). a.moment ≤ from) answered → AreMade sink_tells devices_tell held given_at start page last text answered → AreMade sink_tells devices_tell held given_at start new_page new_last text answered
+    made_later text [] until made = tt
+    made_later text (first ∷ answered) until made = (
+      (λ some told told_too.
+      let one = made.0 some told told_too in
+      record {
+        since = since_still held given_at start last new_last (length text) first.moment from (All-head (λ (a : Answered). a.moment ≤ from) first answered until) one.since (since told told_too);
+        by = ⊎_elim
+            (λ (all : GainsAllBut held given_at start last (text ++ reply_line first) (may_wait first.reply) first.moment). inl (all_but_still held given_at start last new_last (text ++ reply_line first) (may_wait first.reply) first.moment moment all (gains told told_too)))
+            (λ (end : (has_ended page ≡ true) × GivesPrefix (text ++ reply_line first) (held start) (held last)). inr ((ended end.0).0, subst (λ k. GivesPrefix (text ++ reply_line first) (held start) (held k)) (sym (ended end.0).1) end.1))
+            one.by;
+      }),
+      made_later (text ++ reply_line first) answered (All-tail (λ (a : Answered). a.moment ≤ from) first answered until) made.1,
+    )
 
-  -- what was printed when it was made is so of the whole run
-  pub were_made : (page : Page) (last final : K) (text : List ℕ) (moment : ℕ) (answered : List Answered) → (has_ended page ≡ true → final ≡ last) → (sink_tells → devices_tell → GainsBy held given_at last final moment)
-      → AreMade sink_tells devices_tell held given_at start page last text answered → WereMade sink_tells devices_tell held given_at start final text answered
-  were_made page last final text moment [] ended gains made = tt
-  were_made page last final text moment (first ∷ answered) ended gains made = (
-    (λ ack told told_too. ⊎_elim
-        (λ (all : GainsTextBy held given_at start last (text ++ reply_line first) first.moment). inl (gains_text_still held given_at start last final (text ++ reply_line first) first.moment moment all (gains told told_too)))
-        (λ (end : (has_ended page ≡ true) × GivesPrefix (text ++ reply_line first) (held start) (held last)). inr (subst (λ k. GivesPrefix (text ++ reply_line first) (held start) (held k)) (sym (ended end.0)) end.1))
-        (made.0 ack told told_too)),
-    were_made page last final (text ++ reply_line first) moment answered ended gains made.1,
-  )
+  -- what was given in time is so of the whole run
+  module _ (page : Page) (last final : K) (from moment : ℕ) (ended : has_ended page ≡ true → final ≡ last) (gains : sink_tells → devices_tell → GainsBy held given_at last final moment) (since : sink_tells → devices_tell → GainsSince held given_at last final 0 from) where
+    pub were_made : (text : List ℕ) (answered : List Answered) → All (λ (a : Answered). a.moment ≤ from) answered → AreMade sink_tells devices_tell held given_at start page last text answered → WereMade sink_tells devices_tell held given_at start final text answered
+    were_made text [] until made = tt
+    were_made text (first ∷ answered) until made = (
+      (λ some told told_too.
+      let one = made.0 some told told_too in
+      record {
+        since = since_still held given_at start last final (length text) first.moment from (All-head (λ (a : Answered). a.moment ≤ from) first answered until) one.since (since told told_too);
+        by = ⊎_elim
+            (λ (all : GainsAllBut held given_at start last (text ++ reply_line first) (may_wait first.reply) first.moment). inl (all_but_still held given_at start last final (text ++ reply_line first) (may_wait first.reply) first.moment moment all (gains told told_too)))
+            (λ (end : (has_ended page ≡ true) × GivesPrefix (text ++ reply_line first) (held start) (held last)). inr (subst (λ k. GivesPrefix (text ++ reply_line first) (held start) (held k)) (sym (ended end.0)) end.1))
+            one.by;
+      }),
+      were_made (text ++ reply_line first) answered (All-tail (λ (a : Answered). a.moment ≤ from) first answered until) made.1,
+    )
 
--- what was gained by the moment of devices was so by that of the same devices
-pub same_moment : {D K : Type 0} (held given_at : K → List ℕ) (first last : K) (shown devices : D) (state : D → DevicesState) → shown ≡ devices → GainsBy held given_at first last (state shown).moment → GainsBy held given_at first last (state devices).moment
-same_moment held given_at first last shown devices state same gains = subst (λ d. GainsBy held given_at first last (state d).moment) same gains
+-- what was gained at the moment of devices was so at that of the same devices
+pub same_moment : {D K : Type 0} (held given_at : K → List ℕ) (first last : K) (shown devices : D) (state : D → DevicesState) → shown ≡ devices → GainsAt held given_at first last (state shown).moment → GainsAt held given_at first last (state devices).moment
+same_moment held given_at first last shown devices state same gains = subst (λ d. GainsAt held given_at first last (state d).moment) same gains
 
 -- The lines of a script were run but for the rest, which a volume runs.
 pub record RunsUpTo {D K : Type 0} (forest : Forest) (state : D → DevicesState) (devices_tell sink_tells : Type 0) (held given_at : K → List ℕ) (faults : K → ℕ) (script rest : List Line) (old new : SessionState D) (page new_page : Page) (sink new_sink : K) : Type 0 where
@@ -122,11 +136,14 @@ module _ {D K : Type 0} (forest : Forest) (state : D → DevicesState) (devices_
         (subst (AddsEntries forest state a c (filter_map entry_of one.answered ++ filter_map entry_of two.answered)) (sym (filter_map-append ack_of one.answered two.answered))
         (adds_then forest state a b c (filter_map entry_of one.answered) (filter_map entry_of two.answered) (filter_map ack_of one.answered) (filter_map ack_of two.answered) one.history two.history));
     gains = gains_on sink mid_sink last_sink b c two.history.after one.gains two.gains;
+    since = λ told told_too. since_still held given_at sink mid_sink last_sink 0 (state a.core.devices).moment (state b.core.devices).moment one.history.after.later (one.since told told_too) (two.since told told_too);
+    until = All-append (λ (x : Answered). x.moment ≤ (state c.core.devices).moment) one.answered two.answered
+        (All-weaker (λ (x : Answered). x.moment ≤ (state b.core.devices).moment) (λ (x : Answered). x.moment ≤ (state c.core.devices).moment) (λ x by_then. let later = two.history.after.later in omega (arith, by_then, later)) one.answered one.until) two.until;
     prints = λ start text prints gains.
         let earlier = one.prints start text prints gains in
         let later = two.prints start (text ++ reply_lines one.answered) earlier.prints (gains_on start sink mid_sink a b one.history.after gains one.gains) in record {
           prints = subst (λ t. Prints sink_tells held faults start t last last_sink) (append_assoc text (reply_lines one.answered) (reply_lines two.answered) ∙ ap (λ t. text ++ t) (sym (flat_map-append reply_line one.answered two.answered))) later.prints;
-          made = made_append sink_tells devices_tell held given_at start last last_sink text one.answered two.answered (made_later sink_tells devices_tell held given_at start mid last mid_sink last_sink text (state c.core.devices).moment one.answered two.ended two.gains earlier.made) later.made;
+          made = made_append sink_tells devices_tell held given_at start last last_sink text one.answered two.answered (made_later sink_tells devices_tell held given_at start mid last mid_sink last_sink (state b.core.devices).moment (state c.core.devices).moment two.ended two.gains two.since text one.answered one.until earlier.made) later.made;
         };
     ended = λ end. let mid_end = one.ended end in ((two.ended mid_end.0).0, (two.ended mid_end.0).1 ∙ mid_end.1);
     tally = two.tally
@@ -142,6 +159,8 @@ module _ {D K : Type 0} (forest : Forest) (state : D → DevicesState) (devices_
     are = refl;
     history = adds_nothing forest state log;
     gains = λ told told_too. gains_nothing held given_at sink (state log.core.devices).moment;
+    since = λ told told_too. since_nothing held given_at sink (state log.core.devices).moment;
+    until = All-nil (λ (x : Answered). x.moment ≤ (state log.core.devices).moment);
     prints = λ start text prints gains. record { prints = subst (λ t. Prints sink_tells held faults start t page sink) (sym (append-nil text)) prints; made = tt };
     ended = λ end. (end, refl);
     tally = refl;
@@ -151,27 +170,53 @@ module _ {D K : Type 0} (forest : Forest) (state : D → DevicesState) (devices_
   either true = inl refl
   either false = inr refl
 
+  -- What was given of a text is no more than it has.
+  no_longer : (text : List ℕ) (start : K) (page : Page) (sink : K) → Prints sink_tells held faults start text page sink → sink_tells → length (held sink) ≤ length (held start) + length text
+  no_longer text start page sink prints told =
+      let gave = prints.gave told in
+      omega (arith, ap length gave.holds, ap length gave.whole, length-append (held start) gave.given, length-append gave.given gave.rest)
+
+  -- While printing goes on, all but what waits was given.
+  all_but : (text : List ℕ) (most moment : ℕ) (start : K) (page : Page) (sink : K) → Prints sink_tells held faults start text page sink → has_ended page ≡ false → length page.lines ≤ most → sink_tells → GainsBy held given_at start sink moment → GainsAllBut held given_at start sink text most moment
+  all_but text most moment start page sink prints goes few told gains =
+      let gave = prints.gave told in
+      let waits : gave.rest ≡ page.lines = gave.pending (neither page.is_cut page.has_failed goes).0 (neither page.is_cut page.has_failed goes).1 in
+      record {
+        gained = gave.given;
+        rest = gave.rest;
+        whole = gave.whole;
+        few = omega (arith, few, ap length waits);
+        by = gains_text held given_at start sink gave.given moment gave.holds gains;
+      }
+
   -- a line is answered
   pub runs_one : (line : Line) (reply : Reply) (old new : SessionState D) (page new_page : Page) (sink new_sink : K) → AddsEntries forest state old new (cons_option (entry_by line.client line.op reply) []) (cons_option (ack_by (state new.core.devices).moment reply) [])
       → ((start : K) (text : List ℕ) → Prints sink_tells held faults start text page sink → Prints sink_tells held faults start (text ++ reply_line_by line.op line.client line.line reply) new_page new_sink)
-      → Gains state devices_tell sink_tells held given_at sink new_sink new
-      → (acknowledges reply ≡ true → has_ended new_page ≡ false → new_page.lines ≡ []) → (has_ended page ≡ true → has_ended new_page ≡ true) → (has_ended page ≡ true → new_sink ≡ sink) → new_page.tally ≡ tally_with page.tally reply
+      → (sink_tells → devices_tell → GainsAt held given_at sink new_sink (state new.core.devices).moment)
+      → (IsSome line.op → has_ended new_page ≡ false → length new_page.lines ≤ may_wait reply) → (has_ended page ≡ true → has_ended new_page ≡ true) → (has_ended page ≡ true → new_sink ≡ sink) → new_page.tally ≡ tally_with page.tally reply
       → RunsLines forest state devices_tell sink_tells held given_at faults (line ∷ []) old new page new_page sink new_sink
-  runs_one line reply old new page new_page sink new_sink adds prints gains given ended same tally =
+  runs_one line reply old new page new_page sink new_sink adds prints gains waits ended same tally =
       let moment = (state new.core.devices).moment in
-      let one : Answered = record { line = line; reply = reply; moment = moment } in record {
+      let one : Answered = record { line = line; reply = reply; moment = moment } in
+      let gains_by : Gains state devices_tell sink_tells held given_at sink new_sink new = λ told told_too. at_by held given_at sink new_sink moment (gains told told_too) in
+      record {
         answered = one ∷ [];
         are = refl;
         history = adds;
-        gains = gains;
+        gains = gains_by;
+        since = λ told told_too. at_since held given_at sink new_sink moment (state old.core.devices).moment adds.after.later (gains told told_too);
+        until = All-cons (λ (x : Answered). x.moment ≤ moment) one [] (omega arith) (All-nil (λ (x : Answered). x.moment ≤ moment));
         prints = λ start text before earlier.
             let after = prints start text before in record {
               prints = subst (λ t. Prints sink_tells held faults start (text ++ t) new_page new_sink) (sym (append-nil (reply_line one))) after;
               made = (
-                (λ ack told told_too. ⊎_elim
-                    (λ (end : has_ended new_page ≡ true). inr (end, all_or_part sink_tells held faults start (text ++ reply_line one) new_page new_sink after told))
-                    (λ (goes : has_ended new_page ≡ false). inl (gains_text held given_at start new_sink (text ++ reply_line one) moment (all_given sink_tells held faults start (text ++ reply_line one) new_page new_sink after goes (given ack goes) told) (gains_on start sink new_sink old new adds.after earlier gains told told_too)))
-                    (either (has_ended new_page))),
+                (λ some told told_too. record {
+                  since = since_behind held given_at start sink new_sink (length text) (state old.core.devices).moment moment (earlier told told_too) (no_longer text start page sink before told) (at_since held given_at sink new_sink moment moment (omega arith) (gains told told_too));
+                  by = ⊎_elim
+                      (λ (end : has_ended new_page ≡ true). inr (end, all_or_part sink_tells held faults start (text ++ reply_line one) new_page new_sink after told))
+                      (λ (goes : has_ended new_page ≡ false). inl (all_but (text ++ reply_line one) (may_wait reply) moment start new_page new_sink after goes (waits some goes) told (gains_on start sink new_sink old new adds.after earlier gains_by told told_too)))
+                      (either (has_ended new_page));
+                }),
                 tt,
               );
             };
@@ -208,10 +253,14 @@ module _ {D K : Type 0} (forest : Forest) (state : D → DevicesState) (devices_
       runs_one line Okay log log page page sink sink
       (subst (λ op. AddsEntries forest state log log (cons_option (entry_by line.client op Okay) []) []) (sym none) (adds_nothing forest state log))
       (λ start text prints. subst (λ op. Prints sink_tells held faults start (text ++ reply_line_by op line.client line.line Okay) page sink) (sym none) (subst (λ t. Prints sink_tells held faults start t page sink) (sym (append-nil text)) prints))
-      (λ told told_too. gains_nothing held given_at sink (state log.core.devices).moment)
-      (λ ack. absurd (cc)) (λ end. end) (λ end. refl)
+      (λ told told_too. at_nothing held given_at sink (state log.core.devices).moment)
+      (λ some. absurd (no_line line.op none some)) (λ end. end) (λ end. refl)
       (same_tally page.tally)
     where
+      no_line : (op : Option Op) → op ≡ None → IsSome op → ⊥
+      no_line None is some = absurd (false≢true some)
+      no_line (Some op) is some = absurd (cc)
+
       or_none : (x : Bool) → x ≡ (x || false)
       or_none true = refl
       or_none false = refl

@@ -10,6 +10,7 @@ use Rattle.shell.specs.Outcome.{Outcome, early_end_of}
 use Rattle.shell.specs.Runs.{Run}
 use Rattle.shell.specs.Output.{HasOutput}
 use Rattle.shell.specs.Causes.{HasCauses}
+use Rattle.shell.specs.Moments.{IsPrintedDurable}
 use Rattle.shell.specs.Mounts.{IsSure}
 use Rattle.shell.specs.Survived.{OpensVolume, IsSurvived}
 
@@ -24,11 +25,13 @@ pub record Headline {D K : Type 0} (source_tells sink_tells devices_tell : Type 
   pub means : OpensVolume devices_tell run.state mounted run.state_after opening outcome
   -- each reply is the plain forest's at its place in one history, from the forest of that volume on, but for failures that the operation may have
   pub legal : devices_tell → (f : Found) → MayRun f (now run.state) → IsSure f run.state mounted → IsLegal (forest_found opening mounted) run.trace
-  -- per client the operations are the script's, in order, and the text printed is theirs, each acknowledgement when it was made
+  -- per client the operations are the script's, in order, and the text printed is theirs, each line given to the sink in time
   pub told : HasOutput source_tells sink_tells devices_tell held given_at run (forest_found opening mounted) outcome
   -- every image that a crash may leave, at every moment of the run, mounts to a prefix that has all that was acknowledged, whole on every metadata device, and may be run again; or,
   -- of a format, means what it meant before, or nothing, or is the fresh volume
   pub survives : devices_tell → IsSurvived run.state mounted run.state_after run.trace run.acks outcome
+  -- whoever has been given the line of an acknowledgement knows so many commits durable: whatever a crash leaves from then on has them
+  pub printed : sink_tells → devices_tell → IsPrintedDurable held given_at run.sink run.sink_after run.state mounted run.state_after run.trace run.acks outcome
   -- one acknowledgement for each sync that succeeded, in order, with its number and its moment
   pub acknowledged : AreAcks run.state.moment run.state_after.moment run.trace run.acks
   -- the status and every failure has its cause

@@ -5,6 +5,7 @@ pub mod Tasks
 pub mod Mounts
 pub mod Informing
 pub mod Runs
+pub mod Moments
 pub mod Output
 pub mod Causes
 pub mod Survived

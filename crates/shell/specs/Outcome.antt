@@ -1,5 +1,5 @@
 -- How a run goes, from beginning to end.
-use Rattle.std.specs.Prelude.{ℕ, length, slice_index, List, [], ◌∷◌, ◌++◌, map, max, codes, Bool, true, false, Option, Some, None, option_map}
+use Rattle.std.specs.Prelude.{ℕ, ◌-◌, if◌then◌else◌, length, slice_index, List, [], ◌∷◌, ◌++◌, map, max, codes, Bool, true, false, Option, Some, None, option_map}
 use Rattle.std.specs.List.{cons_option, filter_map, flat_map}
 use Rattle.std.specs.Fmt.{decimal}
 use Rattle.plain_forest.specs.Forest.{Forest}
@@ -145,6 +145,14 @@ replies_of answered last = map (λ a. a.reply) answered ++ last ∷ []
 abbrev pub acknowledges : Reply → Bool
 acknowledges (Synced count) = true
 acknowledges reply = false
+
+-- so many bytes of lines may gather before they are given to the sink: 4 KiB
+abbrev pub most_gathered : ℕ
+most_gathered = 4096
+
+-- the most bytes of lines that may wait behind a reply: none where it acknowledges commits, and else fewer than may gather
+abbrev pub may_wait : Reply → ℕ
+may_wait reply = if acknowledges reply then 0 else most_gathered - 1
 
 -- how many commits a reply says are durable; 0 where it says nothing of that
 abbrev pub synced_by : Reply → ℕ

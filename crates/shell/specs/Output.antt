@@ -1,6 +1,6 @@
 -- Which script ran, what its lines were answered, and what was printed.
-use Rattle.std.specs.Prelude.{◌≡◌, ◌≢◌, ◌⊎◌, ℕ, ◌^◌, ◌≤◌, true, List, [], ◌∷◌, ◌++◌, length, map}
-use Rattle.text_io.specs.Streams.{GainsTextBy, GivesPrefix}
+use Rattle.std.specs.Prelude.{◌≡◌, ◌≢◌, ℕ, ◌^◌, ◌≤◌, IsSome, List, [], ◌∷◌, ◌++◌, length, map}
+use Rattle.text_io.specs.Streams.{GivesPrefix}
 use Rattle.plain_forest.specs.Forest.{Forest}
 use Rattle.forest_ops.specs.History.{History}
 use Rattle.forest_ops.specs.declared.operation.Reply.{Reply}
@@ -9,7 +9,8 @@ use Rattle.script_text.specs.Lines.{lines_of}
 use Rattle.script_text.specs.Scripts.{IsScript}
 use Rattle.script_text.specs.declared.reading.Line.{Line}
 use Rattle.forest_ops.specs.Fits.{Fits}
-use Rattle.shell.specs.Outcome.{Outcome, EndedEarly, Ran, Formatted, Informed, Answered, acks_of, acknowledges, early_line, format_line, entries_of, line_reply, reply_line, text_of}
+use Rattle.shell.specs.Outcome.{Outcome, EndedEarly, Ran, Formatted, Informed, Answered, acks_of, early_line, format_line, entries_of, line_reply, reply_line, text_of}
+use Rattle.shell.specs.Moments.{IsGivenInTime}
 use Rattle.shell.specs.Runs.{Run, Streams}
 use Rattle.vol_info.specs.Lines.{info_lines}
 
@@ -34,23 +35,21 @@ pub record HasLine (sink_tells : Type 0) (streams : Streams) (status : ℕ) (tra
   pub prefix : sink_tells → GivesPrefix line streams.held streams.held_after
   pub whole : sink_tells → status ≢ 5 → streams.held_after ≡ streams.held ++ line
 
--- Where it is an acknowledgement, the lines up to it were given to the sink by the moment of the devices at which it was made:
--- before any later call of a device. Or no more than these lines was ever printed.
+-- Where it answers an operation its line was given in time, behind those with the text before it.
 abbrev pub WasMade : {K : Type 0} → Type 0 → Type 0 → (K → List ℕ) → (K → List ℕ) → K → K → List ℕ → Answered → Type 0
-WasMade {K} sink_tells devices_tell held given_at first last text answered =
-    acknowledges answered.reply ≡ true → sink_tells → devices_tell
-    → GainsTextBy held given_at first last text answered.moment ⊎ GivesPrefix text (held first) (held last)
+WasMade {K} sink_tells devices_tell held given_at first last before answered =
+    IsSome answered.line.op → sink_tells → devices_tell → IsGivenInTime held given_at first last before answered
 
--- Each acknowledgement was printed when it was made, after the lines that have this text.
+-- So was the line of each answer, after those that have this text.
 abbrev pub WereMade : {K : Type 0} → Type 0 → Type 0 → (K → List ℕ) → (K → List ℕ) → K → K → List ℕ → List Answered → Type 0
 WereMade sink_tells devices_tell held given_at first last text [] = Unit {0}
 WereMade sink_tells devices_tell held given_at first last text (one ∷ answered) =
-    WasMade sink_tells devices_tell held given_at first last (text ++ reply_line one) one
+    WasMade sink_tells devices_tell held given_at first last text one
     × WereMade sink_tells devices_tell held given_at first last (text ++ reply_line one) answered
 
 -- Each line of the source's script was answered, in order, and then a sync. The history has the entries of these answers,
 -- their replies fit it, phase by phase, and the sink has gained their text, or a prefix of it with status 5 or 7. The
--- acknowledgements are those of the answers, each with the moment of its answer, and each was printed when it was made.
+-- acknowledgements are those of the answers, each with the moment of its answer, and each line was given to the sink in time.
 pub record HasRun {K : Type 0} (source_tells sink_tells devices_tell : Type 0) (held given_at : K → List ℕ) (sink sink_after : K) (streams : Streams) (status : ℕ) (opening : Forest) (trace : History) (acks : List Ack) (moment_after : ℕ) (script : List Line) (answered : List Answered) (last : Reply) : Type 0 where
   pub reads : GaveScript source_tells streams.left script
   pub lines : map (λ a. a.line) answered ≡ script

@@ -1,11 +1,11 @@
 -- How lines are answered, one after another, and what their replies amount to.
-use Rattle.std.specs.Prelude.{◌≡◌, ◌≢◌, ◌⊎◌, ◌<◌, ◌≤◌, ℕ, length, IfSome, option_and_then, option_map, ◌||◌, true, max, List, [], ◌∷◌, ◌++◌, map, Option, Some, None}
+use Rattle.std.specs.Prelude.{◌≡◌, ◌≢◌, ◌⊎◌, ◌<◌, ◌≤◌, ℕ, All, length, IfSome, IsSome, option_and_then, option_map, ◌||◌, true, max, List, [], ◌∷◌, ◌++◌, map, Option, Some, None}
 use Rattle.std.specs.List.{cons_option, filter_map}
 use Rattle.vol_types.specs.Faults.{RoseBy}
 use Rattle.dev_model.specs.Devices.{DevicesState}
 use Rattle.dev_model.specs.Frames.{AreAfterCalls, AreOnlyRead, GoOn}
 use Rattle.plain_forest.specs.Forest.{Forest}
-use Rattle.text_io.specs.Streams.{GainsBy, GainsTextBy, GivesPrefix}
+use Rattle.text_io.specs.Streams.{GainsBy, GivesPrefix}
 use Rattle.script_text.specs.Replies.{end_line_of}
 use Rattle.forest_ops.specs.History.{EachEntry, History, IsLegal, commit_count}
 use Rattle.forest_ops.specs.declared.operation.Reply.{Reply}
@@ -30,7 +30,8 @@ use Rattle.shell.specs.declared.early_end.EarlyEnd.{EarlyEnd}
 use Rattle.shell.specs.EarlyEnds.{end_of_disk}
 use Rattle.shell.specs.declared.early_end.EarlyEnd.TheVariants.{OutOfMemory}
 use Rattle.shell.specs.Mounts.{ComesAfter, InfoCause}
-use Rattle.shell.specs.Outcome.{Answered, ack_by, ack_of, acks_of, acknowledges, early_line, early_status, entries_of, entry_of, format_line, format_status, replies_of, reply_line, reply_lines, synced_by, text_of}
+use Rattle.shell.specs.Moments.{GainsAllBut, GainsSince}
+use Rattle.shell.specs.Outcome.{Answered, ack_by, ack_of, acks_of, early_line, early_status, entries_of, entry_of, format_line, format_status, may_wait, replies_of, reply_line, reply_lines, synced_by, text_of}
 use Rattle.shell.specs.Printing.{Prints, has_ended}
 use Rattle.shell.specs.Output.{WereMade}
 use Rattle.shell.specs.Survived.{HoldsFresh, Informs}
@@ -65,25 +66,32 @@ pub record AddsEntries {D : Type 0} (forest : Forest) (state : D → DevicesStat
   pub counted : AreSyncsCounted forest old.trace → AreSyncsCounted forest new.trace
   pub after : GoOn (state old.core.devices) (state new.core.devices)
 
--- Where it is an acknowledgement, the sink had gained the lines up to it by the moment at which it was made; or printing has
--- ended, and the sink has gained a prefix of them.
+-- A line, behind those with the text before it, was given to the sink in time: as `IsGivenInTime` says, or printing has ended, and the sink has gained a prefix of them.
+pub record IsGivenSoFar {K : Type 0} (held given_at : K → List ℕ) (start : K) (page : Page) (last : K) (before : List ℕ) (answered : Answered) : Type 0 where
+  pub since : GainsSince held given_at start last (length before) answered.moment
+  pub by : GainsAllBut held given_at start last (before ++ reply_line answered) (may_wait answered.reply) answered.moment ⊎ ((has_ended page ≡ true) × GivesPrefix (before ++ reply_line answered) (held start) (held last))
+
+-- So was the line of an operation.
 abbrev pub IsMade : {K : Type 0} → Type 0 → Type 0 → (K → List ℕ) → (K → List ℕ) → K → Page → K → List ℕ → Answered → Type 0
-IsMade {K} sink_tells devices_tell held given_at start page last text answered =
-    acknowledges answered.reply ≡ true → sink_tells → devices_tell
-    → GainsTextBy held given_at start last text answered.moment ⊎ ((has_ended page ≡ true) × GivesPrefix text (held start) (held last))
+IsMade {K} sink_tells devices_tell held given_at start page last before answered =
+    IsSome answered.line.op → sink_tells → devices_tell → IsGivenSoFar held given_at start page last before answered
 
 -- so is each of these answers, the lines before which have this text
 abbrev pub AreMade : {K : Type 0} → Type 0 → Type 0 → (K → List ℕ) → (K → List ℕ) → K → Page → K → List ℕ → List Answered → Type 0
 AreMade sink_tells devices_tell held given_at start page last text [] = Unit {0}
 AreMade sink_tells devices_tell held given_at start page last text (first ∷ answered) =
-    IsMade sink_tells devices_tell held given_at start page last (text ++ reply_line first) first
+    IsMade sink_tells devices_tell held given_at start page last text first
     × AreMade sink_tells devices_tell held given_at start page last (text ++ reply_line first) answered
 
 -- What a sink gained between two states of a session it gained by the moment of the second.
 abbrev pub Gains : {D K : Type 0} → (D → DevicesState) → Type 0 → Type 0 → (K → List ℕ) → (K → List ℕ) → K → K → SessionState D → Type 0
 Gains state devices_tell sink_tells held given_at first last log = sink_tells → devices_tell → GainsBy held given_at first last (state log.core.devices).moment
 
--- The lines of these answers were printed after a text, each acknowledgement when it was made.
+-- What a sink gained between two states of a session it gained at the moment of the first or later.
+abbrev pub SinceThen : {D K : Type 0} → (D → DevicesState) → Type 0 → Type 0 → (K → List ℕ) → (K → List ℕ) → K → K → SessionState D → Type 0
+SinceThen state devices_tell sink_tells held given_at first last log = sink_tells → devices_tell → GainsSince held given_at first last 0 (state log.core.devices).moment
+
+-- The lines of these answers were printed after a text, each of them in time.
 pub record PrintsLines {K : Type 0} (sink_tells devices_tell : Type 0) (held given_at : K → List ℕ) (faults : K → ℕ) (start : K) (text : List ℕ) (answered : List Answered) (page : Page) (sink : K) : Type 0 where
   pub prints : Prints sink_tells held faults start (text ++ reply_lines answered) page sink
   pub made : AreMade sink_tells devices_tell held given_at start page sink text answered
@@ -94,6 +102,8 @@ pub record RunsLines {D K : Type 0} (forest : Forest) (state : D → DevicesStat
   pub are : map (λ a. a.line) answered ≡ lines
   pub history : AddsEntries forest state old new (filter_map entry_of answered) (filter_map ack_of answered)
   pub gains : Gains state devices_tell sink_tells held given_at sink new_sink new
+  pub since : SinceThen state devices_tell sink_tells held given_at sink new_sink old
+  pub until : All (λ (a : Answered). a.moment ≤ (state new.core.devices).moment) answered
   pub prints : (start : K) (text : List ℕ) → Prints sink_tells held faults start text page sink → Gains state devices_tell sink_tells held given_at start sink old
       → PrintsLines sink_tells devices_tell held given_at faults start text answered new_page new_sink
   pub ended : has_ended page ≡ true → (has_ended new_page ≡ true) × (new_sink ≡ sink)
@@ -123,6 +133,7 @@ pub record RunsEnd {D K : Type 0} (forest : Forest) (state : D → DevicesState)
   pub reply : Reply
   pub history : AddsEntries forest state old new (last_entry reply) (cons_option (ack_by (state new.core.devices).moment reply) [])
   pub gains : Gains state devices_tell sink_tells held given_at sink new_sink new
+  pub since : SinceThen state devices_tell sink_tells held given_at sink new_sink old
   pub ends : (start : K) (text : List ℕ) → Prints sink_tells held faults start text page sink
       → EndsPrinting sink_tells held faults start (text_with_end forest new.trace (tally_with page.tally reply) text) (tally_with page.tally reply) new_sink status
   pub ended : has_ended page ≡ true → new_sink ≡ sink

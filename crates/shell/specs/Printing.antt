@@ -1,12 +1,22 @@
 -- What has been printed of a run's text by now.
-use Rattle.std.specs.Prelude.{◌≡◌, ℕ, ◌<◌, Bool, true, false, ◌||◌, if◌then◌else◌, List, ◌++◌, length}
+use Rattle.std.specs.Prelude.{◌≡◌, ℕ, ◌<◌, nat_le, Bool, true, false, ◌||◌, if◌then◌else◌, List, [], ◌++◌, length}
 use Rattle.vol_types.specs.Faults.{RoseBy}
 use Rattle.shell.specs.declared.page.Page.{Page}
+use Rattle.forest_ops.specs.declared.operation.Reply.{Reply}
 use Rattle.shell.specs.Causes.{asked_status}
+use Rattle.shell.specs.Outcome.{acknowledges, most_gathered}
 
 -- nothing more is printed: a line was out of memory, or the sink has failed
 abbrev pub has_ended : Page → Bool
 has_ended page = page.is_cut || page.has_failed
+
+-- whether lines of so many bytes are given to the sink behind this reply: it acknowledges commits, or they are many
+abbrev pub is_due : ℕ → Reply → Bool
+is_due gathered reply = acknowledges reply || nat_le most_gathered gathered
+
+-- the lines that wait behind a reply: those before it and its own, or none where they are due
+abbrev pub lines_after : List ℕ → List ℕ → Reply → List ℕ
+lines_after lines line reply = if is_due (length (lines ++ line)) reply then [] else lines ++ line
 
 -- the status of a run that has printed this
 abbrev pub page_status : Page → ℕ

@@ -1,8 +1,8 @@
 ghost use Rattle.std.specs.Prelude.{◌≡◌, ◌<◌, ◌++◌, [], true, false, ℕ, List, length};
-ghost use Rattle.text_io.specs.Streams.{GainsBy};
 ghost use Rattle.script_text.specs.Replies.{reply_line_of, end_line_of};
 ghost use Rattle.shell.specs.Outcome.{acknowledges};
-ghost use Rattle.shell.specs.Printing.{Prints, has_ended, page_status};
+ghost use Rattle.shell.specs.Moments.{GainsAt};
+ghost use Rattle.shell.specs.Printing.{Prints, has_ended, is_due, lines_after, page_status};
 ghost use Rattle.shell.specs.Phases.{tally_with};
 
 use crate::tally::Tally;
@@ -86,7 +86,7 @@ pub fn give_lines<K: Sink<D>, D: Devices>(page: &mut Page, sink: &mut K, devices
         page.old sink.old → Prints K.tells K.held K.faults start text page.new sink.new }
     ensures given { page.new.lines ≡ [] }
     ensures cut { page.new.is_cut ≡ page.old.is_cut }
-    ensures gains { K.tells → GainsBy K.held K.given_at sink.old sink.new
+    ensures gains { K.tells → GainsAt K.held K.given_at sink.old sink.new
         (D.state devices.now).moment }
     ensures tally { page.new.tally ≡ page.old.tally }
     ensures ended { has_ended page.old ≡ true → has_ended page.new ≡ true }
@@ -113,10 +113,14 @@ pub fn print_reply<K: Sink<D>, D: Devices>(
     ensures prints { (start : K) (text : List ℕ) → Prints K.tells K.held K.faults start text
         page.old sink.old → Prints K.tells K.held K.faults start
         (text ++ reply_line_of client line reply.now) page.new sink.new }
-    ensures gains { K.tells → GainsBy K.held K.given_at sink.old sink.new
+    ensures gains { K.tells → GainsAt K.held K.given_at sink.old sink.new
         (D.state devices.now).moment }
     ensures tally { page.new.tally ≡ tally_with page.old.tally reply.now }
-    ensures made { acknowledges reply.now ≡ true → has_ended page.new ≡ false → page.new.lines ≡ [] }
+    ensures waits { has_ended page.new ≡ false → page.new.lines ≡ lines_after page.old.lines
+        (reply_line_of client line reply.now) reply.now }
+    ensures kept { has_ended page.new ≡ false
+        → is_due (length (page.old.lines ++ reply_line_of client line reply.now)) reply.now ≡ false
+        → sink.new ≡ sink.old }
     ensures ended { has_ended page.old ≡ true → has_ended page.new ≡ true }
     ensures same { has_ended page.old ≡ true → sink.new ≡ sink.old }
 {
@@ -136,10 +140,14 @@ fn print_line<K: Sink<D>, D: Devices>(
     ensures prints { (start : K) (text : List ℕ) → Prints K.tells K.held K.faults start text
         page.old sink.old → Prints K.tells K.held K.faults start
         (text ++ reply_line_of client line reply.now) page.new sink.new }
-    ensures gains { K.tells → GainsBy K.held K.given_at sink.old sink.new
+    ensures gains { K.tells → GainsAt K.held K.given_at sink.old sink.new
         (D.state devices.now).moment }
     ensures tally { page.new.tally ≡ page.old.tally }
-    ensures made { acknowledges reply.now ≡ true → has_ended page.new ≡ false → page.new.lines ≡ [] }
+    ensures waits { has_ended page.new ≡ false → page.new.lines ≡ lines_after page.old.lines
+        (reply_line_of client line reply.now) reply.now }
+    ensures kept { has_ended page.new ≡ false
+        → is_due (length (page.old.lines ++ reply_line_of client line reply.now)) reply.now ≡ false
+        → sink.new ≡ sink.old }
     ensures ended { has_ended page.old ≡ true → has_ended page.new ≡ true }
     ensures same { has_ended page.old ≡ true → sink.new ≡ sink.old }
 {
@@ -158,7 +166,7 @@ fn print_line<K: Sink<D>, D: Devices>(
 
 // Whether so many bytes of lines are to be given to the sink: they are many, or the reply acknowledges commits.
 fn are_due(gathered: usize, reply: &Reply) -> bool
-    ensures { acknowledges reply.now ≡ true → result ≡ true }
+    ensures { result ≡ is_due gathered reply.now }
 {
     acknowledges(reply) || gathered >= MOST_GATHERED
 }
@@ -169,7 +177,7 @@ fn cut<K: Sink<D>, D: Devices>(page: &mut Page, sink: &mut K, devices: &D)
     ensures prints { (start : K) (text line : List ℕ) → 0 < length line
         → Prints K.tells K.held K.faults start text page.old sink.old
         → Prints K.tells K.held K.faults start (text ++ line) page.new sink.new }
-    ensures gains { K.tells → GainsBy K.held K.given_at sink.old sink.new
+    ensures gains { K.tells → GainsAt K.held K.given_at sink.old sink.new
         (D.state devices.now).moment }
     ensures tally { page.new.tally ≡ page.old.tally }
     ensures ended { has_ended page.new ≡ true }
@@ -184,7 +192,7 @@ pub fn print_end<K: Sink<D>, D: Devices>(page: &mut Page, sink: &mut K, devices:
         page.old sink.old → Prints K.tells K.held K.faults start
         (text ++ end_line_of commits page.old.tally.synced) page.new sink.new }
     ensures given { has_ended page.new ≡ false → page.new.lines ≡ [] }
-    ensures gains { K.tells → GainsBy K.held K.given_at sink.old sink.new
+    ensures gains { K.tells → GainsAt K.held K.given_at sink.old sink.new
         (D.state devices.now).moment }
     ensures tally { page.new.tally ≡ page.old.tally }
     ensures same { has_ended page.old ≡ true → sink.new ≡ sink.old }

@@ -1,7 +1,7 @@
 use Rattle.std.proofs.Common.{◌≡◌, ◌++◌, refl, ◌∙◌, sym, subst}
 use Rattle.std.specs.Prelude.{OnOk, OnErr}
 use Rattle.text_io.specs.Streams.{GivesPrefix}
-use Rattle.text_io.specs.StreamLaws.{gains_given, gains_nothing}
+use Rattle.shell.proofs.Moments.{at_given, at_nothing}
 use Rattle.shell.specs.declared.page.Page.{Page}
 use Rattle.shell.proofs.Printing.{prints_ended, prints_given}
 use Rattle.shell.proofs.page.give_lines.Goals as goal
@@ -27,14 +27,14 @@ returns-clause-prints g c start text prints =
 
 pub returns-then-has_ended-clause-gains : goal.returns-then-has_ended-clause-gains
 returns-then-has_ended-clause-gains g c told =
-    gains_nothing g.K.Sink.held g.K.Sink.given_at c.args.sink.now (g.D.Devices.state c.args.devices.now).moment
+    at_nothing g.K.Sink.held g.K.Sink.given_at c.args.sink.now (g.D.Devices.state c.args.devices.now).moment
 
 pub returns-clause-gains : goal.returns-clause-gains
 returns-clause-gains g c told =
     let K = g.K.Sink in
     let held = K.held c.args.sink.now in
     let held_after = K.held c.give_all.new.sink in
-    gains_given K.held K.given_at c.give_all.result c.args.sink.now c.give_all.new.sink c.args.page.now.lines (g.D.Devices.state c.args.devices.now).moment
+    at_given K.held K.given_at c.give_all.result c.args.sink.now c.give_all.new.sink c.args.page.now.lines (g.D.Devices.state c.args.devices.now).moment
     (subst (λ b. OnOk c.give_all.result (held_after ≡ held ++ b)) c.as_slice.ensures (c.give_all.ensures.ok told))
     (subst (λ b. OnErr c.give_all.result (GivesPrefix b held held_after)) c.as_slice.ensures (c.give_all.ensures.failed told))
     (c.give_all.ensures.moment told)

@@ -1,6 +1,6 @@
 use Rattle.std.proofs.Common.{◌++◌, refl, ◌∙◌, sym}
 use Rattle.std.proofs.lemmas.Bool.{false≢true}
-use Rattle.text_io.specs.StreamLaws.{gains_nothing}
+use Rattle.shell.proofs.Moments.{at_nothing}
 use Rattle.script_text.specs.Replies.{end_line_of}
 use Rattle.shell.specs.declared.page.Page.{Page}
 use Rattle.shell.proofs.Running.{on_err_of, on_ok_of}
@@ -48,4 +48,4 @@ returns-clause-same g c ended = absurd (false≢true (sym (sym c.has_ended.ensur
 
 pub returns-then-has_ended-clause-gains : goal.returns-then-has_ended-clause-gains
 returns-then-has_ended-clause-gains g c told =
-    gains_nothing g.K.Sink.held g.K.Sink.given_at c.args.sink.now (g.D.Devices.state c.args.devices.now).moment
+    at_nothing g.K.Sink.held g.K.Sink.given_at c.args.sink.now (g.D.Devices.state c.args.devices.now).moment

@@ -1,5 +1,8 @@
 use Rattle.vol_session.specs.Marks.{forest_found}
-use Rattle.std.proofs.Common.{Some}
+use Rattle.std.proofs.Common.{ℕ, ◌≤◌, List, Some, length, subst, sym}
+use Rattle.script_text.specs.Replies.{reply_line_of}
+use Rattle.shell.specs.Outcome.{may_wait}
+use Rattle.shell.proofs.Moments.{few_wait}
 use Rattle.script_text.specs.declared.reading.Line.{Line}
 use Rattle.shell.proofs.Running.{runs_one, same_moment}
 use Rattle.shell.proofs.phases.answer.Goals as goal
@@ -20,4 +23,4 @@ returns g c =
     c.reply_to-reply.ensures
     c.print_reply.ensures.prints
     (λ told told_too. same_moment K.held K.given_at c.args.sink.now last_sink c.devices.result.now new.core.devices D.state c.devices.ensures (c.print_reply.ensures.gains told))
-    c.print_reply.ensures.made c.print_reply.ensures.ended c.print_reply.ensures.same c.print_reply.ensures.tally
+    (λ some goes. subst (λ (lines : List ℕ). length lines ≤ may_wait reply) (sym (c.print_reply.ensures.waits goes)) (few_wait page.lines (reply_line_of c.args.client c.args.number reply) reply)) c.print_reply.ensures.ended c.print_reply.ensures.same c.print_reply.ensures.tally

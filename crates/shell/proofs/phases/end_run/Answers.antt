@@ -1,5 +1,5 @@
 use Rattle.vol_session.specs.Marks.{forest_found}
-use Rattle.std.proofs.Common.{◌≡◌, true, ℕ, ◌++◌, ap, ◌∙◌, sym, subst}
+use Rattle.std.proofs.Common.{◌≡◌, ◌≤◌, true, ℕ, ◌++◌, ap, ◌∙◌, sym, subst, arith}
 use Rattle.script_text.specs.Replies.{end_line_of}
 use Rattle.forest_ops.specs.History.{commit_count}
 use Rattle.shell.specs.declared.tally.Tally.{Tally}
@@ -9,6 +9,8 @@ use Rattle.shell.specs.Printing.{Prints, has_ended, page_status}
 use Rattle.shell.proofs.Ending.{ends_printing}
 use Rattle.text_io.specs.StreamLaws.{gains_then}
 use Rattle.shell.proofs.Printing.{prints_noted}
+use Rattle.shell.specs.Moments.{GainsAt}
+use Rattle.shell.proofs.Moments.{at_by, at_since, since_still}
 use Rattle.shell.proofs.Running.{same_moment}
 use Rattle.shell.proofs.phases.end_run.Goals as goal
 
@@ -27,6 +29,13 @@ returns g c =
     let tally : synced.tally ≡ tally_with page.tally sync.reply = ap (λ (p : Page). p.tally) sync.noted ∙ ap (λ (t : Tally). tally_with t sync.reply) c.give_lines.ensures.tally in
     let line : end_line_of c.commits.result synced.tally.synced ≡ end_line_of (commit_count forest trace) (tally_with page.tally sync.reply).synced =
     ap (λ n. end_line_of n synced.tally.synced) c.commits.ensures ∙ ap (λ (t : Tally). end_line_of (commit_count forest trace) t.synced) tally in
+    let D = g.D.Devices in
+    let from = (D.state c.args.volume.now.core.devices).moment in
+    let to = (D.state c.final_sync.new.volume.core.devices).moment in
+    let before_sync : K.tells → GainsAt K.held K.given_at c.args.sink.now mid_sink from =
+    λ told. same_moment K.held K.given_at c.args.sink.now mid_sink c.devices.result.now c.args.volume.now.core.devices D.state c.devices.ensures (c.give_lines.ensures.gains told) in
+    let behind_sync : K.tells → GainsAt K.held K.given_at mid_sink last_sink to =
+    λ told. same_moment K.held K.given_at mid_sink last_sink c.devices-2.result.now c.final_sync.new.volume.core.devices D.state c.devices-2.ensures (c.print_end.ensures.gains told) in
     record {
       reply = sync.reply;
       history = sync.history;
@@ -38,11 +47,11 @@ returns g c =
           (subst (λ (t : Tally). EndsPrinting K.tells K.held K.faults start (text_with_end forest trace (tally_with page.tally sync.reply) text) t last_sink (page_status last)) (c.print_end.ensures.tally ∙ tally)
           (ends_printing K.tells K.held K.faults start (text_with_end forest trace (tally_with page.tally sync.reply) text) last last_sink after c.print_end.ensures.given));
       gains = λ told told_too.
-          let D = g.D.Devices in
           let first = c.args.sink.now in
-          gains_then K.held K.given_at first mid_sink last_sink (D.state c.args.volume.now.core.devices).moment (D.state c.final_sync.new.volume.core.devices).moment sync.history.after.later
-          (same_moment K.held K.given_at first mid_sink c.devices.result.now c.args.volume.now.core.devices D.state c.devices.ensures (c.give_lines.ensures.gains told))
-          (same_moment K.held K.given_at mid_sink last_sink c.devices-2.result.now c.final_sync.new.volume.core.devices D.state c.devices-2.ensures (c.print_end.ensures.gains told));
+          gains_then K.held K.given_at first mid_sink last_sink from to sync.history.after.later (at_by K.held K.given_at first mid_sink from (before_sync told)) (at_by K.held K.given_at mid_sink last_sink to (behind_sync told));
+      since = λ told told_too.
+          let first = c.args.sink.now in
+          since_still K.held K.given_at first mid_sink last_sink 0 from to sync.history.after.later (at_since K.held K.given_at first mid_sink from from (omega arith) (before_sync told)) (at_since K.held K.given_at mid_sink last_sink to to (omega arith) (behind_sync told));
       ended = λ end.
           let mid_end : has_ended synced ≡ true = ap has_ended sync.noted ∙ c.give_lines.ensures.ended end in
           c.print_end.ensures.same mid_end ∙ c.give_lines.ensures.same end;
