@@ -1,5 +1,5 @@
 -- What a volume keeps between its operations, beside what its session keeps: the failures that its history tells, and what its clients have under way, which is nothing.
-use Rattle.std.specs.Prelude.{◌≡◌, ◌<◌, ◌^◌, ℕ, All, false, Option, None, length, option_map, is_some}
+use Rattle.std.specs.Prelude.{◌≡◌, ◌<◌, ◌^◌, ℕ, All, false, Option, None, List, length, option_map, is_some}
 use Rattle.core_actors.specs.Actors.{holds}
 use Rattle.core_actors.specs.declared.actor.Actor.{Actor}
 use Rattle.core_state.specs.States.{State, mine}
@@ -7,6 +7,7 @@ use Rattle.vol_types.specs.declared.failure.Halt.{Halt}
 use Rattle.dev_model.specs.Devices.{DevicesState}
 use Rattle.dev_model.specs.Frames.{after_writes}
 use Rattle.forest_ops.specs.History.{History}
+use Rattle.forest_ops.specs.declared.acks.Ack.{Ack}
 use Rattle.forest_ops.specs.declared.operation.Entry.{Entry}
 use Rattle.forest_ops.specs.Classes.{class_of}
 use Rattle.forest_ops.specs.declared.operation.Class.TheVariants.{Syncs}
@@ -14,9 +15,24 @@ use Rattle.forest_ops.specs.declared.operation.Reply.TheVariants.{Spent}
 use Rattle.image_view.specs.Found.{Found}
 use Rattle.forest_ops.specs.Failures.{Halts, HaveCauses, NoCommitAfterHalt, has_failed}
 use Rattle.vol_session.specs.Marks.{forest_found}
+use Rattle.vol_core.specs.Cores.{CoreState}
 use Rattle.vol_core.specs.Room.{LeavesRoom}
 use Rattle.vol_session.specs.Numbers.{IsFarFromSpent}
+use Rattle.vol_session.specs.Sessions.{SessionState}
 use Rattle.vol_session.specs.Survivors.{BeginsWell}
+
+-- a session, and how many operations it was called with, up to 2^64 - 1
+pub record VolumeState (D : Type 0) : Type 0 where
+  pub core : CoreState D
+  pub trace : History
+  pub acks : List Ack
+  pub commits : ℕ
+  pub spare : ℕ
+  pub calls : ℕ
+
+-- the session of a volume
+abbrev pub session_in : {D : Type 0} → VolumeState D → SessionState D
+session_in volume = record { core = volume.core; trace = volume.trace; acks = volume.acks; commits = volume.commits; spare = volume.spare }
 
 -- the device that failed, if the session has stopped writing
 abbrev pub halted_device : Option Halt → Option ℕ

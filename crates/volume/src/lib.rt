@@ -4,9 +4,11 @@
 //! before the commit is tried again; so a volume that is short of these alone is never refused for it.
 #![tactic(auto)]
 
+mod calls;
 mod committing;
 mod planner;
 mod serving;
 mod state;
 
+pub use calls::Calls;
 pub use state::{Finished, VolState};

@@ -1,4 +1,5 @@
 ghost use Rattle.std.specs.Prelude.{◌≡◌, ◌<◌, [], IfErr, IfOk, OnErr, is_some, true};
+ghost use Rattle.core_actors.specs.Actors.{one_more};
 ghost use Rattle.core_state.specs.Opening.{IsOpened};
 ghost use Rattle.dev_model.specs.Frames.{GoOn, after_writes};
 ghost use Rattle.forest_ops.specs.History.{EachEntry, IsLegal, commit_count};
@@ -14,8 +15,9 @@ ghost use Rattle.vol_session.specs.Sessions.{IsExact};
 ghost use Rattle.vol_session.specs.Survivors.{BeginsWell, Survive};
 ghost use Rattle.volume.specs.Answers.{AcknowledgesAll, HasCause, IsAnswered};
 ghost use Rattle.volume.specs.Serving.{IsWriting};
-ghost use Rattle.volume.specs.States.{AreUnspent, halted_device};
+ghost use Rattle.volume.specs.States.{AreUnspent, halted_device, session_in};
 
+use crate::calls::Calls;
 use crate::serving::answer;
 use dev_model::Devices;
 use forest_ops::{Acks, Op, Reply, Trace};
@@ -31,6 +33,7 @@ use vol_types::Halt;
 pub struct VolState<D: Devices, O: Opening> {
     alloc: Global,
     session: Session<D, O>,
+    calls: Calls,
 }
 
 /// What a session leaves.
@@ -41,15 +44,22 @@ pub struct Finished<D> {
     pub acks: Acks,
     /// How it stopped writing, if it did.
     pub halted: Option<Halt>,
+    pub calls: Calls,
 }
 
 impl<D: Devices, O: Opening> Model for VolState<D, O> {
-    ghost use Rattle.vol_session.specs.Sessions.{SessionState};
-    ghost use Rattle.volume.specs.States.{IsBetween};
+    ghost use Rattle.volume.specs.States.{IsBetween, VolumeState};
 
-    ghost Value = { SessionState D };
+    ghost Value = { VolumeState D };
 
-    ghost view = { λ v. v.session };
+    ghost view = { λ v. record {
+      core = v.session.core;
+      trace = v.session.trace;
+      acks = v.session.acks;
+      commits = v.session.commits;
+      spare = v.session.spare;
+      calls = v.calls;
+    } };
 
     ghost invariant = { λ v. IsBetween D.tells O.found O.start (D.state v.session.core.devices) v.session.core.memory v.session.trace };
 }
@@ -65,11 +75,13 @@ impl<D: Devices, O: Opening> VolState<D, O> {
         ensures devices { IfOk result (λ volume. volume.core.devices ≡ devices) }
         ensures trace { IfOk result (λ volume. volume.trace ≡ []) }
         ensures acks { IfOk result (λ volume. volume.acks ≡ []) }
+        ensures calls { IfOk result (λ volume. volume.calls ≡ 0) }
         ensures err { IfErr result (λ unopened. unopened.devices ≡ devices) }
     {
         Ok(VolState {
             alloc,
             session: Session::of(alloc, loaded, devices)?,
+            calls: Calls::none(),
         })
     }
 
@@ -88,7 +100,7 @@ impl<D: Devices, O: Opening> VolState<D, O> {
     }
 
     /// Answers an operation of a client: its entry joins the history, and its reply is handed back. An `Err` says that it is out of memory, which no reply says, and
-    /// leaves the history and the acknowledgements as they were. A sync acknowledges all commits before it. Once the session has stopped writing, no change is done (`writes`),
+    /// leaves the history and the acknowledgements as they were. It counts as one call in any case (`called`). A sync acknowledges all commits before it. Once the session has stopped writing, no change is done (`writes`),
     /// not even one that would change nothing.
     ///
     /// An operation costs the looks of its plan; a change calls devices only where the journal or the buckets are short, and then makes a checkpoint. A sync writes and
@@ -97,8 +109,8 @@ impl<D: Devices, O: Opening> VolState<D, O> {
         requires client { client < 16 }
         requires planned { is_planned op ≡ true }
         requires bounded { IsBounded op }
-        ensures answers { IfOk result (λ reply. IsAnswered D.state client op reply self.old
-            self.new) }
+        ensures answers { IfOk result (λ reply. IsAnswered D.state client op reply
+            (session_in self.old) (session_in self.new)) }
         ensures cause { IfOk result (λ reply. HasCause client op reply
             self.new.core.memory.volume (D.state self.old.core.devices).faults (D.state self.new.core.devices).faults) }
         ensures synced { IfOk result (AcknowledgesAll (commit_count
@@ -106,13 +118,15 @@ impl<D: Devices, O: Opening> VolState<D, O> {
         ensures writes { IfOk result (λ reply. IsWriting op reply
             self.old.core.memory.volume.halted) }
         ensures err { OnErr result (self.new ≡ record self.old
-            { core = self.new.core; spare = self.new.spare }) }
+            { core = self.new.core; spare = self.new.spare; calls = self.new.calls }) }
+        ensures called { self.new.calls ≡ one_more self.old.calls }
         ensures unfailed { OnErr result ((D.state self.new.core.devices).faults
             ≡ (D.state self.old.core.devices).faults) }
         ensures goes_on { GoOn (D.state self.old.core.devices) (D.state self.new.core.devices) }
     {
         self.session.see_history();
         let _count = self.session.devices().count();
+        self.calls.count_one();
         if let Err(error) = self.session.reserve() {
             drop(op);
             return Err(error);
@@ -123,7 +137,7 @@ impl<D: Devices, O: Opening> VolState<D, O> {
         result
     }
 
-    /// Ends the session: its devices, its history, its acknowledgements, and how it stopped writing, if it did.
+    /// Ends the session: its devices, its history, its acknowledgements, how it stopped writing, if it did, and how many operations it was called with.
     ///
     /// It has stopped writing exactly where an entry says that a device failed (`failed`), and then one write or flush has failed since the opening, and no other call (`only`). What
     /// its entries say of failures agrees (`halts`, `no_commit`, `causes`). None says that a number is used up, where what was found is far from that, it left room in the journal, and the session is short (`unspent`). Where the devices tell what they hold, and it began with a sound and tidy volume, its history
@@ -134,6 +148,7 @@ impl<D: Devices, O: Opening> VolState<D, O> {
         ensures trace { result.trace ≡ self.trace }
         ensures acks { result.acks ≡ self.acks }
         ensures halted { result.halted ≡ self.core.memory.volume.halted }
+        ensures calls { result.calls ≡ self.calls }
         ensures failed { is_some result.halted ≡ has_failed result.trace }
         ensures only { (D.state result.devices).faults ≡ after_writes
             (halted_device self.core.memory.volume.halted) O.start.faults }
@@ -152,7 +167,11 @@ impl<D: Devices, O: Opening> VolState<D, O> {
         ensures goes_on { GoOn O.start (D.state result.devices) }
         ensures past { D.tells → KeepsPast O.start (D.state result.devices) }
     {
-        let VolState { alloc: _, session } = self;
+        let VolState {
+            alloc: _,
+            session,
+            calls,
+        } = self;
         session.see_history();
         let halted = session.memory().halted();
         let (devices, trace, acks) = session.into_parts();
@@ -161,6 +180,7 @@ impl<D: Devices, O: Opening> VolState<D, O> {
             trace,
             acks,
             halted,
+            calls,
         }
     }
 }

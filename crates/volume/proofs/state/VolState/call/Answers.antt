@@ -5,6 +5,7 @@ use Rattle.vol_session.specs.Marks.{forest_found}
 use Rattle.vol_session.specs.Sessions.{SessionState}
 use Rattle.volume.specs.Answers.{AcknowledgesAll}
 use Rattle.volume.specs.Serving.{IsWriting}
+use Rattle.volume.specs.States.{VolumeState}
 use Rattle.volume.proofs.Between.{AreCounting, keeps_call}
 use Rattle.volume.proofs.Served.{of_ok, synced_all}
 use Rattle.volume.proofs.state.VolState.call.Goals as goal
@@ -12,7 +13,7 @@ use Rattle.volume.proofs.state.VolState.call.Goals as goal
 pub returns-clause-synced : goal.returns-clause-synced
 returns-clause-synced g c =
     let forest = forest_found g.O.Opening.found g.O.Opening.start in
-    subst (λ (session : SessionState g.row.D.Denot). IfOk c.answer-result.result (AcknowledgesAll (commit_count forest session.trace))) c.self.view_is
+    subst (λ (volume : VolumeState g.row.D.Denot). IfOk c.answer-result.result (AcknowledgesAll (commit_count forest volume.trace))) c.self.view_is
     (of_ok c.answer-result.result
     (λ reply served.
     synced_all g.D.Devices.state c.args.client reply c.args.op (commit_count forest c.self.inside.session.trace) c.self.inside.session c.reserve.new.self c.answer-result.new.session c.see_history.ensures.counted.counted c.reserve.ensures.rest served)
@@ -20,7 +21,7 @@ returns-clause-synced g c =
 
 pub returns-clause-writes : goal.returns-clause-writes
 returns-clause-writes g c =
-    subst (λ (session : SessionState g.row.D.Denot). IfOk c.answer-result.result (λ reply. IsWriting c.args.op reply session.core.memory.volume.halted)) c.self.view_is
+    subst (λ (volume : VolumeState g.row.D.Denot). IfOk c.answer-result.result (λ reply. IsWriting c.args.op reply volume.core.memory.volume.halted)) c.self.view_is
     (of_ok c.answer-result.result
     (λ reply served. subst (λ (session : SessionState g.row.D.Denot). IsWriting c.args.op reply session.core.memory.volume.halted) c.reserve.ensures.rest served.writes)
     c.answer-result.ensures.served)
