@@ -67,9 +67,11 @@ pub fn ended<D: Devices, O: Opening>(volume: VolState<D, O>) -> D {
         trace,
         acks,
         halted: _,
+        calls,
     } = volume.finish();
     drop(trace);
     drop(acks);
+    drop(calls);
     devices
 }
 

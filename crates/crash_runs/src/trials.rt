@@ -111,9 +111,11 @@ fn run_over(
         trace,
         acks,
         shorts,
+        calls,
         early_end: _,
     } = ended;
     drop(shorts);
+    drop(calls);
     let calls = left.calls().saturating_sub(before);
     *devices = left;
     Ok(Ran {

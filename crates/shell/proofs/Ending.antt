@@ -1,6 +1,6 @@
 -- How a run ends after its lines.
 use Rattle.std.proofs.Common.{◌≡◌, inl, inr, ⊎_elim, ℕ, Bool, true, false, Some, if◌then◌else◌, List, [], ◌∷◌, ◌++◌, map, refl, ap, ◌∙◌, sym, subst, arith}
-use Rattle.std.specs.Prelude.{◌||◌, max}
+use Rattle.std.specs.Prelude.{◌||◌, ◌+◌, max}
 use Rattle.std.specs.List.{cons_option, filter_map, list_any}
 use Rattle.dev_model.specs.Devices.{DevicesState}
 use Rattle.plain_forest.specs.Forest.{Forest}
@@ -13,10 +13,10 @@ use Rattle.script_text.specs.declared.reading.Line.{Line}
 use Rattle.forest_ops.specs.declared.acks.Ack.{Ack}
 use Rattle.forest_ops.specs.Fits.{last_entry}
 use Rattle.text_io.specs.StreamLaws.{gains_nothing}
-use Rattle.vol_session.specs.Sessions.{SessionState}
+use Rattle.volume.specs.States.{VolumeState}
 use Rattle.shell.specs.declared.tally.Tally.{Tally}
 use Rattle.shell.specs.declared.page.Page.{Page}
-use Rattle.shell.specs.Outcome.{ack_by, ack_of, acks_of, entries_of, entry_of, greatest_synced, replies_of, reply_lines, synced_by, text_of}
+use Rattle.shell.specs.Outcome.{ack_by, ack_of, acks_of, entries_of, entry_of, greatest_synced, operation_count, replies_of, reply_lines, synced_by, text_of}
 use Rattle.shell.specs.Causes.{IsCut, asked_status, is_failure, is_no_memory}
 use Rattle.shell.specs.Printing.{Prints, has_ended, page_status}
 use Rattle.shell.specs.Phases.{AreSyncsCounted, EndsPrinting, RunsEnd, RunsLines, RunsScript, tally_after, tally_status, tally_with, text_with_end}
@@ -98,10 +98,10 @@ tally_from_none replies = tally_is (tally_of false false 0) replies
 
 module _ {D K : Type 0} (forest : Forest) (state : D → DevicesState) (devices_tell sink_tells : Type 0) (held given_at : K → List ℕ) (faults : K → ℕ) where
   -- a script was run, where its lines and its end were
-  pub script_ran : (status : ℕ) (script : List Line) (start mid last : SessionState D) (page shown : Page) (sink mid_sink last_sink : K) (trace : History) (acks : List Ack) (devices : D)
-      → start.trace ≡ [] → start.acks ≡ [] → page.tally ≡ tally_of false false 0 → Prints sink_tells held faults sink [] page sink → RunsLines forest state devices_tell sink_tells held given_at faults script start mid page shown sink mid_sink → RunsEnd forest state devices_tell sink_tells held given_at faults mid last shown mid_sink last_sink status → trace ≡ last.trace → acks ≡ last.acks → devices ≡ last.core.devices
-      → RunsScript forest sink_tells devices_tell held given_at faults script sink last_sink status trace acks (state devices).moment
-  script_ran status script start mid last page shown sink mid_sink last_sink trace acks devices begins no_acks none empty runs ends is_trace is_acks is_devices =
+  pub script_ran : (status : ℕ) (script : List Line) (start mid last : VolumeState D) (page shown : Page) (sink mid_sink last_sink : K) (trace : History) (acks : List Ack) (calls : ℕ) (devices : D)
+      → start.trace ≡ [] → start.acks ≡ [] → start.calls ≡ 0 → page.tally ≡ tally_of false false 0 → Prints sink_tells held faults sink [] page sink → RunsLines forest state devices_tell sink_tells held given_at faults script start mid page shown sink mid_sink → RunsEnd forest state devices_tell sink_tells held given_at faults mid last shown mid_sink last_sink status → trace ≡ last.trace → acks ≡ last.acks → calls ≡ last.calls → devices ≡ last.core.devices
+      → RunsScript forest sink_tells devices_tell held given_at faults script sink last_sink status trace acks calls (state devices).moment
+  script_ran status script start mid last page shown sink mid_sink last_sink trace acks calls devices begins no_acks no_calls none empty runs ends is_trace is_acks is_calls is_devices =
       let replies = replies_of runs.answered ends.reply in
       let adds = adds_then forest state start mid last (filter_map entry_of runs.answered) (last_entry ends.reply) (filter_map ack_of runs.answered) (cons_option (ack_by (state last.core.devices).moment ends.reply) []) runs.history ends.history in
       let entries : last.trace ≡ entries_of runs.answered ends.reply = adds.trace ∙ ap (λ list. list ++ entries_of runs.answered ends.reply) begins in
@@ -121,6 +121,10 @@ module _ {D K : Type 0} (forest : Forest) (state : D → DevicesState) (devices_
         lines = runs.are;
         entries = is_trace ∙ entries;
         acknowledged = is_acks ∙ are_acks ∙ ap (λ d. acks_of runs.answered ends.reply (state d).moment) (sym is_devices);
+        called = λ few.
+            let by_lines : mid.calls ≡ start.calls + operation_count script = runs.called (omega (arith, few, no_calls)) in
+            let by_sync : last.calls ≡ mid.calls + 1 = ends.called (omega (arith, few, no_calls, by_lines)) in
+            omega (arith, no_calls, by_lines, by_sync, is_calls);
         counted = subst (AreSyncsCounted forest) (sym is_trace) (adds.counted (subst (AreSyncsCounted forest) (sym begins) (EachEntry-none (λ before one. (count : ℕ) → synced_count one.reply ≡ Some count → count ≡ commit_count forest before))));
         made = were_made sink_tells devices_tell held given_at sink shown mid_sink last_sink (state mid.core.devices).moment (state last.core.devices).moment ends.ended ends.gains ends.since [] runs.answered runs.until printed.made;
         prefix = ended.prefix;

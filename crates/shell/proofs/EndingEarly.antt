@@ -47,9 +47,9 @@ module _ {D K : Type 0} (source_tells sink_tells devices_tell : Type 0) (held gi
       → OnlyReadUnmounted devices_tell run.state run.state_after
       → (devices_tell → (f : Found) → MayRun f (now run.state) → RunSurvives f run.state run.state_after [] [])
       → run.state.moment ≤ run.state_after.moment
-      → run.early_end ≡ Some end → run.shorts ≡ []
+      → run.early_end ≡ Some end → run.shorts ≡ [] → run.calls ≡ 0
       → Headline source_tells sink_tells devices_tell held given_at run
-  ended_early end ends cause source left unmounted survives later early shorts = record {
+  ended_early end ends cause source left unmounted survives later early shorts calls = record {
     opening = nothing_found;
     mounted = run.state;
     outcome = EndedEarly end;
@@ -69,15 +69,16 @@ module _ {D K : Type 0} (source_tells sink_tells devices_tell : Type 0) (held gi
       left = left;
     };
     early = early;
+    called = calls;
     shorts = shorts;
   }
 
   -- a run that formats
   pub formatted : (layout : Layout) → IsFormat run.arguments run.state.sizes layout
       → Formats sink_tells devices_tell layout run.state run.state_after run.streams.held run.streams.held_after run.faults.sink run.faults.sink_after run.status run.early_end run.trace run.acks
-      → run.faults.source_after ≡ run.faults.source → run.streams.left_after ≡ run.streams.left → run.shorts ≡ []
+      → run.faults.source_after ≡ run.faults.source → run.streams.left_after ≡ run.streams.left → run.shorts ≡ [] → run.calls ≡ 0
       → Headline source_tells sink_tells devices_tell held given_at run
-  formatted layout format formats source left shorts = record {
+  formatted layout format formats source left shorts calls = record {
     opening = nothing_found;
     mounted = run.state;
     outcome = Formatted layout formats.fault;
@@ -96,5 +97,6 @@ module _ {D K : Type 0} (source_tells sink_tells devices_tell : Type 0) (held gi
       ends = record { failed = formats.ends.failed; printed = formats.ends.printed; otherwise = formats.ends.otherwise };
     };
     early = formats.early;
+    called = calls;
     shorts = shorts;
   }

@@ -87,7 +87,7 @@ module _ {D : Type 0} (state : D → DevicesState) (sink_tells devices_tell : Ty
         ends = ends;
       })
 
-module _ {D K : Type 0} (source_tells sink_tells devices_tell : Type 0) (held given_at : K → List ℕ) (run : Run D K) (info : IsInfo run.arguments run.state.sizes) (still : run.faults.source_after ≡ run.faults.source) (left : run.streams.left_after ≡ run.streams.left) (law : OpeningIsSafe) (shorts : run.shorts ≡ []) where
+module _ {D K : Type 0} (source_tells sink_tells devices_tell : Type 0) (held given_at : K → List ℕ) (run : Run D K) (info : IsInfo run.arguments run.state.sizes) (still : run.faults.source_after ≡ run.faults.source) (left : run.streams.left_after ≡ run.streams.left) (law : OpeningIsSafe) (shorts : run.shorts ≡ []) (calls : run.calls ≡ 0) where
   survived : AreOnlyRead devices_tell run.state run.state_after → run.trace ≡ [] → run.acks ≡ [] → devices_tell → (f : Found) → MayRun f (now run.state) → RunSurvives f run.state run.state_after run.trace run.acks
   survived read nothing no_acks told f may =
       subst (λ (trace : History). RunSurvives f run.state run.state_after trace run.acks) (sym nothing)
@@ -113,6 +113,7 @@ module _ {D K : Type 0} (source_tells sink_tells devices_tell : Type 0) (held gi
       ends = record { failed = tells.ends.failed; printed = tells.ends.printed; otherwise = tells.ends.otherwise };
     };
     early = tells.early;
+    called = calls;
     shorts = shorts;
   }
 
@@ -126,7 +127,7 @@ module _ {D K : Type 0} (source_tells sink_tells devices_tell : Type 0) (held gi
       (inr left)
       (λ told unfailed error. tells.read)
       (read_survives devices_tell run.state run.state_after law tells.read)
-      tells.read.later tells.early shorts
+      tells.read.later tells.early shorts calls
 
   -- an info
   pub informed : TellsFound sink_tells devices_tell run.state run.state_after run.streams.held run.streams.held_after run.faults.sink run.faults.sink_after run.status run.early_end run.trace run.acks

@@ -26,11 +26,11 @@ use Rattle.shell.specs.Tasks.{IsRun}
 use Rattle.shell.proofs.EndingEarly.{ended_early}
 use Rattle.shell.proofs.Fitting.{run_fits}
 use Rattle.shell.proofs.Moments.{told_is_acknowledged}
-use Rattle.shell.proofs.ShortRuns.{few_entries}
+use Rattle.shell.proofs.ShortRuns.{few_entries, few_operations}
 use Rattle.shell.proofs.Sessions.{acks_since, all_unspent, begins_well, causes_since, halts_since, opening_leaves, run_survives, same_forest}
 
 module _ {D K : Type 0} (source_tells sink_tells devices_tell : Type 0) (state : D → DevicesState) (held given_at : K → List ℕ) (faults : K → ℕ) (arguments : List (List ℕ)) (left left_after : List ℕ) (source_faults source_after : ℕ)
-    (sink sink_after : K) (devices devices_after : D) (status : ℕ) (early_end : Option EarlyEnd) (trace : History) (acks : List Ack) (shorts : List (ℕ × Short)) where
+    (sink sink_after : K) (devices devices_after : D) (status : ℕ) (early_end : Option EarlyEnd) (trace : History) (acks : List Ack) (shorts : List (ℕ × Short)) (calls : ℕ) where
   -- the run, by what it was given and what it left
   abbrev whole_run : Run D K
   whole_run = record {
@@ -48,12 +48,13 @@ module _ {D K : Type 0} (source_tells sink_tells devices_tell : Type 0) (state :
     trace = trace;
     acks = acks;
     shorts = shorts;
+    calls = calls;
   }
 
   -- Its lines ran over the volume.
   pub ran_opened : (opening : Found) (mounted : DevicesState) (script : List Line) → SessionsBeginWell → RunsAreSafe → (devices_tell → All IsDisk (now mounted)) → IsOpenedFrom devices_tell opening (state devices) mounted
       → OpeningKeeps devices_tell (state devices) mounted → GoOn (state devices) mounted → GaveScript source_tells left script → source_after ≡ source_faults → IsRun arguments (state devices).sizes
-      → RunsOpened state devices_tell sink_tells held given_at faults opening mounted script sink sink_after devices_after status early_end trace acks → shorts ≡ [] → Headline source_tells sink_tells devices_tell held given_at whole_run
+      → RunsOpened state devices_tell sink_tells held given_at faults opening mounted script sink sink_after devices_after status early_end trace acks calls → shorts ≡ [] → Headline source_tells sink_tells devices_tell held given_at whole_run
   ran_opened opening mounted script begins safe disks opened keeps before gave still is_run opened_ran none =
       let old = state devices in
       let new = state devices_after in
@@ -109,12 +110,13 @@ module _ {D K : Type 0} (source_tells sink_tells devices_tell : Type 0) (state :
               (opened_ran.unspent far (subst (λ (t : History). length t < 2 ^ 31) (sym ran.entries) (few_entries source_tells left script ran.answered ran.last gave ran.lines)));
         };
         early = opened_ran.early;
+        called = ran.called (few_operations source_tells left script gave);
         shorts = none;
       }
 
   -- There was no memory to keep the volume.
   pub ended_unopened : (mounted : D) (script : List Line) → OpeningIsSafe → OpeningKeeps devices_tell (state devices) (state mounted) → GoOn (state devices) (state mounted) → OnlyReadUnmounted devices_tell (state devices) (state mounted)
-      → GaveScript source_tells left script → source_after ≡ source_faults → IsRun arguments (state devices).sizes → EndsUnopened sink_tells held faults mounted devices_after sink sink_after status early_end trace acks → shorts ≡ []
+      → GaveScript source_tells left script → source_after ≡ source_faults → IsRun arguments (state devices).sizes → EndsUnopened sink_tells held faults mounted devices_after sink sink_after status early_end trace acks calls → shorts ≡ []
       → Headline source_tells sink_tells devices_tell held given_at whole_run
   ended_unopened mounted script safe keeps before unmounted gave still is_run unopened none =
       let old = state devices in
@@ -125,4 +127,4 @@ module _ {D K : Type 0} (source_tells sink_tells devices_tell : Type 0) (state :
       (subst (λ d. OnlyReadUnmounted devices_tell old (state d)) (sym unopened.same) unmounted)
       (λ told f may. subst (λ d. RunSurvives f old (state d) [] []) (sym unopened.same) (safe f old (state mounted) may (keeps told f may.on)))
       (subst (λ d. old.moment ≤ (state d).moment) (sym unopened.same) before.later)
-      unopened.early none
+      unopened.early none unopened.uncalled

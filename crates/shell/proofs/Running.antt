@@ -1,6 +1,6 @@
 -- How answers follow one another.
 use Rattle.std.proofs.Common.{◌≡◌, ◌⊎◌, inl, inr, ⊎_elim, ℕ, ◌||◌, true, false, Bool, List, [], ◌∷◌, ◌++◌, length, map, refl, ap, ◌∙◌, sym, subst, arith, append_assoc, append-nil, Some, None, Option}
-use Rattle.std.specs.Prelude.{◌+◌, ◌≤◌, All, IsSome, max, Result, Ok, Err, OnOk, OnErr, is_err}
+use Rattle.std.specs.Prelude.{◌+◌, ◌<◌, ◌^◌, ◌≤◌, All, IsSome, max, Result, Ok, Err, OnOk, OnErr, is_err}
 use Rattle.std.specs.Option.{option_to_list}
 use Rattle.std.specs.List.{cons_option, filter_map}
 use Rattle.std.proofs.lemmas.Bool.{false≢true}
@@ -22,9 +22,10 @@ use Rattle.forest_ops.specs.declared.operation.Entry.{Entry}
 use Rattle.text_io.specs.Streams.{GainsBy, GivesPrefix}
 use Rattle.text_io.specs.StreamLaws.{gains_nothing, gains_text, gains_then}
 use Rattle.script_text.specs.declared.reading.Line.{Line}
+use Rattle.core_actors.specs.Actors.{one_more}
 use Rattle.core_volume.specs.Volumes.{Volume}
 use Rattle.forest_ops.specs.Acknowledged.{synced_count}
-use Rattle.vol_session.specs.Sessions.{SessionState}
+use Rattle.volume.specs.States.{VolumeState, session_in}
 use Rattle.volume.specs.Answers.{HasCause, IsAnswered, acks_after}
 use Rattle.forest_ops.specs.Fits.{entry_by, entry_if_any, last_entry}
 use Rattle.shell.specs.Lines.{AreRunLines, IsRunLine}
@@ -36,9 +37,9 @@ use Rattle.shell.specs.Moments.{GainsAllBut, GainsAt, GainsSince}
 use Rattle.shell.proofs.Moments.{all_but_still, at_by, at_nothing, at_since, since_behind, since_nothing, since_still}
 use Rattle.shell.proofs.Printing.{all_or_part, neither}
 use Rattle.forest_ops.specs.declared.acks.Ack.{Ack}
-use Rattle.shell.specs.Outcome.{Answered, ack_by, ack_of, entry_of, may_wait, reply_line, reply_line_by, reply_lines}
+use Rattle.shell.specs.Outcome.{Answered, ack_by, ack_of, entry_of, may_wait, operation_count, reply_line, reply_line_by, reply_lines}
 use Rattle.shell.specs.Causes.{is_no_memory}
-use Rattle.shell.specs.Phases.{AddsEntries, AreSyncsCounted, AreMade, Gains, RunsLines, tally_after, tally_with}
+use Rattle.shell.specs.Phases.{AddsEntries, AreCalled, AreSyncsCounted, AreMade, Gains, RunsLines, tally_after, tally_with}
 
 -- a tally goes on by two lists of replies
 pub tally_then : (tally : Tally) (first second : List Reply) → tally_after (tally_after tally first) second ≡ tally_after tally (first ++ second)
@@ -47,7 +48,7 @@ tally_then tally (reply ∷ first) second = tally_then (tally_with tally reply) 
 
 module _ {D : Type 0} (forest : Forest) (state : D → DevicesState) where
   -- histories go on one after another
-  pub adds_then : (a b c : SessionState D) (first second : History) (acks others : List Ack) → AddsEntries forest state a b first acks → AddsEntries forest state b c second others → AddsEntries forest state a c (first ++ second) (acks ++ others)
+  pub adds_then : (a b c : VolumeState D) (first second : History) (acks others : List Ack) → AddsEntries forest state a b first acks → AddsEntries forest state b c second others → AddsEntries forest state a c (first ++ second) (acks ++ others)
   adds_then a b c first second acks others one two = record {
     trace = two.trace ∙ ap (λ list. list ++ second) one.trace ∙ append_assoc a.trace first second;
     acks = two.acks ∙ ap (λ list. list ++ others) one.acks ∙ append_assoc a.acks acks others;
@@ -56,15 +57,15 @@ module _ {D : Type 0} (forest : Forest) (state : D → DevicesState) where
   }
 
   -- a session in which nothing was done
-  pub adds_nothing : (session : SessionState D) → AddsEntries forest state session session [] []
+  pub adds_nothing : (session : VolumeState D) → AddsEntries forest state session session [] []
   adds_nothing session = record { trace = sym (append-nil session.trace); acks = sym (append-nil session.acks); counted = λ held. held; after = go_on_here (state session.core.devices) }
 
   -- a session in which an operation was out of memory
-  pub adds_memory : (old new : SessionState D) → new ≡ record old { core = new.core; spare = new.spare } → GoOn (state old.core.devices) (state new.core.devices) → AddsEntries forest state old new [] []
+  pub adds_memory : (old new : VolumeState D) → new ≡ record old { core = new.core; spare = new.spare; calls = new.calls } → GoOn (state old.core.devices) (state new.core.devices) → AddsEntries forest state old new [] []
   adds_memory old new same after = record {
-    trace = ap (λ (s : SessionState D). s.trace) same ∙ sym (append-nil old.trace);
-    acks = ap (λ (s : SessionState D). s.acks) same ∙ sym (append-nil old.acks);
-    counted = λ held. subst (AreSyncsCounted forest) (sym (ap (λ (s : SessionState D). s.trace) same)) held;
+    trace = ap (λ (s : VolumeState D). s.trace) same ∙ sym (append-nil old.trace);
+    acks = ap (λ (s : VolumeState D). s.acks) same ∙ sym (append-nil old.acks);
+    counted = λ held. subst (AreSyncsCounted forest) (sym (ap (λ (s : VolumeState D). s.trace) same)) held;
     after = after;
   }
 
@@ -114,7 +115,7 @@ pub same_moment : {D K : Type 0} (held given_at : K → List ℕ) (first last : 
 same_moment held given_at first last shown devices state same gains = subst (λ d. GainsAt held given_at first last (state d).moment) same gains
 
 -- The lines of a script were run but for the rest, which a volume runs.
-pub record RunsUpTo {D K : Type 0} (forest : Forest) (state : D → DevicesState) (devices_tell sink_tells : Type 0) (held given_at : K → List ℕ) (faults : K → ℕ) (script rest : List Line) (old new : SessionState D) (page new_page : Page) (sink new_sink : K) : Type 0 where
+pub record RunsUpTo {D K : Type 0} (forest : Forest) (state : D → DevicesState) (devices_tell sink_tells : Type 0) (held given_at : K → List ℕ) (faults : K → ℕ) (script rest : List Line) (old new : VolumeState D) (page new_page : Page) (sink new_sink : K) : Type 0 where
   pub run : List Line
   pub are : run ++ rest ≡ script
   pub ran : RunsLines forest state devices_tell sink_tells held given_at faults run old new page new_page sink new_sink
@@ -122,12 +123,21 @@ pub record RunsUpTo {D K : Type 0} (forest : Forest) (state : D → DevicesState
 
 module _ {D K : Type 0} (forest : Forest) (state : D → DevicesState) (devices_tell sink_tells : Type 0) (held given_at : K → List ℕ) (faults : K → ℕ) where
   -- what was gained by one state and then by the next was gained by the next
-  pub gains_on : (first mid last : K) (old new : SessionState D) → GoOn (state old.core.devices) (state new.core.devices) → Gains state devices_tell sink_tells held given_at first mid old → Gains state devices_tell sink_tells held given_at mid last new → Gains state devices_tell sink_tells held given_at first last new
+  pub gains_on : (first mid last : K) (old new : VolumeState D) → GoOn (state old.core.devices) (state new.core.devices) → Gains state devices_tell sink_tells held given_at first mid old → Gains state devices_tell sink_tells held given_at mid last new → Gains state devices_tell sink_tells held given_at first last new
   gains_on first mid last old new after one two told told_too =
       gains_then held given_at first mid last (state old.core.devices).moment (state new.core.devices).moment after.later (one told told_too) (two told told_too)
 
+  -- calls go on one list after another
+  calls_then : (first second : List Line) (a b c : VolumeState D) → AreCalled (operation_count first) a b → AreCalled (operation_count second) b c → AreCalled (operation_count (first ++ second)) a c
+  calls_then first second a b c one two few =
+      let all : operation_count (first ++ second) ≡ operation_count first + operation_count second =
+      ap (λ (ops : List Op). length ops) (filter_map-append (λ (line : Line). line.op) first second) ∙ length-append (filter_map (λ (line : Line). line.op) first) (filter_map (λ (line : Line). line.op) second) in
+      let by_first : b.calls ≡ a.calls + operation_count first = one (omega (arith, few, all)) in
+      let by_second : c.calls ≡ b.calls + operation_count second = two (omega (arith, few, all, by_first)) in
+      omega (arith, all, by_first, by_second)
+
   -- lines are answered one list after another
-  pub runs_then : (first second : List Line) (a b c : SessionState D) (page mid last : Page) (sink mid_sink last_sink : K) → RunsLines forest state devices_tell sink_tells held given_at faults first a b page mid sink mid_sink → RunsLines forest state devices_tell sink_tells held given_at faults second b c mid last mid_sink last_sink
+  pub runs_then : (first second : List Line) (a b c : VolumeState D) (page mid last : Page) (sink mid_sink last_sink : K) → RunsLines forest state devices_tell sink_tells held given_at faults first a b page mid sink mid_sink → RunsLines forest state devices_tell sink_tells held given_at faults second b c mid last mid_sink last_sink
       → RunsLines forest state devices_tell sink_tells held given_at faults (first ++ second) a c page last sink last_sink
   runs_then first second a b c page mid last sink mid_sink last_sink one two = record {
     answered = one.answered ++ two.answered;
@@ -135,6 +145,7 @@ module _ {D K : Type 0} (forest : Forest) (state : D → DevicesState) (devices_
     history = subst (λ h. AddsEntries forest state a c h (filter_map ack_of (one.answered ++ two.answered))) (sym (filter_map-append entry_of one.answered two.answered))
         (subst (AddsEntries forest state a c (filter_map entry_of one.answered ++ filter_map entry_of two.answered)) (sym (filter_map-append ack_of one.answered two.answered))
         (adds_then forest state a b c (filter_map entry_of one.answered) (filter_map entry_of two.answered) (filter_map ack_of one.answered) (filter_map ack_of two.answered) one.history two.history));
+    called = calls_then first second a b c one.called two.called;
     gains = gains_on sink mid_sink last_sink b c two.history.after one.gains two.gains;
     since = λ told told_too. since_still held given_at sink mid_sink last_sink 0 (state a.core.devices).moment (state b.core.devices).moment one.history.after.later (one.since told told_too) (two.since told told_too);
     until = All-append (λ (x : Answered). x.moment ≤ (state c.core.devices).moment) one.answered two.answered
@@ -153,11 +164,12 @@ module _ {D K : Type 0} (forest : Forest) (state : D → DevicesState) (devices_
   }
 
   -- no line is answered
-  pub runs_none : (log : SessionState D) (page : Page) (sink : K) → RunsLines forest state devices_tell sink_tells held given_at faults [] log log page page sink sink
+  pub runs_none : (log : VolumeState D) (page : Page) (sink : K) → RunsLines forest state devices_tell sink_tells held given_at faults [] log log page page sink sink
   runs_none log page sink = record {
     answered = [];
     are = refl;
     history = adds_nothing forest state log;
+    called = λ few. omega arith;
     gains = λ told told_too. gains_nothing held given_at sink (state log.core.devices).moment;
     since = λ told told_too. since_nothing held given_at sink (state log.core.devices).moment;
     until = All-nil (λ (x : Answered). x.moment ≤ (state log.core.devices).moment);
@@ -190,12 +202,12 @@ module _ {D K : Type 0} (forest : Forest) (state : D → DevicesState) (devices_
       }
 
   -- a line is answered
-  pub runs_one : (line : Line) (reply : Reply) (old new : SessionState D) (page new_page : Page) (sink new_sink : K) → AddsEntries forest state old new (cons_option (entry_by line.client line.op reply) []) (cons_option (ack_by (state new.core.devices).moment reply) [])
+  pub runs_one : (line : Line) (reply : Reply) (old new : VolumeState D) (page new_page : Page) (sink new_sink : K) → AreCalled (operation_count (line ∷ [])) old new → AddsEntries forest state old new (cons_option (entry_by line.client line.op reply) []) (cons_option (ack_by (state new.core.devices).moment reply) [])
       → ((start : K) (text : List ℕ) → Prints sink_tells held faults start text page sink → Prints sink_tells held faults start (text ++ reply_line_by line.op line.client line.line reply) new_page new_sink)
       → (sink_tells → devices_tell → GainsAt held given_at sink new_sink (state new.core.devices).moment)
       → (IsSome line.op → has_ended new_page ≡ false → length new_page.lines ≤ may_wait reply) → (has_ended page ≡ true → has_ended new_page ≡ true) → (has_ended page ≡ true → new_sink ≡ sink) → new_page.tally ≡ tally_with page.tally reply
       → RunsLines forest state devices_tell sink_tells held given_at faults (line ∷ []) old new page new_page sink new_sink
-  runs_one line reply old new page new_page sink new_sink adds prints gains waits ended same tally =
+  runs_one line reply old new page new_page sink new_sink called adds prints gains waits ended same tally =
       let moment = (state new.core.devices).moment in
       let one : Answered = record { line = line; reply = reply; moment = moment } in
       let gains_by : Gains state devices_tell sink_tells held given_at sink new_sink new = λ told told_too. at_by held given_at sink new_sink moment (gains told told_too) in
@@ -203,6 +215,7 @@ module _ {D K : Type 0} (forest : Forest) (state : D → DevicesState) (devices_
         answered = one ∷ [];
         are = refl;
         history = adds;
+        called = called;
         gains = gains_by;
         since = λ told told_too. at_since held given_at sink new_sink moment (state old.core.devices).moment adds.after.later (gains told told_too);
         until = All-cons (λ (x : Answered). x.moment ≤ moment) one [] (omega arith) (All-nil (λ (x : Answered). x.moment ≤ moment));
@@ -225,15 +238,15 @@ module _ {D K : Type 0} (forest : Forest) (state : D → DevicesState) (devices_
       }
 
   -- no line of a script was run yet
-  pub up_to_none : (script rest : List Line) (log : SessionState D) (page : Page) (sink : K) → rest ≡ script → AreRunLines script → RunsUpTo forest state devices_tell sink_tells held given_at faults script rest log log page page sink sink
+  pub up_to_none : (script rest : List Line) (log : VolumeState D) (page : Page) (sink : K) → rest ≡ script → AreRunLines script → RunsUpTo forest state devices_tell sink_tells held given_at faults script rest log log page page sink sink
   up_to_none script rest log page sink all runs = record { run = []; are = all; ran = runs_none log page sink; runs = subst AreRunLines (sym all) runs }
 
   -- the next line is one that a volume runs
-  pub next_runs : (script rest left : List Line) (line : Line) (old new : SessionState D) (page new_page : Page) (sink new_sink : K) → rest ≡ line ∷ left → RunsUpTo forest state devices_tell sink_tells held given_at faults script rest old new page new_page sink new_sink → IsRunLine line
+  pub next_runs : (script rest left : List Line) (line : Line) (old new : VolumeState D) (page new_page : Page) (sink new_sink : K) → rest ≡ line ∷ left → RunsUpTo forest state devices_tell sink_tells held given_at faults script rest old new page new_page sink new_sink → IsRunLine line
   next_runs script rest left line old new page new_page sink new_sink next up = All-head IsRunLine line left (subst AreRunLines next up.runs)
 
   -- one line more was run
-  pub up_to_then : (script rest left : List Line) (line : Line) (a b c : SessionState D) (page mid last : Page) (sink mid_sink last_sink : K) → rest ≡ line ∷ left → RunsUpTo forest state devices_tell sink_tells held given_at faults script rest a b page mid sink mid_sink
+  pub up_to_then : (script rest left : List Line) (line : Line) (a b c : VolumeState D) (page mid last : Page) (sink mid_sink last_sink : K) → rest ≡ line ∷ left → RunsUpTo forest state devices_tell sink_tells held given_at faults script rest a b page mid sink mid_sink
       → RunsLines forest state devices_tell sink_tells held given_at faults (line ∷ []) b c mid last mid_sink last_sink → RunsUpTo forest state devices_tell sink_tells held given_at faults script left a c page last sink last_sink
   up_to_then script rest left line a b c page mid last sink mid_sink last_sink next up one = record {
     run = up.run ++ line ∷ [];
@@ -243,14 +256,15 @@ module _ {D K : Type 0} (forest : Forest) (state : D → DevicesState) (devices_
   }
 
   -- all lines of a script were run
-  pub up_to_all : (script rest : List Line) (old new : SessionState D) (page new_page : Page) (sink new_sink : K) → length rest ≡ 0 → RunsUpTo forest state devices_tell sink_tells held given_at faults script rest old new page new_page sink new_sink → RunsLines forest state devices_tell sink_tells held given_at faults script old new page new_page sink new_sink
+  pub up_to_all : (script rest : List Line) (old new : VolumeState D) (page new_page : Page) (sink new_sink : K) → length rest ≡ 0 → RunsUpTo forest state devices_tell sink_tells held given_at faults script rest old new page new_page sink new_sink → RunsLines forest state devices_tell sink_tells held given_at faults script old new page new_page sink new_sink
   up_to_all script [] old new page new_page sink new_sink none up = subst (λ list. RunsLines forest state devices_tell sink_tells held given_at faults list old new page new_page sink new_sink) (sym (append-nil up.run) ∙ up.are) up.ran
   up_to_all script (line ∷ rest) old new page new_page sink new_sink none up = absurd (omega (arith, none))
 
   -- a barrier does nothing
-  pub runs_barrier : (line : Line) (log : SessionState D) (page : Page) (sink : K) → line.op ≡ None → RunsLines forest state devices_tell sink_tells held given_at faults (line ∷ []) log log page page sink sink
+  pub runs_barrier : (line : Line) (log : VolumeState D) (page : Page) (sink : K) → line.op ≡ None → RunsLines forest state devices_tell sink_tells held given_at faults (line ∷ []) log log page page sink sink
   runs_barrier line log page sink none =
       runs_one line Okay log log page page sink sink
+      (subst (λ op. AreCalled (length (cons_option op [])) log log) (sym none) (λ few. omega arith))
       (subst (λ op. AddsEntries forest state log log (cons_option (entry_by line.client op Okay) []) []) (sym none) (adds_nothing forest state log))
       (λ start text prints. subst (λ op. Prints sink_tells held faults start (text ++ reply_line_by op line.client line.line Okay) page sink) (sym none) (subst (λ t. Prints sink_tells held faults start t page sink) (sym (append-nil text)) prints))
       (λ told told_too. at_nothing held given_at sink (state log.core.devices).moment)
@@ -271,6 +285,10 @@ module _ {D K : Type 0} (forest : Forest) (state : D → DevicesState) (devices_
           ap (λ test. of test tally.has_failed tally.synced) (or_none tally.lacks_memory)
           ∙ ap (λ test. of (tally.lacks_memory || false) test tally.synced) (or_none tally.has_failed)
           ∙ ap (of (tally.lacks_memory || false) (tally.has_failed || false)) (let e : tally.synced ≡ max tally.synced 0 = omega arith in e)
+
+-- a call is one
+pub one_called : {D : Type 0} (old new : VolumeState D) → new.calls ≡ one_more old.calls → AreCalled 1 old new
+one_called old new is few = omega (arith, is, few)
 
 -- the entry of an operation that wasn't out of memory
 has_entry : (client : ℕ) (op : Op) (reply : Reply) → is_no_memory reply ≡ false → entry_if_any client op reply ≡ Some (record { client = client; op = op; reply = reply })
@@ -306,9 +324,9 @@ synced_reply : (reply : Reply) (count : ℕ) → synced_count reply ≡ Some cou
 synced_reply (Synced commits) count is = ap Synced (same_Some commits count is)
 synced_reply other count is = absurd (none_some count is)
 
-module _ {D : Type 0} (forest : Forest) (state : D → DevicesState) (client : ℕ) (op : Op) (old new : SessionState D) where
+module _ {D : Type 0} (forest : Forest) (state : D → DevicesState) (client : ℕ) (op : Op) (old new : VolumeState D) where
   -- an operation was answered
-  pub adds_answer : (reply : Reply) → IsAnswered state client op reply old new → HasCause client op reply new.core.memory.volume (state old.core.devices).faults (state new.core.devices).faults
+  pub adds_answer : (reply : Reply) → IsAnswered state client op reply (session_in old) (session_in new) → HasCause client op reply new.core.memory.volume (state old.core.devices).faults (state new.core.devices).faults
       → ((count : ℕ) → reply ≡ Synced count → count ≡ commit_count forest old.trace) → GoOn (state old.core.devices) (state new.core.devices)
       → AddsEntries forest state old new (cons_option (entry_if_any client op reply) []) (cons_option (ack_by (state new.core.devices).moment reply) [])
   adds_answer reply answers cause synced after =

@@ -8,13 +8,14 @@ use Rattle.std.proofs.lemmas.List.Filters.{length-filter_both}
 use Rattle.std.proofs.lemmas.List.FromFn.{length-enumerate_from}
 use Rattle.std.proofs.lemmas.Slice.Zip.{AllZip-long}
 use Rattle.forest_ops.specs.declared.operation.Entry.{Entry}
+use Rattle.forest_ops.specs.declared.operation.Op.{Op}
 use Rattle.forest_ops.specs.declared.operation.Op.TheVariants.{Sync}
 use Rattle.forest_ops.specs.declared.operation.Reply.{Reply}
 use Rattle.forest_ops.specs.Fits.{entry_if_any, last_entry}
 use Rattle.script_text.specs.Lines.{is_skipped, lines_of}
 use Rattle.script_text.specs.Scripts.{IsLine, saying_from}
 use Rattle.script_text.specs.declared.reading.Line.{Line}
-use Rattle.shell.specs.Outcome.{Answered, entries_of, entry_of}
+use Rattle.shell.specs.Outcome.{Answered, entries_of, entry_of, operation_count}
 use Rattle.shell.specs.Output.{GaveScript}
 
 onto_few : (byte : ℕ) (lines : List (List ℕ)) (count : ℕ) → length lines ≤ count → length (onto_first byte lines) ≤ count + 1
@@ -65,3 +66,21 @@ few_entries source_tells left script answered last gave lines =
     let one = last_few last in
     let all = length-append (filter_map entry_of answered) (last_entry last) in
     omega (arith, bytes, texts, saying, long, same, mapped, found, one, all)
+
+operations_few : (lines : List Line) → operation_count lines ≤ length lines
+operations_few [] = omega arith
+operations_few (line ∷ lines) = by line.op (operations_few lines)
+  where
+    by : (op : Option Op) → operation_count lines ≤ length lines → length (cons_option op (filter_map (λ (one : Line). one.op) lines)) ≤ length (line ∷ lines)
+    by None few = omega (arith, few)
+    by (Some op) few = omega (arith, few)
+
+-- So are its operations.
+pub few_operations : (source_tells : Type 0) (left : List ℕ) (script : List Line) → GaveScript source_tells left script → operation_count script + 1 < 2 ^ 64
+few_operations source_tells left script gave =
+    let bytes = gave.taken.short in
+    let texts = lines_few gave.text in
+    let saying = saying_few (lines_of gave.text) in
+    let long : length script ≡ length (saying_from 1 (lines_of gave.text)) = AllZip-long (λ (text : ℕ × List ℕ) (entry : Line). IsLine text.0 text.1 entry) (saying_from 1 (lines_of gave.text)) script gave.reads in
+    let some = operations_few script in
+    omega (arith, bytes, texts, saying, long, some)

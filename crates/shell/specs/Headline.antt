@@ -6,7 +6,7 @@ use Rattle.image_view.specs.Found.{Found}
 use Rattle.forest_ops.specs.Acknowledged.{AreAcks}
 use Rattle.vol_session.specs.Runs.{MayRun}
 use Rattle.vol_session.specs.Marks.{forest_found}
-use Rattle.shell.specs.Outcome.{Outcome, early_end_of}
+use Rattle.shell.specs.Outcome.{Outcome, calls_of, early_end_of}
 use Rattle.shell.specs.Runs.{Run}
 use Rattle.shell.specs.Output.{HasOutput}
 use Rattle.shell.specs.Causes.{HasCauses}
@@ -38,5 +38,7 @@ pub record Headline {D K : Type 0} (source_tells sink_tells devices_tell : Type 
   pub caused : HasCauses source_tells sink_tells devices_tell run opening mounted (forest_found opening mounted) outcome
   -- whoever called it learns why it ended early, if it did
   pub early : run.early_end ≡ early_end_of outcome
+  -- each line's operation was called of the volume, and the last sync: an answer that there was no memory is that of its own call
+  pub called : run.calls ≡ calls_of outcome
   -- no answer that there was no space counts what was free
   pub shorts : run.shorts ≡ []

@@ -1,5 +1,5 @@
 -- How a run goes, from beginning to end.
-use Rattle.std.specs.Prelude.{ℕ, ◌-◌, if◌then◌else◌, length, slice_index, List, [], ◌∷◌, ◌++◌, map, max, codes, Bool, true, false, Option, Some, None, option_map}
+use Rattle.std.specs.Prelude.{ℕ, ◌+◌, ◌-◌, if◌then◌else◌, length, slice_index, List, [], ◌∷◌, ◌++◌, map, max, codes, Bool, true, false, Option, Some, None, option_map}
 use Rattle.std.specs.List.{cons_option, filter_map, flat_map}
 use Rattle.std.specs.Fmt.{decimal}
 use Rattle.plain_forest.specs.Forest.{Forest}
@@ -98,6 +98,17 @@ format_line layout (Some fault) = early_line (end_of_disk fault)
 abbrev pub format_status : Option DiskFault → ℕ
 format_status None = 0
 format_status (Some fault) = early_status (end_of_disk fault)
+
+-- how many of the lines have an operation
+abbrev pub operation_count : List Line → ℕ
+operation_count lines = length (filter_map (λ line. line.op) lines)
+
+-- how many operations a volume was called with: each line's, and the last sync
+abbrev pub calls_of : Outcome → ℕ
+calls_of (EndedEarly end) = 0
+calls_of (Ran script answered last) = operation_count script + 1
+calls_of (Formatted layout fault) = 0
+calls_of (Informed f) = 0
 
 -- the line as it was answered
 abbrev pub line_reply : Answered → LineReply

@@ -1,5 +1,5 @@
 -- How lines are answered, one after another, and what their replies amount to.
-use Rattle.std.specs.Prelude.{◌≡◌, ◌≢◌, ◌⊎◌, ◌<◌, ◌≤◌, ℕ, All, length, IfSome, IsSome, option_and_then, option_map, ◌||◌, true, max, List, [], ◌∷◌, ◌++◌, map, Option, Some, None}
+use Rattle.std.specs.Prelude.{◌≡◌, ◌≢◌, ◌⊎◌, ◌+◌, ◌^◌, ◌<◌, ◌≤◌, ℕ, All, length, IfSome, IsSome, option_and_then, option_map, ◌||◌, true, max, List, [], ◌∷◌, ◌++◌, map, Option, Some, None}
 use Rattle.std.specs.List.{cons_option, filter_map}
 use Rattle.vol_types.specs.Faults.{RoseBy}
 use Rattle.dev_model.specs.Devices.{DevicesState}
@@ -11,8 +11,8 @@ use Rattle.forest_ops.specs.History.{EachEntry, History, IsLegal, commit_count}
 use Rattle.forest_ops.specs.declared.operation.Reply.{Reply}
 use Rattle.script_text.specs.declared.reading.Line.{Line}
 use Rattle.vol_session.specs.Marks.{forest_found}
-use Rattle.volume.specs.States.{AreUnspent}
-use Rattle.vol_session.specs.Sessions.{IsExact, SessionState}
+use Rattle.volume.specs.States.{AreUnspent, VolumeState}
+use Rattle.vol_session.specs.Sessions.{IsExact}
 use Rattle.vol_session.specs.Survivors.{BeginsWell, Survive}
 use Rattle.vol_types.specs.declared.layout.Layout.{Layout}
 use Rattle.geometry.specs.declared.fault.DiskFault.{DiskFault}
@@ -31,7 +31,7 @@ use Rattle.shell.specs.EarlyEnds.{end_of_disk}
 use Rattle.shell.specs.declared.early_end.EarlyEnd.TheVariants.{OutOfMemory}
 use Rattle.shell.specs.Mounts.{ComesAfter, InfoCause}
 use Rattle.shell.specs.Moments.{GainsAllBut, GainsSince}
-use Rattle.shell.specs.Outcome.{Answered, ack_by, ack_of, acks_of, early_line, early_status, entries_of, entry_of, format_line, format_status, may_wait, replies_of, reply_line, reply_lines, synced_by, text_of}
+use Rattle.shell.specs.Outcome.{Answered, ack_by, ack_of, acks_of, early_line, early_status, entries_of, entry_of, format_line, format_status, may_wait, operation_count, replies_of, reply_line, reply_lines, synced_by, text_of}
 use Rattle.shell.specs.Printing.{Prints, has_ended}
 use Rattle.shell.specs.Output.{WereMade}
 use Rattle.shell.specs.Survived.{HoldsFresh, Informs}
@@ -60,7 +60,7 @@ abbrev pub AreSyncsCounted : Forest → History → Type 0
 AreSyncsCounted forest trace = EachEntry (λ before entry. (count : ℕ) → synced_count entry.reply ≡ Some count → count ≡ commit_count forest before) trace
 
 -- A session's history goes on by these entries, with syncs that acknowledge all commits, and these acknowledgements were made.
-pub record AddsEntries {D : Type 0} (forest : Forest) (state : D → DevicesState) (old new : SessionState D) (more : History) (acknowledged : List Ack) : Type 0 where
+pub record AddsEntries {D : Type 0} (forest : Forest) (state : D → DevicesState) (old new : VolumeState D) (more : History) (acknowledged : List Ack) : Type 0 where
   pub trace : new.trace ≡ old.trace ++ more
   pub acks : new.acks ≡ old.acks ++ acknowledged
   pub counted : AreSyncsCounted forest old.trace → AreSyncsCounted forest new.trace
@@ -83,12 +83,16 @@ AreMade sink_tells devices_tell held given_at start page last text (first ∷ an
     IsMade sink_tells devices_tell held given_at start page last text first
     × AreMade sink_tells devices_tell held given_at start page last (text ++ reply_line first) answered
 
+-- Between two states of a volume so many operations were called of it, as far as it counts.
+abbrev pub AreCalled : {D : Type 0} → ℕ → VolumeState D → VolumeState D → Type 0
+AreCalled count old new = old.calls + count < 2 ^ 64 → new.calls ≡ old.calls + count
+
 -- What a sink gained between two states of a session it gained by the moment of the second.
-abbrev pub Gains : {D K : Type 0} → (D → DevicesState) → Type 0 → Type 0 → (K → List ℕ) → (K → List ℕ) → K → K → SessionState D → Type 0
+abbrev pub Gains : {D K : Type 0} → (D → DevicesState) → Type 0 → Type 0 → (K → List ℕ) → (K → List ℕ) → K → K → VolumeState D → Type 0
 Gains state devices_tell sink_tells held given_at first last log = sink_tells → devices_tell → GainsBy held given_at first last (state log.core.devices).moment
 
 -- What a sink gained between two states of a session it gained at the moment of the first or later.
-abbrev pub SinceThen : {D K : Type 0} → (D → DevicesState) → Type 0 → Type 0 → (K → List ℕ) → (K → List ℕ) → K → K → SessionState D → Type 0
+abbrev pub SinceThen : {D K : Type 0} → (D → DevicesState) → Type 0 → Type 0 → (K → List ℕ) → (K → List ℕ) → K → K → VolumeState D → Type 0
 SinceThen state devices_tell sink_tells held given_at first last log = sink_tells → devices_tell → GainsSince held given_at first last 0 (state log.core.devices).moment
 
 -- The lines of these answers were printed after a text, each of them in time.
@@ -97,10 +101,11 @@ pub record PrintsLines {K : Type 0} (sink_tells devices_tell : Type 0) (held giv
   pub made : AreMade sink_tells devices_tell held given_at start page sink text answered
 
 -- Each of the lines was answered, in order, and printed: the history has the entries, and the page the tally of the answers.
-pub record RunsLines {D K : Type 0} (forest : Forest) (state : D → DevicesState) (devices_tell sink_tells : Type 0) (held given_at : K → List ℕ) (faults : K → ℕ) (lines : List Line) (old new : SessionState D) (page new_page : Page) (sink new_sink : K) : Type 0 where
+pub record RunsLines {D K : Type 0} (forest : Forest) (state : D → DevicesState) (devices_tell sink_tells : Type 0) (held given_at : K → List ℕ) (faults : K → ℕ) (lines : List Line) (old new : VolumeState D) (page new_page : Page) (sink new_sink : K) : Type 0 where
   pub answered : List Answered
   pub are : map (λ a. a.line) answered ≡ lines
   pub history : AddsEntries forest state old new (filter_map entry_of answered) (filter_map ack_of answered)
+  pub called : AreCalled (operation_count lines) old new
   pub gains : Gains state devices_tell sink_tells held given_at sink new_sink new
   pub since : SinceThen state devices_tell sink_tells held given_at sink new_sink old
   pub until : All (λ (a : Answered). a.moment ≤ (state new.core.devices).moment) answered
@@ -110,9 +115,10 @@ pub record RunsLines {D K : Type 0} (forest : Forest) (state : D → DevicesStat
   pub tally : new_page.tally ≡ tally_after page.tally (map (λ a. a.reply) answered)
 
 -- A last sync was answered: its entry comes after the history, and nothing is printed for it.
-pub record RunsSync {D : Type 0} (forest : Forest) (state : D → DevicesState) (old new : SessionState D) (page new_page : Page) : Type 0 where
+pub record RunsSync {D : Type 0} (forest : Forest) (state : D → DevicesState) (old new : VolumeState D) (page new_page : Page) : Type 0 where
   pub reply : Reply
   pub history : AddsEntries forest state old new (last_entry reply) (cons_option (ack_by (state new.core.devices).moment reply) [])
+  pub called : AreCalled 1 old new
   pub noted : new_page ≡ record page { tally = tally_with page.tally reply }
 
 -- what a run prints whose lines have this text, after a history and with the tally of its replies
@@ -129,9 +135,10 @@ pub record EndsPrinting {K : Type 0} (sink_tells : Type 0) (held : K → List �
   pub otherwise : status ≢ 5 → (status ≡ tally_status tally) ⊎ ((status ≡ 7) × (sink_tells → IsCut text (held start) (held sink)))
 
 -- A run has ended after its lines: a last sync was answered, and the last line was printed.
-pub record RunsEnd {D K : Type 0} (forest : Forest) (state : D → DevicesState) (devices_tell sink_tells : Type 0) (held given_at : K → List ℕ) (faults : K → ℕ) (old new : SessionState D) (page : Page) (sink new_sink : K) (status : ℕ) : Type 0 where
+pub record RunsEnd {D K : Type 0} (forest : Forest) (state : D → DevicesState) (devices_tell sink_tells : Type 0) (held given_at : K → List ℕ) (faults : K → ℕ) (old new : VolumeState D) (page : Page) (sink new_sink : K) (status : ℕ) : Type 0 where
   pub reply : Reply
   pub history : AddsEntries forest state old new (last_entry reply) (cons_option (ack_by (state new.core.devices).moment reply) [])
+  pub called : AreCalled 1 old new
   pub gains : Gains state devices_tell sink_tells held given_at sink new_sink new
   pub since : SinceThen state devices_tell sink_tells held given_at sink new_sink old
   pub ends : (start : K) (text : List ℕ) → Prints sink_tells held faults start text page sink
@@ -139,13 +146,14 @@ pub record RunsEnd {D K : Type 0} (forest : Forest) (state : D → DevicesState)
   pub ended : has_ended page ≡ true → new_sink ≡ sink
 
 -- A script was run: each of its lines was answered, in order, and then a last sync.
-pub record RunsScript {K : Type 0} (forest : Forest) (sink_tells devices_tell : Type 0) (held given_at : K → List ℕ) (faults : K → ℕ) (script : List Line) (sink sink_after : K) (status : ℕ) (trace : History) (acks : List Ack) (moment_after : ℕ) : Type 0 where
+pub record RunsScript {K : Type 0} (forest : Forest) (sink_tells devices_tell : Type 0) (held given_at : K → List ℕ) (faults : K → ℕ) (script : List Line) (sink sink_after : K) (status : ℕ) (trace : History) (acks : List Ack) (calls moment_after : ℕ) : Type 0 where
   pub answered : List Answered
   pub last : Reply
   pub lines : map (λ a. a.line) answered ≡ script
   pub entries : trace ≡ entries_of answered last
   pub acknowledged : acks ≡ acks_of answered last moment_after
   pub counted : AreSyncsCounted forest trace
+  pub called : operation_count script + 1 < 2 ^ 64 → calls ≡ operation_count script + 1
   pub made : WereMade sink_tells devices_tell held given_at sink sink_after [] answered
   pub prefix : sink_tells → GivesPrefix (text_of forest answered last) (held sink) (held sink_after)
   pub whole : sink_tells → status ≢ 5 → status ≢ 7 → held sink_after ≡ held sink ++ text_of forest answered last
@@ -164,8 +172,8 @@ pub record EndsEarly (sink_tells : Type 0) (line : List ℕ) (as_asked : ℕ) (h
   pub otherwise : status ≢ 5 → status ≡ as_asked
 
 -- A session over the volume that was opened ran a script to its end, from this state of the devices on.
-pub record RunsOpened {D K : Type 0} (state : D → DevicesState) (devices_tell sink_tells : Type 0) (held given_at : K → List ℕ) (faults : K → ℕ) (begun : Found) (start : DevicesState) (script : List Line) (sink sink_after : K) (devices_after : D) (status : ℕ) (early_end : Option EarlyEnd) (trace : History) (acks : List Ack) : Type 0 where
-  pub ran : RunsScript (forest_found begun start) sink_tells devices_tell held given_at faults script sink sink_after status trace acks (state devices_after).moment
+pub record RunsOpened {D K : Type 0} (state : D → DevicesState) (devices_tell sink_tells : Type 0) (held given_at : K → List ℕ) (faults : K → ℕ) (begun : Found) (start : DevicesState) (script : List Line) (sink sink_after : K) (devices_after : D) (status : ℕ) (early_end : Option EarlyEnd) (trace : History) (acks : List Ack) (calls : ℕ) : Type 0 where
+  pub ran : RunsScript (forest_found begun start) sink_tells devices_tell held given_at faults script sink sink_after status trace acks calls (state devices_after).moment
   pub halt : Option Halt
   pub halts : Halts halt start (state devices_after) trace
   pub no_commit : NoCommitAfterHalt (forest_found begun start) trace
@@ -179,8 +187,9 @@ pub record RunsOpened {D K : Type 0} (state : D → DevicesState) (devices_tell 
   pub early : early_end ≡ None
 
 -- There was no memory to keep the volume that was opened: no line ran, and the devices are as they were.
-pub record EndsUnopened {D K : Type 0} (sink_tells : Type 0) (held : K → List ℕ) (faults : K → ℕ) (devices devices_after : D) (sink sink_after : K) (status : ℕ) (early_end : Option EarlyEnd) (trace : History) (acks : List Ack) : Type 0 where
+pub record EndsUnopened {D K : Type 0} (sink_tells : Type 0) (held : K → List ℕ) (faults : K → ℕ) (devices devices_after : D) (sink sink_after : K) (status : ℕ) (early_end : Option EarlyEnd) (trace : History) (acks : List Ack) (calls : ℕ) : Type 0 where
   pub same : devices_after ≡ devices
+  pub uncalled : calls ≡ 0
   pub ends : EndsEarly sink_tells (early_line OutOfMemory) (early_status OutOfMemory) (held sink) (held sink_after) (faults sink) (faults sink_after) status trace acks
   pub early : early_end ≡ Some OutOfMemory
 

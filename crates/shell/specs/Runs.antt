@@ -37,6 +37,7 @@ pub record Run (D K : Type 0) : Type 0 where
   pub trace : History
   pub acks : List Ack
   pub shorts : List (ℕ × Short)
+  pub calls : ℕ
 
 -- the run of a task that ended so, by what its source has left and its sink holds, by how often each has failed, and by what its devices show
 abbrev pub run_of : {S K D : Type 0} → (left : S → List ℕ) (source_faults : S → ℕ) (held : K → List ℕ) (sink_faults : K → ℕ) (state : D → DevicesState)
@@ -56,4 +57,5 @@ run_of left source_faults held sink_faults state arguments source source_after s
   trace = ended.trace;
   acks = ended.acks;
   shorts = ended.shorts;
+  calls = ended.calls;
 }

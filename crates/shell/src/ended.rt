@@ -1,6 +1,7 @@
 use crate::early_end::EarlyEnd;
 use crate::shorts::Shorts;
 use forest_ops::{Acks, Trace};
+use volume::Calls;
 
 /// How a run ended.
 #[derive(Drop)]
@@ -17,4 +18,6 @@ pub struct Ended<D> {
     pub acks: Acks,
     /// The answers that there was no space, in order. Free space isn't counted yet, so the list is empty.
     pub shorts: Shorts,
+    /// How many operations a volume was called with, as only it counts them: each line's, and the last sync.
+    pub calls: Calls,
 }

@@ -5,7 +5,7 @@ ghost use Rattle.forest_ops.specs.Fits.{entry_if_any};
 ghost use Rattle.vol_session.specs.Marks.{forest_found};
 ghost use Rattle.shell.specs.Lines.{AreRunLines, IsRunLine};
 ghost use Rattle.shell.specs.Outcome.{ack_by};
-ghost use Rattle.shell.specs.Phases.{AddsEntries, RunsEnd, RunsLines, RunsSync};
+ghost use Rattle.shell.specs.Phases.{AddsEntries, AreCalled, RunsEnd, RunsLines, RunsSync};
 
 use crate::page::{Page, give_lines, print_end, print_reply};
 use dev_model::{BEFORE_COMMIT, Devices, Gate};
@@ -81,9 +81,10 @@ fn reply_to<D: Devices, O: Opening>(volume: &mut VolState<D, O>, client: u8, op:
     requires client { client < 16 }
     requires planned { is_planned op ≡ true }
     requires bounded { IsBounded op }
-    ensures { AddsEntries (forest_found O.found O.start) D.state volume.old volume.new
+    ensures adds { AddsEntries (forest_found O.found O.start) D.state volume.old volume.new
         (cons_option (entry_if_any client op result) [])
         (cons_option (ack_by (D.state volume.new.core.devices).moment result) []) }
+    ensures called { AreCalled 1 volume.old volume.new }
 {
     match volume.call(client, op) {
         Ok(reply) => reply,

@@ -30,7 +30,7 @@ use vol_core::Opening;
 use vol_format::format;
 use vol_session::{fresh_volumes_may_run, runs_are_safe};
 use vol_types::{Bytes, Layout};
-use volume::{Finished, VolState};
+use volume::{Calls, Finished, VolState};
 
 /// Does what the arguments ask for, on the devices. Every line, error lines too, goes to the sink.
 ///
@@ -108,6 +108,7 @@ fn end_early<K: Sink<D>, D: Devices>(
     ensures devices { result.devices ≡ devices }
     ensures early { result.early_end ≡ Some end }
     ensures shorts { result.shorts ≡ [] }
+    ensures calls { result.calls ≡ 0 }
     ensures ends { EndsEarly K.tells (early_line end) (early_status end) (K.held sink.old)
         (K.held sink.new) (K.faults sink.old) (K.faults sink.new) result.status result.trace
         result.acks }
@@ -121,6 +122,7 @@ fn end_early<K: Sink<D>, D: Devices>(
         trace: Trace::new(alloc),
         acks: Acks::new(alloc),
         shorts: Shorts::none(alloc),
+        calls: Calls::none(),
     }
 }
 
@@ -134,6 +136,7 @@ fn end_told<K: Sink<D>, D: Devices>(
     ensures devices { result.devices ≡ devices }
     ensures early { result.early_end ≡ None }
     ensures shorts { result.shorts ≡ [] }
+    ensures calls { result.calls ≡ 0 }
     ensures ends { EndsEarly K.tells line.now 0 (K.held sink.old) (K.held sink.new)
         (K.faults sink.old) (K.faults sink.new) result.status result.trace result.acks }
 {
@@ -145,6 +148,7 @@ fn end_told<K: Sink<D>, D: Devices>(
         trace: Trace::new(alloc),
         acks: Acks::new(alloc),
         shorts: Shorts::none(alloc),
+        calls: Calls::none(),
     }
 }
 
@@ -163,6 +167,7 @@ fn format_devices<K: Sink<D>, D: Devices>(
         (K.held sink.old) (K.held sink.new) (K.faults sink.old) (K.faults sink.new) result.status
         result.early_end result.trace result.acks }
     ensures shorts { result.shorts ≡ [] }
+    ensures calls { result.calls ≡ 0 }
 {
     fresh_volumes_may_run();
     let mut devices = devices;
@@ -180,6 +185,7 @@ fn inform<K: Sink<D>, D: Devices>(alloc: Global, sink: &mut K, devices: D) -> En
         (D.state result.devices) (K.held sink.old) (K.held sink.new) (K.faults sink.old)
         (K.faults sink.new) result.status result.early_end result.trace result.acks }
     ensures shorts { result.shorts ≡ [] }
+    ensures calls { result.calls ≡ 0 }
 {
     let mut devices = devices;
     match info_text(alloc, &mut devices) {
@@ -230,8 +236,8 @@ fn run_prepared<K: Sink<D>, D: Devices, G: Gate, O: Opening>(
     requires runs { AreRunLines prepared.script }
     ensures ran { RunsOpened D.state D.tells K.tells K.held K.given_at K.faults O.found O.start
         prepared.script sink.old sink.new result.devices result.status result.early_end result.trace
-        result.acks ⊎ EndsUnopened K.tells K.held K.faults devices result.devices sink.old sink.new
-        result.status result.early_end result.trace result.acks }
+        result.acks result.calls ⊎ EndsUnopened K.tells K.held K.faults devices result.devices sink.old sink.new
+        result.status result.early_end result.trace result.acks result.calls }
     ensures shorts { result.shorts ≡ [] }
 {
     let Prepared { script, loaded } = prepared;
@@ -254,10 +260,11 @@ fn run_opened<K: Sink<D>, D: Devices, G: Gate, O: Opening>(
 ) -> Ended<D>
     requires trace { volume.trace ≡ [] }
     requires acks { volume.acks ≡ [] }
+    requires calls { volume.calls ≡ 0 }
     requires runs { AreRunLines script }
     ensures ran { RunsOpened D.state D.tells K.tells K.held K.given_at K.faults O.found O.start
         script sink.old sink.new result.devices result.status result.early_end result.trace
-        result.acks }
+        result.acks result.calls }
     ensures shorts { result.shorts ≡ [] }
 {
     let mut volume = volume;
@@ -269,6 +276,7 @@ fn run_opened<K: Sink<D>, D: Devices, G: Gate, O: Opening>(
         devices,
         trace,
         acks,
+        calls,
         ..
     } = volume.finish();
     Ended {
@@ -278,5 +286,6 @@ fn run_opened<K: Sink<D>, D: Devices, G: Gate, O: Opening>(
         trace,
         acks,
         shorts: Shorts::none(alloc),
+        calls,
     }
 }

@@ -20,7 +20,7 @@ returns g c =
     let last_sink = c.print_reply.new.sink in
     let reply = c.reply_to-reply.result in
     runs_one (forest_found g.O.Opening.found g.O.Opening.start) D.state D.tells K.tells K.held K.given_at K.faults line reply old new page last c.args.sink.now last_sink
-    c.reply_to-reply.ensures
+    c.reply_to-reply.ensures.called c.reply_to-reply.ensures.adds
     c.print_reply.ensures.prints
     (λ told told_too. same_moment K.held K.given_at c.args.sink.now last_sink c.devices.result.now new.core.devices D.state c.devices.ensures (c.print_reply.ensures.gains told))
     (λ some goes. subst (λ (lines : List ℕ). length lines ≤ may_wait reply) (sym (c.print_reply.ensures.waits goes)) (few_wait page.lines (reply_line_of c.args.client c.args.number reply) reply)) c.print_reply.ensures.ended c.print_reply.ensures.same c.print_reply.ensures.tally

@@ -39,6 +39,7 @@ returns g c =
     record {
       reply = sync.reply;
       history = sync.history;
+      called = λ few. sync.called few;
       ends = λ start text prints.
           let before : Prints K.tells K.held K.faults start text synced mid_sink = prints_noted K.tells K.held K.faults start text given synced mid_sink (ap (λ (p : Page). p.lines) sync.noted) (ap (λ (p : Page). p.is_cut) sync.noted) (ap (λ (p : Page). p.has_failed) sync.noted) (c.give_lines.ensures.prints start text prints) in
           let after : Prints K.tells K.held K.faults start (text ++ end_line_of (commit_count forest trace) (tally_with page.tally sync.reply).synced) last last_sink =

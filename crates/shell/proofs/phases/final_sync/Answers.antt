@@ -13,6 +13,7 @@ returns g c =
     let new = c.reply_to-reply.new.volume in
     record {
       reply = reply;
-      history = subst (λ more. AddsEntries (forest_found g.O.Opening.found g.O.Opening.start) D.state c.args.volume.now new more (cons_option (ack_by (D.state new.core.devices).moment reply) [])) (last_is reply) c.reply_to-reply.ensures;
+      history = subst (λ more. AddsEntries (forest_found g.O.Opening.found g.O.Opening.start) D.state c.args.volume.now new more (cons_option (ack_by (D.state new.core.devices).moment reply) [])) (last_is reply) c.reply_to-reply.ensures.adds;
+      called = c.reply_to-reply.ensures.called;
       noted = c.note.ensures;
     }

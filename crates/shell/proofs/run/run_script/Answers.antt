@@ -25,12 +25,12 @@ returns-in-Ok g c arguments run =
     let failed = S.faults c.args.source.now in
     let failed_after = S.faults c.prepare-begun.new.source in
     ⊎_elim
-    (λ (ran : RunsOpened D.state D.tells K.tells K.held K.given_at K.faults (found_in prepared.loaded) (D.state mid) prepared.script sink sink_after ended.devices ended.status ended.early_end ended.trace ended.acks).
-    ran_opened S.tells K.tells D.tells D.state K.held K.given_at K.faults arguments left left_after failed failed_after sink sink_after first ended.devices ended.status ended.early_end ended.trace ended.acks ended.shorts
+    (λ (ran : RunsOpened D.state D.tells K.tells K.held K.given_at K.faults (found_in prepared.loaded) (D.state mid) prepared.script sink sink_after ended.devices ended.status ended.early_end ended.trace ended.acks ended.calls).
+    ran_opened S.tells K.tells D.tells D.state K.held K.given_at K.faults arguments left left_after failed failed_after sink sink_after first ended.devices ended.status ended.early_end ended.trace ended.acks ended.shorts ended.calls
     (found_in prepared.loaded) (D.state mid) prepared.script c.runs_are_safe.ensures.begins c.runs_are_safe.ensures.session (λ told. g.met.D.Devices.sound told mid)
     c.in-Ok.ensures.opened c.prepare-begun.ensures.keeps c.prepare-begun.ensures.goes_on c.in-Ok.ensures.gave c.in-Ok.ensures.still run ran c.run_prepared.ensures.shorts)
-    (λ (unopened : EndsUnopened K.tells K.held K.faults mid ended.devices sink sink_after ended.status ended.early_end ended.trace ended.acks).
-    ended_unopened S.tells K.tells D.tells D.state K.held K.given_at K.faults arguments left left_after failed failed_after sink sink_after first ended.devices ended.status ended.early_end ended.trace ended.acks ended.shorts
+    (λ (unopened : EndsUnopened K.tells K.held K.faults mid ended.devices sink sink_after ended.status ended.early_end ended.trace ended.acks ended.calls).
+    ended_unopened S.tells K.tells D.tells D.state K.held K.given_at K.faults arguments left left_after failed failed_after sink sink_after first ended.devices ended.status ended.early_end ended.trace ended.acks ended.shorts ended.calls
     mid prepared.script c.runs_are_safe.ensures.opening c.prepare-begun.ensures.keeps c.prepare-begun.ensures.goes_on c.prepare-begun.ensures.unmounted c.in-Ok.ensures.gave c.in-Ok.ensures.still run unopened c.run_prepared.ensures.shorts)
     c.run_prepared.ensures.ran
 
@@ -54,4 +54,4 @@ returns-in-Err g c arguments run =
     (subst (λ d. OnlyReadUnmounted D.tells old (D.state d)) (sym early.devices) c.prepare-begun.ensures.unmounted)
     (λ told f may. subst (λ d. RunSurvives f old (D.state d) [] []) (sym early.devices) (c.runs_are_safe.ensures.opening f old (D.state mid) may (c.prepare-begun.ensures.keeps told f may.on)))
     (subst (λ d. old.moment ≤ (D.state d).moment) (sym early.devices) c.prepare-begun.ensures.goes_on.later)
-    early.early early.shorts
+    early.early early.shorts early.calls

@@ -24,7 +24,7 @@ returns-in-Info g c arguments asked =
     let ended = c.inform.result in
     let info : IsInfo arguments (D.state c.args.devices).sizes = asked ∙ ap (λ (task : Task). Some task) c.in-Info.is in
     let all : Run g.row.D.Denot g.row.K.Denot = run_of S.left S.faults K.held K.faults D.state arguments c.args.source.now c.args.source.now c.args.sink.now c.inform.new.sink c.args.devices ended in
-    informed S.tells K.tells D.tells K.held K.given_at all info refl refl c.runs_are_safe.ensures.opening c.inform.ensures.shorts c.inform.ensures.informs
+    informed S.tells K.tells D.tells K.held K.given_at all info refl refl c.runs_are_safe.ensures.opening c.inform.ensures.shorts c.inform.ensures.calls c.inform.ensures.informs
 
 pub formatted_line-requires : goal.formatted_line-requires
 formatted_line-requires g c =
@@ -53,7 +53,7 @@ returns-in-Ok g c arguments asked =
     let ended = c.format_devices-ended.result in
     let format : IsFormat arguments (D.state c.args.devices).sizes layout = asked ∙ ap (λ (task : Task). Some task) c.in-Format.is in
     let all : Run g.row.D.Denot g.row.K.Denot = run_of S.left S.faults K.held K.faults D.state arguments c.args.source.now c.args.source.now c.args.sink.now c.format_devices-ended.new.sink c.args.devices ended in
-    formatted S.tells K.tells D.tells K.held K.given_at all layout format c.format_devices-ended.ensures.formats refl refl c.format_devices-ended.ensures.shorts
+    formatted S.tells K.tells D.tells K.held K.given_at all layout format c.format_devices-ended.ensures.formats refl refl c.format_devices-ended.ensures.shorts c.format_devices-ended.ensures.calls
 
 pub returns-in-Err : goal.returns-in-Err
 returns-in-Err g c arguments asked =
@@ -70,4 +70,4 @@ returns-in-Err g c arguments asked =
     (subst (λ d. OnlyReadUnmounted D.tells old (D.state d)) (sym early.devices) (λ told unfailed error. only_read_here D.tells old))
     (λ told f may. subst (λ d. RunSurvives f old (D.state d) [] []) (sym early.devices) (untouched_survives c.runs_are_safe.ensures.opening f old may))
     (subst (λ d. old.moment ≤ (D.state d).moment) (sym early.devices) (omega arith))
-    early.early early.shorts
+    early.early early.shorts early.calls

@@ -42,4 +42,4 @@ returns-in-Err g c =
     (subst (λ d. OnlyReadUnmounted D.tells old (D.state d)) (sym early.devices) (λ told unfailed error. only_read_here D.tells old))
     (λ told f may. subst (λ d. RunSurvives f old (D.state d) [] []) (sym early.devices) (untouched_survives c.runs_are_safe.ensures.opening f old may))
     (subst (λ d. old.moment ≤ (D.state d).moment) (sym early.devices) (omega arith))
-    early.early early.shorts
+    early.early early.shorts early.calls
