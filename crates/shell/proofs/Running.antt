@@ -82,14 +82,14 @@ module _ {K : Type 0} (sink_tells devices_tell : Type 0) (held given_at : K → 
     made_later text [] until made = tt
     made_later text (first ∷ answered) until made = (
       (λ some told told_too.
-      let one = made.0 some told told_too in
-      record {
-        since = since_still held given_at start last new_last (length text) first.moment from (All-head (λ (a : Answered). a.moment ≤ from) first answered until) one.since (since told told_too);
-        by = ⊎_elim
-            (λ (all : GainsAllBut held given_at start last (text ++ reply_line first) (may_wait first.reply) first.moment). inl (all_but_still held given_at start last new_last (text ++ reply_line first) (may_wait first.reply) first.moment moment all (gains told told_too)))
-            (λ (end : (has_ended page ≡ true) × GivesPrefix (text ++ reply_line first) (held start) (held last)). inr ((ended end.0).0, subst (λ k. GivesPrefix (text ++ reply_line first) (held start) (held k)) (sym (ended end.0).1) end.1))
-            one.by;
-      }),
+          let one = made.0 some told told_too in
+          record {
+            since = since_still held given_at start last new_last (length text) first.moment from (All-head (λ (a : Answered). a.moment ≤ from) first answered until) one.since (since told told_too);
+            by = ⊎_elim
+                (λ (all : GainsAllBut held given_at start last (text ++ reply_line first) (may_wait first.reply) first.moment). inl (all_but_still held given_at start last new_last (text ++ reply_line first) (may_wait first.reply) first.moment moment all (gains told told_too)))
+                (λ (end : (has_ended page ≡ true) × GivesPrefix (text ++ reply_line first) (held start) (held last)). inr ((ended end.0).0, subst (λ k. GivesPrefix (text ++ reply_line first) (held start) (held k)) (sym (ended end.0).1) end.1))
+                one.by;
+          }),
       made_later (text ++ reply_line first) answered (All-tail (λ (a : Answered). a.moment ≤ from) first answered until) made.1,
     )
 
@@ -99,14 +99,14 @@ module _ {K : Type 0} (sink_tells devices_tell : Type 0) (held given_at : K → 
     were_made text [] until made = tt
     were_made text (first ∷ answered) until made = (
       (λ some told told_too.
-      let one = made.0 some told told_too in
-      record {
-        since = since_still held given_at start last final (length text) first.moment from (All-head (λ (a : Answered). a.moment ≤ from) first answered until) one.since (since told told_too);
-        by = ⊎_elim
-            (λ (all : GainsAllBut held given_at start last (text ++ reply_line first) (may_wait first.reply) first.moment). inl (all_but_still held given_at start last final (text ++ reply_line first) (may_wait first.reply) first.moment moment all (gains told told_too)))
-            (λ (end : (has_ended page ≡ true) × GivesPrefix (text ++ reply_line first) (held start) (held last)). inr (subst (λ k. GivesPrefix (text ++ reply_line first) (held start) (held k)) (sym (ended end.0)) end.1))
-            one.by;
-      }),
+          let one = made.0 some told told_too in
+          record {
+            since = since_still held given_at start last final (length text) first.moment from (All-head (λ (a : Answered). a.moment ≤ from) first answered until) one.since (since told told_too);
+            by = ⊎_elim
+                (λ (all : GainsAllBut held given_at start last (text ++ reply_line first) (may_wait first.reply) first.moment). inl (all_but_still held given_at start last final (text ++ reply_line first) (may_wait first.reply) first.moment moment all (gains told told_too)))
+                (λ (end : (has_ended page ≡ true) × GivesPrefix (text ++ reply_line first) (held start) (held last)). inr (subst (λ k. GivesPrefix (text ++ reply_line first) (held start) (held k)) (sym (ended end.0)) end.1))
+                one.by;
+          }),
       were_made (text ++ reply_line first) answered (All-tail (λ (a : Answered). a.moment ≤ from) first answered until) made.1,
     )
 
