@@ -236,7 +236,8 @@ pub(crate) fn read_end<D: Devices>(
         → ¬ (sets_of (block_at (as_read (now (D.state devices.old)))) id.now ptr.now ≡ Ok found)) }
     ensures read { AreOnlyRead D.tells (D.state devices.old) (D.state devices.new) }
 {
-    let seen = see_copies(alloc, devices, ptr.places.as_slice())?;
+    let places = ptr.places.as_slice();
+    let seen = see_copies(alloc, devices, places)?;
     sure_end(alloc, &seen, id, ptr.birth)
 }
 
