@@ -1,7 +1,25 @@
 -- What the arguments of the program name: the arguments of a command, and its image files.
-use Rattle.std.specs.Prelude.{ℕ, ◌+◌, Bool, ◌&&◌, nat_le, if◌then◌else◌, List, codes, length, take, drop, Option, Some, None, option_and_then}
+use Rattle.std.specs.Prelude.{ℕ, ◌+◌, Bool, false, ◌&&◌, ◌||◌, nat_le, if◌then◌else◌, List, [], ◌∷◌, codes, length, take, drop, Option, Some, None, option_and_then}
 use Rattle.std.specs.List.{position_from}
 use Rattle.std.specs.Str.{bytes_eq}
+
+-- the argument asks for help
+abbrev pub is_help : List ℕ → Bool
+is_help arg = bytes_eq arg (codes "--help") || bytes_eq arg (codes "-h")
+
+-- the argument is the word for it
+abbrev pub is_help_word : List ℕ → Bool
+is_help_word arg = is_help arg || bytes_eq arg (codes "help")
+
+-- the argument is a command that has a help of its own
+abbrev pub has_help : List ℕ → Bool
+has_help arg = bytes_eq arg (codes "format") || bytes_eq arg (codes "run") || bytes_eq arg (codes "info")
+
+-- the arguments ask for help, on the program or on a command, or for the version
+abbrev pub asks_help : List (List ℕ) → Bool
+asks_help (only ∷ []) = is_help_word only || bytes_eq only (codes "--version")
+asks_help (first ∷ second ∷ []) = if is_help second then has_help first else (is_help_word first && has_help second)
+asks_help args = false
 
 -- the argument is `--`
 abbrev pub is_dashes : List ℕ → Bool

@@ -1,29 +1,66 @@
-ghost use Rattle.std.specs.Prelude.{◌≡◌, ◌<◌, ◌≤◌, length, map, option_map, IfSome};
+ghost use Rattle.std.specs.Prelude.{◌≡◌, ◌<◌, ◌≤◌, [], ◌∷◌, is_some, length, map, option_map, IfSome};
 ghost use Rattle.std.specs.Rc.{rc_str_bytes};
-ghost use Rattle.bvol.specs.Arguments.{is_dashes, first_dashes, words_and_files};
+ghost use Rattle.bvol.specs.Arguments.{asks_help, first_dashes, has_help, is_dashes, is_help, is_help_word, words_and_files};
 
 use crate::help::{FORMAT_HELP, HELP, INFO_HELP, RUN_HELP, VERSION};
 use file_devices::MOST_DEVICES;
 use std::rc::RcStr;
 
 /// The text that the arguments ask for, where they ask for help or for the version.
-pub fn help_for(args: &[RcStr]) -> Option<&'static str> {
+pub fn help_for(args: &[RcStr]) -> Option<&'static str>
+    ensures { is_some result ≡ asks_help (map rc_str_bytes args.now) }
+{
     match args {
-        [only] if is_help(only) || only.as_str() == "help" => Some(HELP),
-        [only] if only.as_str() == "--version" => Some(VERSION),
-        [first, second] if is_help(second) => help_of(first),
-        [first, second] if is_help(first) || first.as_str() == "help" => help_of(second),
+        [only] => help_alone(only),
+        [first, second] => help_by(first, second),
         _ => None,
     }
 }
 
+// The text that an argument asks for alone.
+fn help_alone(only: &RcStr) -> Option<&'static str>
+    ensures { is_some result ≡ asks_help (rc_str_bytes only.now ∷ []) }
+{
+    if is_help_word(only) {
+        return Some(HELP);
+    }
+    if only.as_str() == "--version" {
+        return Some(VERSION);
+    }
+    None
+}
+
+// The text that two arguments ask for.
+fn help_by(first: &RcStr, second: &RcStr) -> Option<&'static str>
+    ensures { is_some result ≡ asks_help (rc_str_bytes first.now ∷ rc_str_bytes second.now ∷ []) }
+{
+    if is_help(second) {
+        return help_of(first);
+    }
+    if is_help_word(first) {
+        return help_of(second);
+    }
+    None
+}
+
 // Whether the argument asks for help, before a command, after it or alone.
-fn is_help(arg: &RcStr) -> bool {
+fn is_help(arg: &RcStr) -> bool
+    ensures { result ≡ is_help (rc_str_bytes arg.now) }
+{
     arg.as_str() == "--help" || arg.as_str() == "-h"
 }
 
+// Whether it does so before a command or alone.
+fn is_help_word(arg: &RcStr) -> bool
+    ensures { result ≡ is_help_word (rc_str_bytes arg.now) }
+{
+    is_help(arg) || arg.as_str() == "help"
+}
+
 // The text on a command.
-fn help_of(command: &RcStr) -> Option<&'static str> {
+fn help_of(command: &RcStr) -> Option<&'static str>
+    ensures { is_some result ≡ has_help (rc_str_bytes command.now) }
+{
     match command.as_str() {
         "format" => Some(FORMAT_HELP),
         "run" => Some(RUN_HELP),

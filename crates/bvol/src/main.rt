@@ -2,7 +2,9 @@
 //! to standard output; beside an error line, standard error has a sentence for people.
 #![tactic(auto)]
 
-ghost use Rattle.std.specs.Prelude.{◌≡◌, ◌≤◌, length};
+ghost use Rattle.std.specs.Prelude.{◌≡◌, ◌≤◌, ℕ, List, IfOk, if◌then◌else◌, is_ok, length, map};
+ghost use Rattle.std.specs.Rc.{rc_str_bytes};
+ghost use Rattle.bvol.specs.Statuses.{IsStatusFor, IsStatusOfRun};
 
 mod advice;
 mod arguments;
@@ -13,53 +15,88 @@ mod refusal;
 
 use advice::{Advice, RefusalAdvice};
 use arguments::{help_for, words_and_paths};
-use dev_model::NoGate;
-use file_devices::{MOST_DEVICES, open_devices};
+use dev_model::{Devices, NoGate};
+use file_devices::{FileDevices, open_devices};
 use judging::judge_arguments;
 use overwriting::say_what_is_lost;
 use refusal::NotBegun;
-use shell::run_task;
+use shell::{Ended, run_task};
 use std::alloc::Global;
 use std::env;
 use std::fs::File;
-use std::io::{self, Eprint, Read, Write};
+use std::io::{self, Eprint};
 use std::process::ExitCode;
 use std::rc::RcStr;
 use std::rt::{Env, Files};
-use text_io::{StdSink, StdSource};
+use text_io::{Sink, Source, StdSink, StdSource};
 
 /// The status of a program that couldn't print.
 const SINK_FAILED: u8 = 5;
 
 fn main(rt: HostRuntime) -> ExitCode {
-    let status = match run(&rt, rt.alloc(), rt.stdin(), rt.stdout()) {
+    let mut source = StdSource::new(rt.stdin());
+    let mut sink = StdSink::new(rt.stdout());
+    let status = match run(&rt, rt.alloc(), &mut source, &mut sink) {
         Ok(status) => status,
         Err(refusal) => printed(rt.println(refusal), refusal.status()),
     };
+    drop(sink);
+    drop(source);
     ExitCode::from(status)
 }
 
 // The status, or that of a program that couldn't print.
-fn printed(answer: io::Result<()>, status: u8) -> u8 {
+fn printed(answer: io::Result<()>, status: u8) -> u8
+    ensures { result ≡ if is_ok answer then status else 5 }
+{
     if answer.is_ok() { status } else { SINK_FAILED }
 }
 
-// Does what the arguments ask for, and gives the status with which the program ends.
-fn run<R: Files<File = File> + Env + AllocGlobal + Print + Eprint, I: Read + Drop, O: Write + Drop>(
+// Does what the program's arguments ask for, and gives the status with which it ends.
+fn run<
+    R: Files<File = File> + Env + AllocGlobal + Print + Eprint,
+    S: Source,
+    K: Sink<FileDevices<File>>,
+>(
     rt: &R,
     alloc: Global,
-    input: I,
-    output: O,
-) -> Result<u8, NotBegun> {
+    source: &mut S,
+    sink: &mut K,
+) -> Result<u8, NotBegun>
+    ensures { IfOk result (λ status. (args : List (List ℕ)) × IsStatusFor S.tells K.tells ⟦<FileDevices<File> as Devices>⟧.tells
+        S.left S.faults K.held K.given_at K.faults ⟦<FileDevices<File> as Devices>⟧.state
+        source.old source.new sink.old sink.new args status) }
+{
     let args = match read_arguments(rt, alloc) {
         Ok(args) => args,
         Err(refusal) => return Err(advised(rt, refusal, &[], &[])),
     };
-    if let Some(text) = help_for(&args) {
+    run_with(rt, alloc, &args, source, sink)
+}
+
+// Does what these arguments ask for.
+fn run_with<
+    R: Files<File = File> + Env + AllocGlobal + Print + Eprint,
+    S: Source,
+    K: Sink<FileDevices<File>>,
+>(
+    rt: &R,
+    alloc: Global,
+    args: &[RcStr],
+    source: &mut S,
+    sink: &mut K,
+) -> Result<u8, NotBegun>
+    ensures { IfOk result (IsStatusFor S.tells K.tells ⟦<FileDevices<File> as Devices>⟧.tells
+        S.left S.faults K.held K.given_at K.faults ⟦<FileDevices<File> as Devices>⟧.state
+        source.old source.new sink.old sink.new (map rc_str_bytes args.now)) }
+{
+    if let Some(text) = help_for(args) {
         return Ok(printed(rt.print(text), 0));
     }
-    let (arguments, images) = words_and_paths(&args).unwrap_or((&args, &[]));
-    match run_on(rt, alloc, arguments, images, input, output) {
+    let Some((arguments, images)) = words_and_paths(args) else {
+        return Err(advised(rt, NotBegun::Usage, args, &[]));
+    };
+    match run_on(rt, alloc, arguments, images, source, sink) {
         Ok(status) => Ok(status),
         Err(refusal) => Err(advised(rt, refusal, arguments, images)),
     }
@@ -71,7 +108,9 @@ fn advised<R: Eprint>(
     refusal: NotBegun,
     arguments: &[RcStr],
     images: &[RcStr],
-) -> NotBegun {
+) -> NotBegun
+    ensures { result ≡ refusal }
+{
     drop(rt.eprintln(RefusalAdvice {
         refusal,
         arguments,
@@ -80,43 +119,40 @@ fn advised<R: Eprint>(
     refusal
 }
 
-// Does what the arguments ask for on the images, and lets the input and the output go.
+// Judges the arguments, opens and locks the images, and does what is asked for on them.
 fn run_on<
     R: Files<File = File> + Env + AllocGlobal + Print + Eprint,
-    I: Read + Drop,
-    O: Write + Drop,
+    S: Source,
+    K: Sink<FileDevices<File>>,
 >(
     rt: &R,
     alloc: Global,
     arguments: &[RcStr],
     images: &[RcStr],
-    input: I,
-    output: O,
-) -> Result<u8, NotBegun> {
-    let mut source = StdSource::new(input);
-    let mut sink = StdSink::new(output);
-    let status = run_over(rt, alloc, arguments, images, &mut source, &mut sink);
-    drop(sink);
-    drop(source);
-    status
-}
-
-// Judges the arguments, opens and locks the images, and does what is asked for on them.
-fn run_over<R: Files<File = File> + Env + AllocGlobal + Print + Eprint, I: Read, O: Write>(
-    rt: &R,
-    alloc: Global,
-    arguments: &[RcStr],
-    images: &[RcStr],
-    source: &mut StdSource<I>,
-    sink: &mut StdSink<O>,
-) -> Result<u8, NotBegun> {
-    if images.is_empty() || images.len() > MOST_DEVICES {
-        return Err(NotBegun::Usage);
-    }
+    source: &mut S,
+    sink: &mut K,
+) -> Result<u8, NotBegun>
+    requires { (1 ≤ length images.now) × (length images.now ≤ 8) }
+    ensures { IfOk result (IsStatusOfRun S.tells K.tells ⟦<FileDevices<File> as Devices>⟧.tells
+        S.left S.faults K.held K.given_at K.faults ⟦<FileDevices<File> as Devices>⟧.state
+        source.old source.new sink.old sink.new (map rc_str_bytes arguments.now)) }
+{
     let task = judge_arguments(alloc, arguments, count_of(images))?;
     let mut devices = open_devices(rt, alloc, images)?;
     say_what_is_lost(rt, &task, &mut devices, images);
     let ended = run_task(rt, alloc, task, source, sink, devices, &NoGate);
+    Ok(status_told(rt, ended, arguments, images))
+}
+
+// The status of a run; where it ended early, standard error has a sentence on why.
+fn status_told<R: Eprint, D: Drop>(
+    rt: &R,
+    ended: Ended<D>,
+    arguments: &[RcStr],
+    images: &[RcStr],
+) -> u8
+    ensures { result ≡ ended.status }
+{
     let status = ended.status;
     if let Some(end) = ended.early_end {
         drop(rt.eprintln(Advice {
@@ -126,7 +162,7 @@ fn run_over<R: Files<File = File> + Env + AllocGlobal + Print + Eprint, I: Read,
         }));
     }
     drop(ended);
-    Ok(status)
+    status
 }
 
 // How many images there are.

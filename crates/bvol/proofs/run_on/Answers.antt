@@ -2,7 +2,7 @@ use Rattle.std.proofs.Common.{◌≡◌, ℕ, List, Some, Global, length, map, a
 use Rattle.std.specs.Rc.{rc_str_bytes}
 use Rattle.std.proofs.lemmas.List.{length-map}
 use Rattle.shell.specs.Tasks.{task_of}
-use Rattle.bvol.proofs.run_over.Goals as goal
+use Rattle.bvol.proofs.run_on.Goals as goal
 
 pub run_task-ended-requires-after_bounds : goal.run_task-ended-requires-after_bounds
 run_task-ended-requires-after_bounds g c κs within =
