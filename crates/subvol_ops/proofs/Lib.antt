@@ -1,0 +1,5 @@
+pub mod Chains
+pub mod Listed
+pub mod Looked
+pub mod MadeUpdates
+pub mod Moved
