@@ -57,12 +57,7 @@ fn run<
     R: Files<File = File> + Env + AllocGlobal + Print + Eprint,
     S: Source,
     K: Sink<FileDevices<File>>,
->(
-    rt: &R,
-    alloc: Global,
-    source: &mut S,
-    sink: &mut K,
-) -> Result<u8, NotBegun>
+>(rt: &R, alloc: Global, source: &mut S, sink: &mut K) -> Result<u8, NotBegun>
     ensures { IfOk result (λ status. (args : List (List ℕ)) × IsStatusFor S.tells K.tells ⟦<FileDevices<File> as Devices>⟧.tells
         S.left S.faults K.held K.given_at K.faults ⟦<FileDevices<File> as Devices>⟧.state
         source.old source.new sink.old sink.new args status) }
@@ -79,13 +74,7 @@ fn run_with<
     R: Files<File = File> + Env + AllocGlobal + Print + Eprint,
     S: Source,
     K: Sink<FileDevices<File>>,
->(
-    rt: &R,
-    alloc: Global,
-    args: &[RcStr],
-    source: &mut S,
-    sink: &mut K,
-) -> Result<u8, NotBegun>
+>(rt: &R, alloc: Global, args: &[RcStr], source: &mut S, sink: &mut K) -> Result<u8, NotBegun>
     ensures { IfOk result (IsStatusFor S.tells K.tells ⟦<FileDevices<File> as Devices>⟧.tells
         S.left S.faults K.held K.given_at K.faults ⟦<FileDevices<File> as Devices>⟧.state
         source.old source.new sink.old sink.new (map rc_str_bytes args.now)) }
@@ -103,12 +92,7 @@ fn run_with<
 }
 
 // The refusal, of which standard error has its sentence.
-fn advised<R: Eprint>(
-    rt: &R,
-    refusal: NotBegun,
-    arguments: &[RcStr],
-    images: &[RcStr],
-) -> NotBegun
+fn advised<R: Eprint>(rt: &R, refusal: NotBegun, arguments: &[RcStr], images: &[RcStr]) -> NotBegun
     ensures { result ≡ refusal }
 {
     drop(rt.eprintln(RefusalAdvice {
