@@ -1,4 +1,5 @@
 pub mod Chains
+pub mod Gathered
 pub mod Listed
 pub mod Looked
 pub mod MadeUpdates

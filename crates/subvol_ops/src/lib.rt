@@ -4,6 +4,7 @@
 #![tactic(auto)]
 
 mod counters;
+mod listing;
 mod making;
 mod names;
 mod removing;
@@ -11,6 +12,7 @@ mod slots;
 mod snapshots;
 mod updates;
 
+pub use listing::list_subvolumes;
 pub use making::make_subvolume;
 pub use removing::remove_subvolume;
 pub use snapshots::make_snapshot;

@@ -78,8 +78,8 @@ fn value_in_key(key: Option<Key>) -> Option<Value>
     }
 }
 
-// The subvolumes that a value holds.
-fn subs_of(alloc: Global, value: Option<Value>) -> SubList
+/// The subvolumes that a value holds.
+pub(crate) fn subs_of(alloc: Global, value: Option<Value>) -> SubList
     ensures { result ≡ subs_of value }
 {
     match value {
