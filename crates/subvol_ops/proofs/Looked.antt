@@ -12,7 +12,6 @@ use Rattle.key_meaning.specs.Forest.{subs_of}
 use Rattle.snap_tree.specs.Snaps.{Snaps}
 use Rattle.subvol_ops.specs.Plans.{found_among}
 use Rattle.subvol_ops.specs.Slots.{leaf_among, leaf_of}
-use Rattle.subvol_ops.specs.declared.slots.Leaf.{Leaf}
 use Rattle.vol_types.specs.Maps.{value_at}
 use Rattle.vol_types.specs.Ranges.{IsKeyValue}
 use Rattle.vol_types.specs.declared.values.Snap.{Snap}

@@ -1,12 +1,12 @@
 -- The updates of subvolumes may be made, and are few.
-use Rattle.std.proofs.Common.{◌≡◌, ℕ, ◌+◌, ◌-◌, ◌≤◌, ◌<◌, Bool, true, false, Option, Some, None, List, [], ◌∷◌, ◌++◌, refl, ap, length, get_or, arith}
-use Rattle.std.specs.Prelude.{◌≢◌, ◌==◌, All, if◌then◌else◌}
+use Rattle.std.proofs.Common.{◌≡◌, ℕ, ◌+◌, ◌-◌, ◌≤◌, ◌<◌, Bool, true, false, Some, List, [], ◌∷◌, ◌++◌, refl, ap, length, get_or, arith}
+use Rattle.std.specs.Prelude.{◌≢◌, ◌==◌, if◌then◌else◌}
 use Rattle.std.specs.List.{AllByRecursion}
 use Rattle.std.proofs.lemmas.List.Elements.{All-from_recursion}
 use Rattle.std.proofs.lemmas.List.Sums.{sum_by-le}
 use Rattle.id_steps.specs.Entries.{counter_update, subs_update, subs_value}
 use Rattle.id_steps.specs.Ids.{dead, split_updates}
-use Rattle.id_steps.specs.Steps.{empty_directory, made_sub, made_updates, removal_updates, slots_updates, snapshot_updates}
+use Rattle.id_steps.specs.Steps.{empty_directory, made_sub, made_updates, removal_updates, snapshot_updates}
 use Rattle.key_meaning.specs.Forest.{next_in}
 use Rattle.key_meaning.specs.Numbers.{own_inode}
 use Rattle.key_steps.specs.Steps.{inode_value}
@@ -17,7 +17,7 @@ use Rattle.vol_types.specs.Btrees.{btree_code}
 use Rattle.vol_types.specs.KeyMaps.{KeyMap}
 use Rattle.vol_types.specs.LengthLaws.{short_key}
 use Rattle.vol_types.specs.Ranges.{IsKeyValue}
-use Rattle.vol_types.specs.Standing.{IsUpdate, MayStand}
+use Rattle.vol_types.specs.Standing.{IsUpdate}
 use Rattle.vol_types.specs.declared.keys.Update.{Update}
 use Rattle.vol_types.specs.declared.positions.Btree.TheVariants.{Extents}
 use Rattle.vol_types.specs.declared.values.Snap.{Snap}

@@ -1,5 +1,5 @@
 -- The first key at a slot or behind it tells the next slot.
-use Rattle.std.proofs.Common.{◌≤◌, ℕ, Option, sym, subst}
+use Rattle.std.proofs.Common.{◌≤◌, Option, sym, subst}
 use Rattle.std.specs.Prelude.{IfSome}
 use Rattle.path_plan.specs.LookLaws.{gives_last}
 use Rattle.subvol_ops.proofs.Gathered.{next_found, slot_above}

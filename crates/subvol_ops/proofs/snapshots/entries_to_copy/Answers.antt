@@ -1,5 +1,5 @@
 -- The copy of the source, which has moved.
-use Rattle.std.proofs.Common.{◌≡◌, ap, ◌∙◌}
+use Rattle.std.proofs.Common.{ap, ◌∙◌}
 use Rattle.id_steps.specs.SlotLists.{with_sub}
 use Rattle.id_steps.specs.Steps.{slots_updates}
 use Rattle.path_plan.specs.LookLaws.{carried}

@@ -1,5 +1,5 @@
 -- The refusals of the forest in its order, and then a leaf that is split.
-use Rattle.std.proofs.Common.{◌≡◌, ◌-◌, Some, refl, sym, ap, ◌∙◌, subst, arith}
+use Rattle.std.proofs.Common.{◌-◌, Some, refl, sym, ap, ◌∙◌, subst, arith}
 use Rattle.std.specs.Prelude.{IsSome, Ok, is_some}
 use Rattle.std.specs.Option.{ok_or}
 use Rattle.forest_ops.specs.Refusals.{◌>>=◌, Agrees}

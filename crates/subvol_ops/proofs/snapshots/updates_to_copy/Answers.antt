@@ -1,5 +1,5 @@
 -- The leaf that is split, the slots, and the ids that are drawn, one after the other.
-use Rattle.std.proofs.Common.{◌≡◌, ◌-◌, List, [], ◌∷◌, ◌++◌, sym, ap, ◌∙◌}
+use Rattle.std.proofs.Common.{◌-◌, [], ◌∷◌, ◌++◌, sym, ap, ◌∙◌}
 use Rattle.id_steps.specs.Entries.{counter_update}
 use Rattle.id_steps.specs.Ids.{split_updates}
 use Rattle.id_steps.specs.SlotLists.{with_sub}
