@@ -6,7 +6,7 @@ use Rattle.forest_ops.specs.History.{commits as is_commit_of}
 use Rattle.forest_ops.specs.Steps.{answer_of, forest_after}
 use Rattle.forest_ops.specs.declared.operation.Class.TheVariants.{Syncs}
 use Rattle.forest_ops.specs.declared.operation.Op.{Op}
-use Rattle.forest_ops.specs.declared.operation.Op.TheVariants.{Fsync, Link, Ls, Mkdir, Mkfile, Read as ReadBytes, Rename, Rmdir, Stat, Sync, Unlink, Write}
+use Rattle.forest_ops.specs.declared.operation.Op.TheVariants.{Delsub, Fsync, Link, Ls, Mkdir, Mkfile, Read as ReadBytes, Rename, Rmdir, Snap, Stat, Subs, Subvol, Sync, Unlink, Write}
 use Rattle.forest_ops.specs.declared.operation.Reply.{Reply}
 use Rattle.forest_ops.specs.declared.operation.Reply.TheVariants.{NoSpace, DeviceFault, DataLost, Halted, Spent, NoMemory}
 use Rattle.fs_plan.specs.Updating.{updates_of}
@@ -30,6 +30,10 @@ is_planned (Rmdir path) = true
 is_planned (Rename from to) = true
 is_planned (Ls path) = true
 is_planned (Stat path) = true
+is_planned (Subvol name) = true
+is_planned (Snap source copy locked) = true
+is_planned (Delsub name) = true
+is_planned Subs = true
 is_planned Sync = true
 is_planned (Fsync path) = true
 is_planned other = false

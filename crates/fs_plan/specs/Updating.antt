@@ -2,10 +2,11 @@
 use Rattle.std.specs.Prelude.{ℕ, List, [], Option, Some, None, Result, Ok, Err}
 use Rattle.forest_ops.specs.declared.operation.Cause.{Cause}
 use Rattle.forest_ops.specs.declared.operation.Op.{Op}
-use Rattle.forest_ops.specs.declared.operation.Op.TheVariants.{Link, Mkdir, Mkfile, Rename, Rmdir, Unlink}
+use Rattle.forest_ops.specs.declared.operation.Op.TheVariants.{Delsub, Link, Mkdir, Mkfile, Rename, Rmdir, Snap, Subvol, Unlink}
 use Rattle.name_plan.specs.Gone.{removed_at, unlinked_at}
 use Rattle.name_plan.specs.Moved.{renamed_at}
 use Rattle.name_plan.specs.New.{linked_at, made_at}
+use Rattle.subvol_ops.specs.Plans.{snapshot_made, subvolume_made, subvolume_removed}
 use Rattle.vol_types.specs.KeyMaps.{KeyMap}
 use Rattle.vol_types.specs.declared.keys.Update.{Update}
 use Rattle.vol_types.specs.declared.values.FileKind.TheVariants.{Directory, File}
@@ -29,4 +30,7 @@ updates_of keys client (Link from to) = updates_or (linked_at keys from to)
 updates_of keys client (Unlink path) = updates_or (unlinked_at keys path)
 updates_of keys client (Rmdir path) = updates_or (removed_at keys path)
 updates_of keys client (Rename from to) = moves_or (renamed_at keys from to)
+updates_of keys client (Subvol name) = updates_or (subvolume_made keys client name)
+updates_of keys client (Snap source copy locked) = updates_or (snapshot_made keys source copy locked)
+updates_of keys client (Delsub name) = updates_or (subvolume_removed keys name)
 updates_of keys client other = []

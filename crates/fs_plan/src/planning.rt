@@ -19,6 +19,7 @@ use forest_ops::{Cause, Op, Reply};
 use key_view::{Hold, View};
 use name_plan::{link, make, remove_directory, rename, unlink};
 use std::alloc::Global;
+use subvol_ops::{list_subvolumes, make_snapshot, make_subvolume, remove_subvolume};
 use vol_types::{FileKind, Updates};
 
 /// Whether an operation is one of those that can be planned so far.
@@ -35,6 +36,10 @@ pub fn is_planned(op: &Op) -> bool
             | Op::Rename { .. }
             | Op::Ls { .. }
             | Op::Stat { .. }
+            | Op::Subvol { .. }
+            | Op::Snap { .. }
+            | Op::Delsub { .. }
+            | Op::Subs
             | Op::Sync
             | Op::Fsync { .. }
     )
@@ -46,8 +51,13 @@ pub fn is_planned(op: &Op) -> bool
 /// A path costs the looks of `nearest` at an inode and at a slot for each of its names, and a look for its subvolume. A listing, a
 /// count of a directory's names (`stat`) and the test whether it is empty (`rmdir`) cost one look more than twice those of the names'
 /// slots; the test ends at the first name that shows, and a listing alone takes memory for its names. A new inode costs a look at its
-/// client's counter; each name that comes or goes costs the looks of `nearest` at its slot, and memory for the names of the slot. No
-/// change has more than three updates. A sync makes no look, and an `fsync` those of its path.
+/// client's counter; each name that comes or goes costs the looks of `nearest` at its slot, and memory for the names of the slot. Such a
+/// change has three updates at most. A sync makes no look, and an `fsync` those of its path.
+///
+/// A subvolume that is made, copied or removed costs a look at the slot of each name of the operation, one at the counter of ids where
+/// it draws some, and one at its client's counter where it gets a root, whatever its tree holds: a new one has five updates, a snapshot
+/// six at most, and a removal two. A listing of the subvolumes costs a look for each slot that has some, and one more, and takes memory
+/// for their names.
 ///
 /// An `Err` is the view's, or comes where memory ends.
 pub fn plan<V: View>(alloc: Global, view: &mut V, client: u8, op: Op) -> Result<Plan, Hold>
@@ -111,6 +121,20 @@ fn outcome<V: View>(alloc: Global, view: &mut V, client: u8, op: &Op) -> Result<
         Op::Rename { from, to } => Ok(moved(alloc, rename(alloc, view, from, to)?)),
         Op::Ls { path } => Ok(answered(alloc, list(alloc, view, path)?)),
         Op::Stat { path } => Ok(answered(alloc, stat(view, path)?)),
+        Op::Subvol { name } => Ok(changed(alloc, make_subvolume(alloc, view, client, name)?)),
+        Op::Snap {
+            source,
+            copy,
+            locked,
+        } => {
+            let made = make_snapshot(alloc, view, source, copy, *locked)?;
+            Ok(changed(alloc, made))
+        }
+        Op::Delsub { name } => Ok(changed(alloc, remove_subvolume(alloc, view, name)?)),
+        Op::Subs => {
+            let names = list_subvolumes(alloc, view)?;
+            Ok(answered(alloc, Reply::SubNames(names)))
+        }
         Op::Sync => Ok(answered(alloc, Reply::Synced(0))),
         Op::Fsync { path } => Ok(answered(alloc, sync_at(view, path)?)),
         _ => unreachable!(),

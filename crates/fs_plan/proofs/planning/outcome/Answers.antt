@@ -1,6 +1,7 @@
 -- Each operation comes to its updates, its refusal or its answer.
 use Rattle.std.proofs.Common.{[], ap, refl}
-use Rattle.forest_ops.specs.declared.operation.Op.TheVariants.{Fsync, Link, Ls, Mkdir, Mkfile, Rename, Rmdir, Stat, Unlink}
+use Rattle.forest_ops.specs.declared.operation.Op.TheVariants.{Delsub, Fsync, Link, Ls, Mkdir, Mkfile, Rename, Rmdir, Snap, Stat, Subs, Subvol, Unlink}
+use Rattle.forest_ops.specs.declared.operation.Reply.TheVariants.{SubNames}
 use Rattle.fs_plan.proofs.Idle.{fsync_leaves, idle_plan, list_leaves, stat_leaves}
 use Rattle.fs_plan.proofs.Outcomes.{changed_plan, moved_plan, same_plan}
 use Rattle.fs_plan.specs.Outcomes.{answered, changed, moved}
@@ -64,6 +65,33 @@ returns-in_ok-stat-in-Stat-clause-plan g c = λ keys nodes layout given sound ti
     let reply = c.in_ok-stat-in-Stat.field-0 in
     same_plan keys nodes layout c.args.client c.args.op.now op c.answered-in-Stat.result (answered reply) c.in-Stat.is c.answered-in-Stat.ensures
     (idle_plan keys nodes layout c.args.client op [] reply (stat_leaves c.args.client c.in-Stat.path) refl refl (λ forest. refl) (λ read. c.in_ok-stat-in-Stat.ensures.reply keys read given sound.leaves sound.names sound.links tidy.drawn) sound tidy)
+
+pub returns-in_ok-make_subvolume-in-Subvol-clause-plan : goal.returns-in_ok-make_subvolume-in-Subvol-clause-plan
+returns-in_ok-make_subvolume-in-Subvol-clause-plan g c = λ keys nodes layout given sound tidy.
+    let op = Subvol c.in-Subvol.name in
+    let made = c.in_ok-make_subvolume-in-Subvol.field-0 in
+    same_plan keys nodes layout c.args.client c.args.op.now op c.changed-in-Subvol.result (changed made) c.in-Subvol.is c.changed-in-Subvol.ensures
+    (changed_plan keys nodes layout c.args.client op made (λ forest. refl) (ap updates_or (c.in_ok-make_subvolume-in-Subvol.ensures.is keys given)) (c.in_ok-make_subvolume-in-Subvol.ensures.made keys nodes layout given sound tidy) sound tidy)
+
+pub returns-in_ok-made-in-Snap-clause-plan : goal.returns-in_ok-made-in-Snap-clause-plan
+returns-in_ok-made-in-Snap-clause-plan g c = λ keys nodes layout given sound tidy.
+    let op = Snap c.in-Snap.source c.in-Snap.copy c.in-Snap.locked in
+    let made = c.in_ok-made-in-Snap.made in
+    same_plan keys nodes layout c.args.client c.args.op.now op c.changed-in-Snap.result (changed made) c.in-Snap.is c.changed-in-Snap.ensures
+    (changed_plan keys nodes layout c.args.client op made (λ forest. refl) (ap updates_or (c.in_ok-made-in-Snap.ensures.is keys given)) (c.in_ok-made-in-Snap.ensures.made keys nodes layout given sound tidy) sound tidy)
+
+pub returns-in_ok-remove_subvolume-in-Delsub-clause-plan : goal.returns-in_ok-remove_subvolume-in-Delsub-clause-plan
+returns-in_ok-remove_subvolume-in-Delsub-clause-plan g c = λ keys nodes layout given sound tidy.
+    let op = Delsub c.in-Delsub.name in
+    let made = c.in_ok-remove_subvolume-in-Delsub.field-0 in
+    same_plan keys nodes layout c.args.client c.args.op.now op c.changed-in-Delsub.result (changed made) c.in-Delsub.is c.changed-in-Delsub.ensures
+    (changed_plan keys nodes layout c.args.client op made (λ forest. refl) (ap updates_or (c.in_ok-remove_subvolume-in-Delsub.ensures.is keys given)) (c.in_ok-remove_subvolume-in-Delsub.ensures.made keys nodes layout given sound tidy) sound tidy)
+
+pub returns-in_ok-names-in-Subs-clause-plan : goal.returns-in_ok-names-in-Subs-clause-plan
+returns-in_ok-names-in-Subs-clause-plan g c = λ keys nodes layout given sound tidy.
+    let reply = SubNames c.in_ok-names-in-Subs.names in
+    same_plan keys nodes layout c.args.client c.args.op.now Subs c.answered-in-Subs.result (answered reply) c.in-Subs.is c.answered-in-Subs.ensures
+    (idle_plan keys nodes layout c.args.client Subs [] reply (λ forest. refl) refl refl (λ forest. refl) (λ read. ap SubNames (c.in_ok-names-in-Subs.ensures.names keys read given.gives given.is_map tidy)) sound tidy)
 
 pub returns-in_ok-sync_at-in-Fsync-clause-plan : goal.returns-in_ok-sync_at-in-Fsync-clause-plan
 returns-in_ok-sync_at-in-Fsync-clause-plan g c = λ keys nodes layout given sound tidy.
