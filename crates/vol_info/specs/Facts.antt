@@ -1,5 +1,5 @@
 -- What is told of a volume, taken from what is found in its image.
-use Rattle.std.specs.Prelude.{ℕ, ◌-◌, Bool, List, [], length, map, count_by, slice_index_or}
+use Rattle.std.specs.Prelude.{ℕ, ◌-◌, ◌==◌, Bool, false, List, [], length, map, count_by, slice_index_or}
 use Rattle.std.specs.List.{flat_map, range_with_len}
 use Rattle.std.specs.Map.{values_of}
 use Rattle.bucket_pool.specs.Given.{is_used_state}
@@ -13,14 +13,21 @@ use Rattle.image_reader.specs.Volumes.{no_entry}
 use Rattle.image_reader.specs.declared.found.FoundBtree.{FoundBtree}
 use Rattle.tree_nodes.specs.Levels.{Levels}
 use Rattle.vol_types.specs.Btrees.{btree_code}
-use Rattle.vol_types.specs.KeyMaps.{entries_of, keys_in}
+use Rattle.vol_types.specs.KeyMaps.{Entries, entries_of, keys_in}
+use Rattle.vol_types.specs.Values.{snap_state_code}
 use Rattle.vol_types.specs.declared.pointers.NodePtr.{NodePtr}
 use Rattle.vol_types.specs.declared.pointers.Place.{Place}
 use Rattle.vol_types.specs.declared.positions.Btree.{Btree}
-use Rattle.vol_types.specs.declared.positions.Btree.TheVariants.{Alloc}
+use Rattle.vol_types.specs.declared.positions.Btree.TheVariants.{Alloc, Snapshots}
+use Rattle.vol_types.specs.declared.positions.Pos.{Pos}
+use Rattle.vol_types.specs.declared.values.SnapState.{SnapState}
+use Rattle.vol_types.specs.declared.values.SnapState.TheVariants.{LiveLeaf, DeadLeaf}
+use Rattle.vol_types.specs.declared.values.Value.{Value}
+use Rattle.vol_types.specs.declared.values.Value.TheVariants.{Snap}
 use Rattle.vol_info.specs.declared.facts.BtreeFacts.{BtreeFacts}
 use Rattle.vol_info.specs.declared.facts.DeviceFacts.{DeviceFacts}
 use Rattle.vol_info.specs.declared.facts.Facts.{Facts}
+use Rattle.vol_info.specs.declared.facts.IdFacts.{IdFacts}
 use Rattle.vol_info.specs.declared.facts.JournalFacts.{JournalFacts}
 
 -- the first one of entries
@@ -35,6 +42,19 @@ journal_facts f = record {
   entries = length f.needed;
   blocks = f.last.end - (first_of f.needed).number;
 }
+
+-- whether a value is the record of a snapshot id in this state
+abbrev pub has_state : SnapState → Value → Bool
+has_state state (Snap snap) = snap_state_code snap.state == snap_state_code state
+has_state state other = false
+
+-- whether it is the key of a snapshot id in this state
+abbrev pub is_id_in : SnapState → Pos × Value → Bool
+is_id_in state entry = has_state state entry.1
+
+-- what is told of the snapshot ids: how many subvolumes there are, how many ids, and how many of these are dead
+abbrev pub id_facts : Entries → IdFacts
+id_facts records = record { subvolumes = count_by (is_id_in LiveLeaf) records; ids = length records; dead = count_by (is_id_in DeadLeaf) records }
 
 -- the nodes of a btree, level by level from the leaves up
 abbrev pub levels_in : TreesRead → Btree → Levels
@@ -76,6 +96,7 @@ facts_of f = record {
   session = f.session;
   commits = f.last.entry.commits;
   journal = journal_facts f;
+  ids = id_facts (entries_of f.trees.keys Snapshots);
   btrees = map (btree_facts f.trees) all_btrees;
   devices = map (device_facts (space_in f)) (range_with_len 0 (length f.layout.blocks));
 }

@@ -11,6 +11,7 @@ use Rattle.vol_info.specs.Facts.{facts_of}
 use Rattle.vol_info.specs.declared.facts.BtreeFacts.{BtreeFacts}
 use Rattle.vol_info.specs.declared.facts.DeviceFacts.{DeviceFacts}
 use Rattle.vol_info.specs.declared.facts.Facts.{Facts}
+use Rattle.vol_info.specs.declared.facts.IdFacts.{IdFacts}
 use Rattle.vol_info.specs.declared.facts.JournalFacts.{JournalFacts}
 
 -- how many devices a volume has, the blocks of each, and those of the journal
@@ -34,6 +35,11 @@ session_line session commits sequence =
 unfoldable pub journal_line : JournalFacts → List ℕ
 journal_line facts =
     codes "journal from " ++ decimal facts.oldest ++ codes " entries " ++ decimal facts.entries ++ codes " blocks " ++ decimal facts.blocks ++ codes "\n"
+
+-- how many subvolumes there are, how many snapshot ids, and how many of these were those of removed subvolumes
+unfoldable pub ids_line : IdFacts → List ℕ
+ids_line facts =
+    codes "subvolumes " ++ decimal facts.subvolumes ++ codes " ids " ++ decimal facts.ids ++ codes " dead " ++ decimal facts.dead ++ codes "\n"
 
 -- the name of a btree
 abbrev pub btree_name : Btree → List ℕ
@@ -67,6 +73,7 @@ facts_lines facts =
     volume_line facts.layout
     ++ session_line facts.session facts.commits facts.journal.sequence
     ++ journal_line facts.journal
+    ++ ids_line facts.ids
     ++ flat_map btree_line facts.btrees
     ++ flat_map device_line facts.devices
     ++ codes "end\n"

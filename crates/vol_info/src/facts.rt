@@ -11,6 +11,8 @@ pub struct Facts {
     pub commits: u64,
     /// The journal.
     pub journal: JournalFacts,
+    /// The snapshot ids.
+    pub ids: IdFacts,
     /// The btrees, in the order of their numbers.
     pub btrees: Listing<BtreeFacts>,
     /// The devices, in their order.
@@ -28,6 +30,17 @@ pub struct JournalFacts {
     pub entries: u64,
     /// How many blocks of the ring they take, from the first block of the oldest one to the last block of the newest one.
     pub blocks: u64,
+}
+
+/// What is told of the snapshot ids.
+#[derive(Clone, Copy)]
+pub struct IdFacts {
+    /// How many subvolumes there are, snapshots among them: one for each id that is a live leaf.
+    pub subvolumes: u64,
+    /// How many ids have a record: those of subvolumes, those that snapshots were made of, and dead ones.
+    pub ids: u64,
+    /// How many were those of subvolumes that have been removed, whose keys aren't cleared.
+    pub dead: u64,
 }
 
 /// What is told of a btree.

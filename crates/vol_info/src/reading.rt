@@ -12,14 +12,16 @@ ghost use Rattle.vol_types.specs.Layouts.{is_layout};
 ghost use Rattle.vol_info.specs.Facts.{facts_of, first_of};
 ghost use Rattle.vol_info.specs.Readings.{AreFacts, IsFaultOf};
 
-use crate::btrees::facts_of_btrees;
+use crate::btrees::{entries_of, facts_of_btrees};
 use crate::facts::{Facts, JournalFacts};
+use crate::ids::id_facts;
 use crate::space::facts_of_devices;
 use dev_model::Devices;
 use image_reader::{FoundVolume, read_plain};
 use image_view::MountFault;
 use journal_ring::FoundEntry;
 use std::alloc::{AllocError, Global};
+use vol_types::Btree;
 
 /// What is told of the volume in the image that the devices hold, or the first fault of that. It reads what `read_plain` does, writes
 /// nothing, and takes memory for each key, each node and each bucket.
@@ -74,6 +76,7 @@ fn facts_of(alloc: Global, found: FoundVolume) -> Result<Facts, AllocError>
         }
     };
     let journal = journal_facts(found.needed.as_slice());
+    let ids = id_facts(entries_of(&found, Btree::Snapshots));
     let commits = commits_of(found.needed.as_slice());
     let session = found.session;
     let FoundVolume {
@@ -89,6 +92,7 @@ fn facts_of(alloc: Global, found: FoundVolume) -> Result<Facts, AllocError>
         session,
         commits,
         journal,
+        ids,
         btrees,
         devices,
     })

@@ -1,8 +1,8 @@
 ghost use Rattle.std.specs.Prelude.{◌≡◌, ◌≤◌, ◌++◌, IfOk, OnOk, length, string_bytes};
 ghost use Rattle.std.specs.List.{flat_map};
-ghost use Rattle.vol_info.specs.Lines.{btree_line, btree_name, copies_text, counts_text, device_line, facts_lines, journal_line, session_line, sizes_text, volume_line};
+ghost use Rattle.vol_info.specs.Lines.{btree_line, btree_name, copies_text, counts_text, device_line, facts_lines, ids_line, journal_line, session_line, sizes_text, volume_line};
 
-use crate::facts::{BtreeFacts, DeviceFacts, Facts, JournalFacts};
+use crate::facts::{BtreeFacts, DeviceFacts, Facts, IdFacts, JournalFacts};
 use command_line::id_text;
 use std::alloc::{AllocError, Global};
 use vol_types::{Btree, Bytes, Layout};
@@ -37,6 +37,7 @@ fn add_facts(alloc: Global, text: &mut Bytes, facts: &Facts) -> Result<(), Alloc
         facts.journal.sequence,
     )?;
     add_journal(alloc, text, &facts.journal)?;
+    add_ids(alloc, text, &facts.ids)?;
     add_btrees(alloc, text, facts.btrees.as_slice())?;
     add_devices(alloc, text, facts.devices.as_slice())?;
     text.extend_from_slice(b"end\n")
@@ -110,6 +111,18 @@ fn add_journal(alloc: Global, text: &mut Bytes, facts: &JournalFacts) -> Result<
     let entries = facts.entries;
     let blocks = facts.blocks;
     let line = format!(in alloc; "journal from {oldest} entries {entries} blocks {blocks}\n")?;
+    add_line(text, line)
+}
+
+// Adds how many subvolumes and snapshot ids there are.
+#[tactic(auto, unfolding(crate::specs::Lines::ids_line))]
+fn add_ids(alloc: Global, text: &mut Bytes, facts: &IdFacts) -> Result<(), AllocError>
+    ensures { OnOk result (text.new ≡ text.old ++ ids_line facts.now) }
+{
+    let subvolumes = facts.subvolumes;
+    let ids = facts.ids;
+    let dead = facts.dead;
+    let line = format!(in alloc; "subvolumes {subvolumes} ids {ids} dead {dead}\n")?;
     add_line(text, line)
 }
 
