@@ -32,10 +32,6 @@ abbrev pub is_supported : Verb → Bool
 is_supported Write = false
 is_supported Trunc = false
 is_supported Read = false
-is_supported Subvol = false
-is_supported Snap = false
-is_supported Delsub = false
-is_supported Subs = false
 is_supported Sweep = false
 is_supported Usage = false
 is_supported _ = true

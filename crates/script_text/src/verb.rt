@@ -86,7 +86,6 @@ impl Verb {
     {
         match self {
             Verb::Write | Verb::Trunc | Verb::Read => false,
-            Verb::Subvol | Verb::Snap | Verb::Delsub | Verb::Subs => false,
             Verb::Sweep | Verb::Usage => false,
             _ => true,
         }
