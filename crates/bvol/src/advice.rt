@@ -49,9 +49,11 @@ fn trouble_text(trouble: Trouble) -> &'static str {
 fn line_text(fault: LineFault) -> &'static str {
     match fault {
         LineFault::BadVerb => "has no verb that `run` knows",
-        LineFault::BadArgs => "has too few or too many words",
+        LineFault::BadArgs => {
+            "has too few or too many words, or behind the names of `snap` another one than `ro`"
+        }
         LineFault::BadPath => {
-            "has no path like main:/NAME where one is wanted, or a bad escape in a name"
+            "has no path like main:/NAME, or no subvolume's name, where one is wanted, or a bad escape in a name"
         }
         LineFault::BadClient => "begins with `@`, but not with one of `@0` to `@15` and a space",
     }

@@ -92,6 +92,10 @@ prints
   journal from O entries E blocks B
                      entries O to Q are needed, E of them; they take B blocks
                      of the J
+  subvolumes N ids I dead D
+                     there are N subvolumes, snapshots among them; they and what
+                     they were copied from have I snapshot ids, D of which
+                     were those of removed ones, whose keys aren't cleared yet
   btree NAME level L nodes N keys K
                      for each of nine btrees: its root is of level L (0: it is one
                      leaf); K counts the keys that the journal alone has yet. Those
@@ -121,6 +125,7 @@ prints
   volume 00000000-0000-4000-8000-000000000001 devices 2 blocks 1024 journal 256 data-replicas 1 meta-replicas 2
   session 1 commits 0 sequence 1
   journal from 1 entries 1 blocks 1
+  subvolumes 1 ids 1 dead 0
   btree extents level 0 nodes 1 keys 0
   btree inodes level 0 nodes 1 keys 1
   btree dirents level 0 nodes 1 keys 0
@@ -148,10 +153,12 @@ part of its commits, with all that a `sync` had acknowledged.
 
 A volume's btrees are one node each today, which bounds it: up to 1,397 files
 and directories, of whose names each counts its bytes and 32 more, 47,560 bytes
-in all. A file whose last name is unlinked leaves a note, which isn't cleared yet,
-so that a volume takes 2,264 of these in its life: each further one is
-`err no-space need 0`. `rename`, `rmdir` and `unlink` of another name go on; a new
-`format` alone makes room.
+in all. A snapshot counts none of them again; what it and its source change from
+then on does. In its life a volume takes 698 snapshots: each takes two of 1,398
+ids, a `subvol` takes one, and none is given back yet. A file whose last name is
+unlinked leaves a note, which isn't cleared yet either, so that a volume takes
+2,264 of these in its life. What would be more is `err no-space need 0`; all
+other lines go on, and a new `format` alone makes room.
 
 script lines, each ended by a line feed, which the last one may lack (a carriage
 return before it is a bad byte of the line):
@@ -165,15 +172,22 @@ return before it is a bad byte of the line):
   ls P                 list a directory, its names in order of their bytes; a byte
                        above 127 is written as % and two hex digits
   stat P               say what stands at P
+  subvol N             make an empty subvolume
+  snap N M             make a snapshot of the subvolume N: M has what N has now, and
+                       from then on each goes its own way. It copies nothing
+  snap N M ro          the same, and M may only be read
+  delsub N             remove a subvolume; what others have of it stays
+  subs                 list the subvolumes
   sync                 make all commits so far durable
   fsync P              the same, where something stands at P
   barrier              nothing yet: lines run one after the other anyhow
   # TEXT               a comment; it is skipped, as an empty line is
 P and Q are paths: main:/ is the root of the subvolume main, and main:/a/b the
 name b in its directory a; at most 32 names, and no / at the end but the root's.
-`..` and `.` aren't names. A name has 1 to 255 bytes. Each stands for itself if it
-is from ! to ~ but neither / nor %, or above 127; any other is % and two hex
-digits, as %20 for a space. One space stands between two words, and nowhere else.
+N and M are names of subvolumes, which have no `:`. `..` and `.` aren't names. A
+name has 1 to 255 bytes. Each stands for itself if it is from ! to ~ but neither /
+nor %, or above 127; any other is % and two hex digits, as %20 for a space. One
+space stands between two words, and nowhere else.
 `@C `, with C from 0 to 15, may stand before a verb: the line is client C's, who
 draws inode numbers of its own.
 
@@ -182,24 +196,29 @@ replies, one a line, with the client and the number of the script's line:
   @0 2 list a b d/           the names; a directory's has / after it
   @0 3 file 2 0 1            a file: its inode number, its bytes, its names
   @0 3 dir 1 3               a directory: its inode number, its names
+  @0 3 subs rw:main ro:s     the subvolumes; one with ro may only be read
   @0 4 ok 2                  two commits of this run are on the disks, by `sync`
                              or `fsync`
   @0 3 err exists            the new name is there already, or is a root
   @0 3 err bad-path          a name is empty, as behind a / at the end, or too long,
                              or has a byte that no name has; or a path has more
                              than 32 names
-  @0 3 err no-subvolume      no subvolume has that name; today all is in main
+  @0 3 err no-subvolume      no subvolume has that name
   @0 3 err not-found         a name on the path isn't there
   @0 3 err not-dir           a file stands where a directory should
   @0 3 err is-dir            a directory stands where a file should
+  @0 3 err read-only         the subvolume may only be read
   @0 3 err not-empty         the directory has names
   @0 3 err loop              a directory can't be moved below itself, and a root
                              neither moved nor removed
   @0 3 err cross             the two paths name different subvolumes
   @0 3 err links-full        the file has 255 names
-  @0 3 err crowded           eight names of that directory have the slot of the new
-                             one, a piece of its digest; another name goes
-  @0 3 err ids-spent         the client has drawn all of its inode numbers
+  @0 3 err crowded           eight names of that directory, or eight subvolumes, have
+                             the slot of the new one, a piece of its digest;
+                             another name goes
+  @0 3 err too-many          there are 4,096 subvolumes
+  @0 3 err ids-spent         the client has drawn all of its inode numbers, or the
+                             volume all of its snapshot ids
   @0 3 err no-space need 0   the volume has no room for this change
   @0 3 err device 0          file 0 couldn't be written, and the run halts: from
                              here on it changes and writes nothing
@@ -213,8 +232,9 @@ exit status:
   0  the script ran, and all its commits are on the disks
   1  error 1 usage: other arguments than `run -- IMAGE..`
   2  error 2 line L bad-verb: line L has none of the verbs above
-     error 2 line L bad-args: it has too few words, or too many
-     error 2 line L bad-path: it has no path where one belongs
+     error 2 line L bad-args: it has too few words, or too many, or one where
+     `ro` belongs
+     error 2 line L bad-path: it has no path, or no name, where one belongs
      error 2 line L bad-client: it begins with @, and not with @0 to @15
      error 2 too-long: the script has more than 16 MiB
   3  mount refused 1: a file has no superblock, so it isn't formatted
@@ -239,13 +259,18 @@ example:
   touch a.img b.img
   bvol format --id 00000000-0000-4000-8000-000000000001 --blocks 1024 \\
     --meta-replicas 2 -- a.img b.img
-  printf 'mkdir main:/d\\nmkfile main:/d/a\\nls main:/d\\nstat main:/d/a\\n' \\
+  printf 'mkfile main:/a\\nsnap main old ro\\nrename main:/a main:/b\\nls main:/\\n' \\
     | bvol run -- a.img b.img
+  printf 'subs\\nls old:/\\nunlink old:/a\\n' | bvol run -- a.img b.img
 prints
   formatted 00000000-0000-4000-8000-000000000001 devices 2 blocks 1024 journal 256
   @0 1 ok
   @0 2 ok
-  @0 3 list a
-  @0 4 file 3 0 1
-  end commits 2 synced 2
+  @0 3 ok
+  @0 4 list b
+  end commits 3 synced 3
+  @0 1 subs rw:main ro:old
+  @0 2 list a
+  @0 3 err read-only
+  end commits 0 synced 0
 ";
