@@ -24,6 +24,8 @@ mod name_crashes;
 #[cfg(test)]
 mod session_numbers;
 #[cfg(test)]
+mod snapshot_crashes;
+#[cfg(test)]
 mod source_pieces;
 #[cfg(test)]
 mod steps;
