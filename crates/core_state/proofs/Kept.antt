@@ -11,7 +11,7 @@ use Rattle.vol_types.specs.KeyMaps.{GivesLooks, IsLook, answer_of}
 use Rattle.vol_types.specs.declared.keys.Update.{Update}
 use Rattle.vol_types.specs.declared.queries.Query.{Query}
 use Rattle.vol_types.specs.declared.queries.Look.{Look}
-use Rattle.core_actors.specs.Actors.{begun, dropped, ended, holds, idle_actor, told_of, with_fault, with_intent, with_look}
+use Rattle.core_actors.specs.Actors.{begun, dropped, ended, holds, idle_actor, told_of, with_fault, with_ids, with_intent, with_look}
 use Rattle.core_volume.specs.Commits.{AreIntended}
 use Rattle.core_actors.specs.declared.answer.Answer.{Answer}
 use Rattle.core_state.specs.Events.{IsTold, SealGives, noted_fault}
@@ -128,6 +128,10 @@ module _ (volume : Volume) (turn : Option ℕ) (number : ℕ) (actor : Actor) (i
     looks = record { each = All-push (IsLook (keys_in volume.trees)) actor.looks (record { query = query; answer = answer_of query (keys_in volume.trees) }) is.looks.each refl };
     intended = is.intended;
   }
+
+  -- Who has looked at the trees of ids has the turn.
+  pub ids-kept : IsActor volume (Some number) number (with_ids actor)
+  ids-kept = record { has_turn = λ held. refl; looks = is.looks; intended = is.intended }
 
   pub intends-kept : (updates : List Update) → AreIntended volume.layout.metadata_replicas updates → IsActor volume (Some number) number (with_intent (Some updates) actor)
   intends-kept updates are = record { has_turn = λ held. refl; looks = is.looks; intended = are }

@@ -1,4 +1,5 @@
 mod Kept
+mod Answered
 mod Committed
 mod Opened
 mod NodeEvents

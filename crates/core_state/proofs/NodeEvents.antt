@@ -116,6 +116,15 @@ fault-told tells o old new dev answer some answered writes = subst (λ (a : Answ
     by None some writes = absurd (true≢false (sym some))
     by (Some unfinished) some writes = writes
 
+-- With an answer that tells a stage or refuses, no device was called.
+pub none-called-at : (tells : Type 0) (o : Option UnfinishedNode) (state : DevicesState) (stage : Stage) (durable : Bool) → WritesNode tells o (answers.At stage durable) state state
+none-called-at tells None state stage durable = refl
+none-called-at tells (Some unfinished) state stage durable = refl
+
+pub none-called-refused : (tells : Type 0) (o : Option UnfinishedNode) (state : DevicesState) (refusal : Refusal) → WritesNode tells o (answers.Refused refusal) state state
+none-called-refused tells None state refusal = refl
+none-called-refused tells (Some unfinished) state refusal = refl
+
 -- A fault names a device of the node.
 abbrev pub NamesDevice : Option UnfinishedNode → NodeFault → Type 0
 NamesDevice o fault = IfSome o (λ unfinished. (place : Place) × Contains unfinished.node.blocked.places place × (fault ≡ faults.DeviceFault place.dev))

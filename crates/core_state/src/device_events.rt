@@ -4,7 +4,7 @@ ghost use Rattle.core_state.specs.Events.{Fits, FlushGives, WriteGives, WriteSet
 ghost use Rattle.core_actors.specs.declared.event.Event.TheVariants.{Flush, WriteEntry, WriteSet};
 ghost use Rattle.geometry.specs.Layouts.{is_layout_of};
 
-use crate::memory::Memory;
+use crate::memory::{Memory, is_stage};
 use core_actors::{Answer, Refusal};
 use dev_model::Devices;
 use geometry::DiskFault;
@@ -24,7 +24,7 @@ impl Memory {
         if let Some(halt) = self.volume.halted() {
             return self.refused(actor, Refusal::Halted(halt));
         }
-        if self.volume.stage() != Stage::WriteEntry {
+        if !is_stage(self.volume.stage(), Stage::WriteEntry) {
             return self.tell(actor);
         }
         match self.volume.write_part(devices) {
@@ -46,7 +46,7 @@ impl Memory {
         if let Some(halt) = self.volume.halted() {
             return self.refused(actor, Refusal::Halted(halt));
         }
-        if self.volume.node_stage() != Stage::WriteSet(node) {
+        if !is_stage(self.volume.node_stage(), Stage::WriteSet(node)) {
             return self.tell_nodes(actor);
         }
         match self.volume.write_node(devices) {

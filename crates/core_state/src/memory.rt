@@ -1,18 +1,20 @@
-ghost use Rattle.std.specs.Prelude.{◌≡◌, ◌<◌, ◌↔◌, IsTrue, None};
-ghost use Rattle.btree_map.specs.Trees.{IsTrees};
-ghost use Rattle.core_state.specs.Events.{CommitGives, CommitNodesGives, EventGives, Fits, FitsActor, FreezeGives, IsNoted, IsOfMemory, IsTold, IsToldNodes, IsToldOf, MayBegin, SealGives, SettleGives, failed_by};
+ghost use Rattle.std.specs.Prelude.{◌≡◌, ◌<◌, ◌↔◌, IsTrue, None, OnErr, OnOk};
+ghost use Rattle.btree_map.specs.Trees.{IsTrees, keys_in};
+ghost use Rattle.core_actors.specs.Actors.{with_ids, with_look};
+ghost use Rattle.core_state.specs.Events.{CommitGives, CommitNodesGives, EventGives, Fits, FitsActor, FreezeGives, IsNoted, IsOfMemory, IsTold, IsToldNodes, IsToldOf, MayBegin, SealGives, SettleGives, failed_by, taken};
 ghost use Rattle.core_state.specs.States.{IsState, actor_count, mine, other_holder, with_halt};
 ghost use Rattle.core_volume.specs.Volumes.{KeepParts};
 ghost use Rattle.core_state.specs.Events.{answer_of_fault, noted_fault};
 ghost use Rattle.core_actors.specs.declared.event.Event.TheVariants.{Begin, Commit, CommitNodes, Drop, Finish, Freeze, Intend, Look, LookIds, Seal, Settle};
 ghost use Rattle.core_actors.specs.declared.answer.Answer.TheVariants as Answer;
+ghost use Rattle.vol_types.specs.KeyMaps.{answer_of};
 
 use core_actors::{Actor, Answer, Event, Refusal, Work};
 use core_volume::{Uncommitted, Volume, VolumeFault};
 use journal_writer::Stage;
-use std::alloc::Global;
+use std::alloc::{AllocError, Global};
 use std::marker::Model;
-use vol_types::{Halt, Query, Updates};
+use vol_types::{Halt, Keys, Query, Updates};
 
 /// How many actors there are.
 pub(crate) const ACTORS: usize = 17;
@@ -163,17 +165,25 @@ impl Memory {
         let Ok(keys) = self.volume.answer(self.alloc, query) else {
             return Answer::NoMemory;
         };
-        let mine = &mut self.actors[usize::from(actor)];
-        match mine.look(self.alloc, query, &keys) {
-            Err(_) => {
-                drop(keys);
-                Answer::NoMemory
-            }
-            Ok(()) => {
-                self.turn = Some(actor);
-                Answer::Found(keys)
-            }
+        if self.note_look(actor, query, &keys).is_err() {
+            drop(keys);
+            return Answer::NoMemory;
         }
+        Answer::Found(keys)
+    }
+
+    // Notes a look of an actor and what it found, and gives it the turn. An `Err` changes nothing.
+    fn note_look(&mut self, actor: u8, query: &Query, found: &Keys) -> Result<(), AllocError>
+        requires there { actor < actor_count }
+        requires free { other_holder actor self.old.turn ≡ None }
+        requires found { found.now ≡ answer_of query.now (keys_in self.old.volume.trees) }
+        ensures ok { OnOk result (self.new ≡ taken actor (with_look query.now found.now) self.old) }
+        ensures err { OnErr result (self.new ≡ self.old) }
+    {
+        let mine = &mut self.actors[usize::from(actor)];
+        mine.look(self.alloc, query, found)?;
+        self.turn = Some(actor);
+        Ok(())
     }
 
     fn look_ids(&mut self, actor: u8) -> Answer
@@ -186,10 +196,19 @@ impl Memory {
         let Ok(ids) = self.volume.ids(self.alloc) else {
             return Answer::NoMemory;
         };
+        self.note_ids(actor);
+        Answer::Ids(ids)
+    }
+
+    // Notes that an actor has looked at the trees of ids, and gives it the turn.
+    fn note_ids(&mut self, actor: u8)
+        requires there { actor < actor_count }
+        requires free { other_holder actor self.old.turn ≡ None }
+        ensures { self.new ≡ taken actor with_ids self.old }
+    {
         let mine = &mut self.actors[usize::from(actor)];
         mine.has_ids = true;
         self.turn = Some(actor);
-        Answer::Ids(ids)
     }
 
     fn intend(&mut self, actor: u8, updates: Updates) -> Answer
@@ -282,7 +301,7 @@ impl Memory {
         if let Some(halt) = self.volume.halted() {
             return self.refused(actor, Refusal::Halted(halt));
         }
-        if self.volume.stage() != Stage::Seal {
+        if !is_stage(self.volume.stage(), Stage::Seal) {
             return self.tell(actor);
         }
         match self.volume.seal(self.alloc) {
@@ -299,7 +318,7 @@ impl Memory {
         if let Some(halt) = self.volume.halted() {
             return self.refused(actor, Refusal::Halted(halt));
         }
-        if self.volume.stage() != Stage::Settle {
+        if !is_stage(self.volume.stage(), Stage::Settle) {
             return self.tell(actor);
         }
         self.volume.settle();
@@ -313,7 +332,7 @@ impl Memory {
         if let Some(halt) = self.volume.halted() {
             return self.refused(actor, Refusal::Halted(halt));
         }
-        if self.volume.node_stage() != Stage::Freeze(node) {
+        if !is_stage(self.volume.node_stage(), Stage::Freeze(node)) {
             return self.tell_nodes(actor);
         }
         match self.volume.freeze(self.alloc, node) {
@@ -330,7 +349,7 @@ impl Memory {
         if let Some(halt) = self.volume.halted() {
             return self.refused(actor, Refusal::Halted(halt));
         }
-        if self.volume.node_stage() != Stage::CommitNodes {
+        if !is_stage(self.volume.node_stage(), Stage::CommitNodes) {
             return self.tell_nodes(actor);
         }
         match self.volume.commit_nodes(self.alloc) {
@@ -376,6 +395,13 @@ fn may_begin(first: bool, actor: &Actor) -> bool
         return true;
     }
     actor.operation.is_some()
+}
+
+// Whether two stages are the same.
+pub(crate) fn is_stage(one: Stage, other: Stage) -> bool
+    ensures { IsTrue result ↔ (one ≡ other) }
+{
+    one == other
 }
 
 // The actor that has the turn, if it is another one.

@@ -1,12 +1,13 @@
 -- Where frozen leaves are put in place, what is kept of actors stays.
-use Rattle.std.proofs.Common.{rules, ◌≡◌, ◌∙◌, None, ap, refl, subst}
-use Rattle.std.specs.Prelude.{◌≢◌}
+use Rattle.std.proofs.Common.{◌≡◌, ◌∙◌, None, Some, ap, refl, subst, sym}
+use Rattle.std.proofs.lemmas.Bool.{true≢false}
+use Rattle.core_actors.specs.declared.answer.Answer.{Answer}
 use Rattle.btree_map.specs.Trees.{keys_in}
 use Rattle.core_actors.specs.declared.answer.Answer.TheVariants.{Done}
 use Rattle.core_state.specs.Events.{CommitNodesGives}
 use Rattle.core_state.specs.States.{State}
 use Rattle.core_volume.specs.Volumes.{Volume, node_stage_of}
-use Rattle.journal_writer.specs.declared.stage.Stage.TheVariants.{CommitNodes}
+use Rattle.core_state.proofs.Answered.{commit_nodes-noted, same-kept, unchanged}
 use Rattle.core_state.proofs.NodeEvents.{commit_nodes-told, nodes-kept}
 use Rattle.core_state.proofs.memory.Memory.commit_nodes.Goals as goal
 
@@ -15,14 +16,32 @@ invariant_of-self c =
     nodes-kept (record { volume = c.self.inside.volume; actors = c.self.inside.actors.items; turn = c.self.inside.turn }) c.self.invariant c.commit_nodes.new.self c.in-Ok.ensures.sound
     (ap (λ (v : Volume). keys_in v.trees) c.in-Ok.ensures.placed.rest) (ap (λ (v : Volume). v.layout) c.in-Ok.ensures.placed.rest)
 
-pub returns-then-ne : goal.returns-then-ne
-returns-then-ne c =
-    let writes : c.args.self.now.volume.halted ≡ None = search rules in
-    let is : c.node_stage.result ≡ node_stage_of c.args.self.now.volume = c.node_stage.ensures ∙ ap (λ (s : State). node_stage_of s.volume) c.self.view_is in
-    let apart : c.node_stage.result ≢ CommitNodes = search rules in
-    commit_nodes-told c.args.self.now c.tell_nodes.new.self c.args.actor c.tell_nodes.result (record { writes = writes; other = λ same. apart (is ∙ same) }) c.tell_nodes.ensures.told
-
 pub returns-in-Ok : goal.returns-in-Ok
 returns-in-Ok c =
     subst (λ (s : State). CommitNodesGives s c.args.actor Done (record { volume = c.commit_nodes.new.self; actors = c.self.inside.actors.items; turn = c.self.inside.turn })) c.self.view_is
     (c.in-Ok.ensures.placed, refl)
+
+pub returns-in-Some : goal.returns-in-Some
+returns-in-Some c =
+    let halted : c.args.self.now.volume.halted ≡ Some c.in-Some.halt = ap (λ (s : State). s.volume.halted) (sym c.self.view_is) ∙ sym c.halted.ensures ∙ c.in-Some.is in
+    subst (λ (a : Answer). CommitNodesGives c.args.self.now c.args.actor a c.refused.new.self) (sym c.refused.ensures.answer) (halted, c.refused.ensures.noted)
+
+pub returns-then-not-is_stage : goal.returns-then-not-is_stage
+returns-then-not-is_stage c =
+    let writes : c.args.self.now.volume.halted ≡ None = ap (λ (s : State). s.volume.halted) (sym c.self.view_is) ∙ sym c.halted.ensures ∙ c.in_default.is in
+    let is : c.node_stage.result ≡ node_stage_of c.args.self.now.volume = c.node_stage.ensures ∙ ap (λ (s : State). node_stage_of s.volume) c.self.view_is in
+    commit_nodes-told c.args.self.now c.tell_nodes.new.self c.args.actor c.tell_nodes.result (record { writes = writes; other = λ same. true≢false (sym (c.is_stage.ensures.1 (is ∙ same)) ∙ c.if-not-is_stage.true) }) c.tell_nodes.ensures.told
+
+pub invariant_of-self-in-Err-NoMemory : goal.invariant_of-self-in-Err-NoMemory
+invariant_of-self-in-Err-NoMemory c = same-kept (record { volume = c.self.inside.volume; actors = c.self.inside.actors.items; turn = c.self.inside.turn }) c.commit_nodes.new.self c.in-Err-NoMemory.ensures.err c.self.invariant
+
+pub invariant_of-self-in-Err-Refused : goal.invariant_of-self-in-Err-Refused
+invariant_of-self-in-Err-Refused c = same-kept (record { volume = c.self.inside.volume; actors = c.self.inside.actors.items; turn = c.self.inside.turn }) c.commit_nodes.new.self c.in-Err-Refused.ensures.err c.self.invariant
+
+pub returns-in-Err-NoMemory : goal.returns-in-Err-NoMemory
+returns-in-Err-NoMemory c = unchanged (record { volume = c.self.inside.volume; actors = c.self.inside.actors.items; turn = c.self.inside.turn }) c.commit_nodes.new.self c.in-Err-NoMemory.ensures.err c.args.self.now c.self.view_is
+
+pub returns-in-Err-Refused : goal.returns-in-Err-Refused
+returns-in-Err-Refused c =
+    commit_nodes-noted (record { volume = c.self.inside.volume; actors = c.self.inside.actors.items; turn = c.self.inside.turn }) c.commit_nodes.new.self c.in-Err-Refused.ensures.err c.args.self.now c.self.view_is c.args.actor c.in-Err-Refused.field-0 c.in-Err-Refused.refusal c.in-Err-Refused.field-0-is
+    c.refused-in-Err-Refused.result c.refused-in-Err-Refused.ensures.answer c.refused-in-Err-Refused.new.self c.refused-in-Err-Refused.ensures.noted c.in-Err-Refused.ensures.why

@@ -1,12 +1,14 @@
 -- Where a leaf is frozen, or the work on nodes has ended, what is kept of actors stays.
-use Rattle.std.proofs.Common.{rules, not, refl, ◌≡◌, ◌∙◌, None, ap, subst, sym}
-use Rattle.std.proofs.lemmas.Bool.{eq-eqb, true≢false}
-use Rattle.std.specs.Prelude.{◌==◌, ◌≢◌}
+use Rattle.std.proofs.Common.{refl, ◌≡◌, ◌∙◌, None, Some, ap, subst, sym}
+use Rattle.std.proofs.lemmas.Bool.{true≢false}
+use Rattle.core_actors.specs.declared.answer.Answer.{Answer}
+use Rattle.core_actors.specs.declared.answer.Answer.TheVariants.{Done}
 use Rattle.btree_map.specs.Trees.{keys_in}
 use Rattle.core_volume.specs.Checkpoints.{IsUnfrozen}
+use Rattle.core_state.specs.Events.{FreezeGives}
 use Rattle.core_state.specs.States.{State}
 use Rattle.core_volume.specs.Volumes.{Volume, node_stage_of}
-use Rattle.journal_writer.specs.declared.stage.Stage.TheVariants.{Freeze}
+use Rattle.core_state.proofs.Answered.{unchanged}
 use Rattle.core_state.proofs.NodeEvents.{freeze-noted, freeze-told, nodes-kept, refused-kept}
 use Rattle.core_state.proofs.memory.Memory.freeze.Goals as goal
 
@@ -26,11 +28,21 @@ returns-in-Err-Refused c =
     (subst (IsUnfrozen c.args.node c.self.inside.volume c.freeze.new.self) c.in-Err-Refused.field-0-is c.in-Err-Refused.ensures.why)
     c.refused-in-Err-Refused.ensures.answer c.refused-in-Err-Refused.ensures.noted
 
-pub returns-then-ne : goal.returns-then-ne
-returns-then-ne c =
-    let writes : c.args.self.now.volume.halted ≡ None = search rules in
+pub returns-in-Some : goal.returns-in-Some
+returns-in-Some c =
+    let halted : c.args.self.now.volume.halted ≡ Some c.in-Some.halt = ap (λ (s : State). s.volume.halted) (sym c.self.view_is) ∙ sym c.halted.ensures ∙ c.in-Some.is in
+    subst (λ (a : Answer). FreezeGives c.args.node c.args.self.now c.args.actor a c.refused.new.self) (sym c.refused.ensures.answer) (halted, c.refused.ensures.noted)
+
+pub returns-then-not-is_stage : goal.returns-then-not-is_stage
+returns-then-not-is_stage c =
+    let writes : c.args.self.now.volume.halted ≡ None = ap (λ (s : State). s.volume.halted) (sym c.self.view_is) ∙ sym c.halted.ensures ∙ c.in_default.is in
     let is : c.node_stage.result ≡ node_stage_of c.args.self.now.volume = c.node_stage.ensures ∙ ap (λ (s : State). node_stage_of s.volume) c.self.view_is in
-    let apart : c.node_stage.result ≢ Freeze c.args.node = λ same.
-    let told : c.ne.result ≡ not (c.args.node == c.args.node) = rw same at c.ne.ensures in
-    true≢false (sym c.if-ne.true ∙ told ∙ ap not (eq-eqb c.args.node c.args.node refl)) in
-    freeze-told c.args.node c.args.self.now c.tell_nodes.new.self c.args.actor c.tell_nodes.result (record { writes = writes; other = λ same. apart (is ∙ same) }) c.tell_nodes.ensures.told
+    freeze-told c.args.node c.args.self.now c.tell_nodes.new.self c.args.actor c.tell_nodes.result (record { writes = writes; other = λ same. true≢false (sym (c.is_stage.ensures.1 (is ∙ same)) ∙ c.if-not-is_stage.true) }) c.tell_nodes.ensures.told
+
+pub returns-in-Err-NoMemory : goal.returns-in-Err-NoMemory
+returns-in-Err-NoMemory c = unchanged (record { volume = c.self.inside.volume; actors = c.self.inside.actors.items; turn = c.self.inside.turn }) c.freeze.new.self (subst (IsUnfrozen c.args.node c.self.inside.volume c.freeze.new.self) c.in-Err-NoMemory.field-0-is c.in-Err-NoMemory.ensures.why) c.args.self.now c.self.view_is
+
+pub returns-in-Ok : goal.returns-in-Ok
+returns-in-Ok c =
+    subst (λ (s : State). FreezeGives c.args.node s c.args.actor Done (record { volume = c.freeze.new.self; actors = c.self.inside.actors.items; turn = c.self.inside.turn })) c.self.view_is
+    (c.in-Ok.ensures.frozen, refl)
