@@ -2,9 +2,9 @@
 use Rattle.std.proofs.Common.{ap, ◌≡◌, ◌≢◌, ℕ, ◌+◌, ◌/◌, ◌%◌, ◌<◌, ◌≤◌, ⊎_elim, Bool, List, [], ◌∷◌, ◌++◌, length, Some, ◌∙◌, sym, subst, arith}
 use Rattle.std.proofs.lemmas.Bool.{cases_lt}
 use Rattle.std.proofs.lemmas.Nat.{div-add-mod', mul-le, row_fits}
-use Rattle.dev_model.specs.Crashes.{SameBut}
+use Rattle.dev_model.specs.Crashes.{EachCrash, IsCrashImageBut, SameBut}
 use Rattle.dev_model.specs.Disk.{Image, block_at}
-use Rattle.dev_model.specs.Devices.{DevicesState}
+use Rattle.dev_model.specs.Devices.{DevicesState, now}
 use Rattle.dev_model.specs.HeldBlocks.{HoldOnly}
 use Rattle.geometry.specs.Mirrors.{HoldMirrors, IsMirror, IsMirrorBlock}
 use Rattle.record_codec.specs.declared.entries.EntryRecord.{EntryRecord}
@@ -75,6 +75,22 @@ asked_as opens old new inside ring place bytes same place_is bytes_are held =
     subst (λ (r : RingState). HoldOnly opens (IsPartAsked r) old new) same
     (subst (λ (b : List ℕ). HoldOnly opens (IsMirrorBlock inside.mirrors (part_place inside) b) old new) bytes_are
     (subst (λ n. HoldOnly opens (IsMirrorBlock inside.mirrors n bytes) old new) place_is held))
+
+-- Where it writes is where the next part lies: what a crash may leave there, what stands there then, and what stays elsewhere.
+module _ (inside ring : RingState) (place : ℕ) (same : inside ≡ ring) (place_is : place ≡ part_place inside) where
+  pub crashes_as : (old new : DevicesState) → EachCrash (λ _ _ image. IsCrashImageBut (IsMirror inside.mirrors place) (now old) image) old new → EachCrash (λ _ _ image. IsCrashImageBut (IsPartPlace ring) (now old) image) old new
+  crashes_as old new crashes =
+      subst (λ (r : RingState). EachCrash (λ _ _ image. IsCrashImageBut (IsPartPlace r) (now old) image) old new) same
+      (subst (λ n. EachCrash (λ _ _ image. IsCrashImageBut (IsMirror inside.mirrors n) (now old) image) old new) place_is crashes)
+
+  pub others_as : (before after : Image) → SameBut (IsMirror inside.mirrors place) before after → SameBut (IsPartPlace ring) before after
+  others_as before after elsewhere =
+      subst (λ (r : RingState). SameBut (IsPartPlace r) before after) same (subst (λ n. SameBut (IsMirror inside.mirrors n) before after) place_is elsewhere)
+
+  pub stands_as : (bytes : List ℕ) (after : Image) → bytes ≡ part_bytes inside → HoldMirrors inside.mirrors place bytes after → HoldMirrors ring.mirrors (part_place ring) (part_bytes ring) after
+  stands_as bytes after bytes_are written =
+      subst (λ (r : RingState). HoldMirrors r.mirrors (part_place r) (part_bytes r) after) same
+      (subst (λ (b : List ℕ). HoldMirrors inside.mirrors (part_place inside) b after) bytes_are (subst (λ n. HoldMirrors inside.mirrors n bytes after) place_is written))
 
 -- What it leaves on the mirrors is the next part beside those before.
 pub holds_as : (inside ring : RingState) (place : ℕ) (bytes : List ℕ) (before after : Image) → inside ≡ ring → place ≡ part_place inside → bytes ≡ part_bytes inside → IsRing inside → ring.written < length ring.blocks

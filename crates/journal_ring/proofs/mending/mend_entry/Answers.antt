@@ -2,10 +2,12 @@ use Rattle.std.proofs.Common.{◌≡◌, ◌≤◌, ◌∙◌, ap, arith, length
 use Rattle.std.specs.Prelude.{OnOk}
 use Rattle.dev_model.specs.Devices.{now}
 use Rattle.dev_model.specs.Disk.{as_read}
+use Rattle.dev_model.specs.FrameLaws.{go_on_here}
 use Rattle.record_codec.specs.declared.entries.EntryRecord.{EntryRecord}
 use Rattle.record_codec.specs.Entries.{entry_format, entry_length_of}
 use Rattle.journal_ring.specs.EntryBlocks.{AreEntryBlocks, ArePartBlocks, HoldBlocks, part_count, parts_of}
 use Rattle.journal_ring.specs.Mending.{IsEntryBlock, Mends}
+use Rattle.journal_ring.proofs.Frames.{mends_none}
 use Rattle.journal_ring.proofs.Sealed.{one_sealed, whole_can}
 use Rattle.journal_ring.proofs.mending.mend_entry.Goals as goal
 
@@ -71,3 +73,34 @@ returns-clause-held g c tells =
     if_held : {T E : Type 0} {P Q : Type 0} (result : Result T E) → OnOk result P → (P → Q) → OnOk result Q
     if_held (Ok x) is then = then is
     if_held (Err e) is then = tt
+
+pub returns-in_err-payload-clause-mends : goal.returns-in_err-payload-clause-mends
+returns-in_err-payload-clause-mends g c tells blocks are =
+    let layout = c.args.layout.now in
+    mends_none (IsEntryBlock layout.metadata_replicas layout.journal c.args.found.now.number blocks) (g.D.Devices.state c.args.devices.now)
+
+pub returns-in_err-payload-clause-goes_on : goal.returns-in_err-payload-clause-goes_on
+returns-in_err-payload-clause-goes_on g c = go_on_here (g.D.Devices.state c.args.devices.now)
+
+pub returns-in_err-blocks-clause-mends : goal.returns-in_err-blocks-clause-mends
+returns-in_err-blocks-clause-mends g c tells blocks are =
+    let layout = c.args.layout.now in
+    mends_none (IsEntryBlock layout.metadata_replicas layout.journal c.args.found.now.number blocks) (g.D.Devices.state c.args.devices.now)
+
+pub returns-in_err-blocks-clause-goes_on : goal.returns-in_err-blocks-clause-goes_on
+returns-in_err-blocks-clause-goes_on g c = go_on_here (g.D.Devices.state c.args.devices.now)
+
+pub returns-clause-quiet : goal.returns-clause-quiet
+returns-clause-quiet g c = c.settle_parts.ensures.quiet
+
+pub returns-clause-rest : goal.returns-clause-rest
+returns-clause-rest g c = c.settle_parts.ensures.rest
+
+pub returns-clause-goes_on : goal.returns-clause-goes_on
+returns-clause-goes_on g c = c.settle_parts.ensures.goes_on
+
+pub returns-clause-cause : goal.returns-clause-cause
+returns-clause-cause g c = c.settle_parts.ensures.cause
+
+pub returns-clause-device : goal.returns-clause-device
+returns-clause-device g c = c.settle_parts.ensures.device
