@@ -19,3 +19,8 @@ handed (Err e) fault is = ap begin_fault_device is ∙ same_device fault
 -- What is said of the device that the call's fault names is said of the one that the result names.
 pub handed_beginning : {T : Type 0} (result : Result T BeginFault) (fault : DiskFault) (P : ℕ → Type 0) → IsErrAnd result (λ e. e ≡ begin_fault fault) → IfSome (fault_device fault) P → IfSome (failed_begin_device result) P
 handed_beginning result fault P is holds = subst (λ (dev : Option ℕ). IfSome dev P) (sym (handed result fault is)) holds
+
+-- So is it of a beginning's own fault.
+pub handed_begun : {T : Type 0} (result : Result T BeginFault) (fault : BeginFault) (P : ℕ → Type 0) → IsErrAnd result (λ e. e ≡ fault) → IfSome (begin_fault_device fault) P → IfSome (failed_begin_device result) P
+handed_begun (Ok value) fault P is holds = absurd is
+handed_begun (Err e) fault P is holds = subst (λ (dev : Option ℕ). IfSome dev P) (sym (ap begin_fault_device is)) holds

@@ -1,6 +1,7 @@
 mod Contents
 mod LevelsRead
 mod BtreesRead
+pub mod EndsRead
 mod OwnBirths
 mod FoundKeys
 mod ChangedNodes
@@ -15,4 +16,7 @@ pub mod MendedEntry
 pub mod MendedMeaning
 pub mod Opened
 mod LoadedFront
+pub mod RootsRead
+pub mod ShownSets
+pub mod MendedRoots
 pub mod OpenedVolume

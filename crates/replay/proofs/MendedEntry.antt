@@ -40,7 +40,7 @@ head_of : List ℕ → ℕ
 head_of [] = 0
 head_of (x ∷ xs) = x
 
-bytes_cases : (a b : List ℕ) → (a ≡ b) ⊎ ¬ (a ≡ b)
+pub bytes_cases : (a b : List ℕ) → (a ≡ b) ⊎ ¬ (a ≡ b)
 unfolding tail_of head_of
 bytes_cases [] [] = inl refl
 bytes_cases [] (y ∷ ys) = inr (λ (same : [] ≡ y ∷ ys). omega (arith, ap (λ (l : List ℕ). length l) same))

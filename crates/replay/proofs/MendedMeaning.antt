@@ -80,7 +80,7 @@ kept_mirror : (test : Bool) (count : ℕ) → test ≡ true → cond {A = ℕ} t
 kept_mirror test count is = ap (λ b. cond {A = ℕ} b (1 + count) 1) is
 
 -- On a metadata device the buckets that aren't kept are behind the journal area.
-behind_journal : (layout : Layout) (dev block : ℕ) → layout.journal % bucket_blocks ≡ 0 → dev < layout.metadata_replicas → kept_buckets layout dev ≤ block / bucket_blocks → 16 + layout.journal ≤ block
+pub behind_journal : (layout : Layout) (dev block : ℕ) → layout.journal % bucket_blocks ≡ 0 → dev < layout.metadata_replicas → kept_buckets layout dev ≤ block / bucket_blocks → 16 + layout.journal ≤ block
 behind_journal layout dev block whole mirror behind =
     let kept : kept_buckets layout dev ≡ 1 + layout.journal / bucket_blocks = kept_mirror (nat_lt dev layout.metadata_replicas) (layout.journal / bucket_blocks) (lt-ltb dev layout.metadata_replicas mirror) in
     omega (arith, behind, kept, whole)

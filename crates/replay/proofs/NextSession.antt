@@ -1,5 +1,5 @@
 -- At most one session is begun while a volume is opened, where no torn block of a session opens by chance.
-use Rattle.std.proofs.Common.{◌≡◌, ◌⊎◌, ℕ, ◌+◌, ◌<◌, ◌≤◌, Bool, IsTrue, List, Some, ⊎_elim, ap, ◌∙◌, sym, subst, arith, All}
+use Rattle.std.proofs.Common.{◌≡◌, ℕ, ◌+◌, ◌<◌, ◌≤◌, Bool, IsTrue, List, Some, ⊎_elim, ap, ◌∙◌, sym, subst, arith, All}
 use Rattle.std.specs.Prelude.{Ok, is_some, option_and_then}
 use Rattle.std.proofs.lemmas.Bool.{cases_lt}
 use Rattle.std.proofs.lemmas.Option.{option_and_then_some, same_Some}

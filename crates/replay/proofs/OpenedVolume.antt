@@ -1,12 +1,12 @@
 -- What a volume's loading and its beginning come to together.
-use Rattle.std.proofs.Common.{◌≡◌, ℕ, zero, suc, ◌+◌, ◌<◌, ◌≤◌, ⊎_elim, Bool, true, false, nat_lt, if◌then◌else◌, List, [], ◌∷◌, length, Option, Some, None, Result, Ok, Err, refl, ap, ◌∙◌, sym, subst, arith}
+use Rattle.std.proofs.Common.{◌≡◌, ℕ, zero, suc, ◌+◌, ◌<◌, ◌≤◌, inr, ⊎_elim, Bool, true, false, nat_lt, if◌then◌else◌, List, [], ◌∷◌, length, Option, Some, None, Result, Ok, Err, refl, ap, ◌∙◌, sym, subst, arith}
 use Rattle.std.proofs.lemmas.Bool.{cases_lt}
 use Rattle.std.proofs.lemmas.Bool.Decides.{nat_tests}
 use Rattle.std.specs.Prelude.{IfOk, IfSome, OnOk, slice_index_or}
 use Rattle.dev_model.specs.Devices.{AreFaultCounts, DevicesState, FaultCounts, now, risen}
 use Rattle.dev_model.specs.Disk.{Disk, Image, IsCrashImage, as_read, changed}
 use Rattle.dev_model.specs.FrameLaws.{stay_now}
-use Rattle.dev_model.specs.Frames.{AreAfterCalls, AreNoFewer, DisksStay}
+use Rattle.dev_model.specs.Frames.{AreAfterCalls, AreNoFewer, DisksStay, after_writes}
 use Rattle.geometry.specs.Faults.{DeviceFailed, SomeFailed}
 use Rattle.image_view.specs.Found.{Found, found, with_session}
 use Rattle.image_view.specs.declared.fault.MountFault.{MountFault}
@@ -154,9 +154,23 @@ failed_by_call (Some dev) old mid new mirrors more is are few below =
     let calls : new.calls ≡ changed dev risen mid.calls = ⊎_elim (λ e. ap (λ (f : FaultCounts). f.calls) e) (λ e. ap (λ (f : FaultCounts). f.calls) e) is in
     subst (λ counts. RoseBy 1 (slice_index_or old.calls dev 0) (slice_index_or counts dev 0)) (sym calls) since
 
--- What failed before has failed.
+-- A device of which the last write failed is one of which the last call did.
+pub after_write : (device : Option ℕ) (old new : FaultCounts) → new ≡ after_writes device old → AreAfterCalls device old new
+after_write None old new is = is
+after_write (Some dev) old new is = inr is
+
+-- A device that failed after other calls has failed since these began.
+pub failed_since : (device : Option ℕ) (old mid new : FaultCounts) → AreNoFewer old.calls mid.calls → IfSome device (λ dev. DeviceFailed dev mid new) → IfSome device (λ dev. DeviceFailed dev old new)
+failed_since None old mid new more failed = tt
+failed_since (Some dev) old mid new more failed = omega (arith, more dev, failed)
+
+-- What failed before has failed,
 pub none_before : (old mid new : FaultCounts) → AreNoFewer mid.calls new.calls → (SomeFailed old new → ⊥) → SomeFailed old mid → ⊥
 none_before old mid new more none failed = none (failed.0, (let f : DeviceFailed failed.0 old new = omega (arith, failed.1, more failed.0) in f))
+
+-- and so has what failed later.
+pub none_since : (old mid new : FaultCounts) → AreNoFewer old.calls mid.calls → (SomeFailed old new → ⊥) → SomeFailed mid new → ⊥
+none_since old mid new more none failed = none (failed.0, (let f : DeviceFailed failed.0 old new = omega (arith, failed.1, more failed.0) in f))
 
 -- ---- crashes
 

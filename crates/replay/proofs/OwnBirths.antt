@@ -1,5 +1,5 @@
 -- No two nodes of btrees have one birth where no node in the list of all has the birth of a later one.
-use Rattle.std.proofs.Common.{◌≡◌, ℕ, zero, suc, Bool, true, false, cond, ◌||◌, List, [], ◌∷◌, ◌++◌, Option, Some, None, get_or, refl, sym, ap, ◌∙◌}
+use Rattle.std.proofs.Common.{◌≡◌, ⊎_elim, ℕ, zero, suc, Bool, true, false, cond, ◌||◌, List, [], ◌∷◌, ◌++◌, Option, Some, None, get_or, refl, sym, ap, ◌∙◌}
 use Rattle.std.specs.List.{flat_map, list_any}
 use Rattle.std.specs.Map.{values_of}
 use Rattle.std.specs.BTreeMap.{is_at}
@@ -18,6 +18,7 @@ use Rattle.vol_types.specs.Maps.{value_at}
 use Rattle.vol_types.specs.Positions.{pos_cmp}
 use Rattle.vol_types.specs.declared.pointers.NodePtr.{NodePtr}
 use Rattle.vol_types.specs.declared.positions.Pos.{Pos}
+use Rattle.replay.proofs.EndsRead.{IsIn}
 
 -- whether one of the nodes has this birth
 abbrev has : ℕ → List NodePtr → Bool
@@ -141,3 +142,26 @@ births_differ nodes apart one other birth first second =
     (λ i. birth_at other.greatest (level_of (levels_of nodes (btrees i)) (levels i))) ∙ second in
     let ends = one_end birth one.greatest other.greatest (level_of (levels_of nodes one.btree) one.level) (apart_at values_of [] refl (levels_of nodes one.btree) one.level here) first second_at in
     λ i. record { btree = btrees i; level = levels i; greatest = ends i }
+
+has_in : (x : NodePtr) (nodes : List NodePtr) (birth : ℕ) → IsIn x nodes → x.birth ≡ birth → has birth nodes ≡ true
+has_in x [] birth is born = absurd is
+has_in x (node ∷ nodes) birth is born = ⊎_elim
+    (λ (here : x ≡ node). or_first (node.birth == birth) (has birth nodes) (eq-eqb node.birth birth (ap (λ (n : NodePtr). n.birth) (sym here) ∙ born)))
+    (λ (later : IsIn x nodes). or_second (node.birth == birth) (has birth nodes) (has_in x nodes birth later born))
+    is
+
+-- Nodes of which no two have one birth, and that have one, are one node.
+pub one_birth : (nodes : List NodePtr) → first_twin nodes ≡ None → (x y : NodePtr) → IsIn x nodes → IsIn y nodes → x.birth ≡ y.birth → x ≡ y
+one_birth [] apart x y one other same = absurd one
+one_birth (node ∷ nodes) apart x y one other same =
+    let parts = apart_first node nodes apart in
+    ⊎_elim
+    (λ (x_is : x ≡ node). ⊎_elim
+    (λ (y_is : y ≡ node). x_is ∙ sym y_is)
+    (λ (later : IsIn y nodes). absurd (false≢true (sym parts.0 ∙ has_in y nodes node.birth later (sym same ∙ ap (λ (n : NodePtr). n.birth) x_is))))
+    other)
+    (λ (earlier : IsIn x nodes). ⊎_elim
+    (λ (y_is : y ≡ node). absurd (false≢true (sym parts.0 ∙ has_in x nodes node.birth earlier (same ∙ ap (λ (n : NodePtr). n.birth) y_is))))
+    (λ (later : IsIn y nodes). one_birth nodes parts.1 x y earlier later same)
+    other)
+    one

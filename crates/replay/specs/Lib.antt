@@ -4,3 +4,4 @@ pub mod Beginning
 pub mod Mending
 pub mod Opening
 pub mod NodeUpdates
+pub mod Roots

@@ -1,7 +1,7 @@
 ghost use Rattle.std.specs.Prelude.{◌≡◌, ◌+◌, ◌<◌, ◌≤◌, ◌↔◌, ◌⊎◌, ℕ, All, Ok, Err, IfOk, IfSome, OnOk, length, true};
 ghost use Rattle.dev_model.specs.Devices.{now};
 ghost use Rattle.dev_model.specs.Disk.{as_read};
-ghost use Rattle.dev_model.specs.Frames.{AreAfterCalls, AreOnlyRead, GoOn};
+ghost use Rattle.dev_model.specs.Frames.{AreOnlyRead, GoOn};
 ghost use Rattle.geometry.specs.Faults.{DeviceFailed, SomeFailed};
 ghost use Rattle.geometry.specs.Layouts.{is_layout_of};
 ghost use Rattle.image_view.specs.Found.{Found, found, with_session};
@@ -9,19 +9,23 @@ ghost use Rattle.image_view.specs.Trees.{nodes_of};
 ghost use Rattle.image_view.specs.declared.fault.MountFault.{MountFault as AFault};
 ghost use Rattle.image_reader.specs.Answers.{AreRagged, Finds, IsEarly, NodesAgree, WasWhole};
 ghost use Rattle.image_reader.specs.Faults.{failed_mount_device};
-ghost use Rattle.replay.specs.Beginning.{failed_begin_device};
+ghost use Rattle.image_reader.specs.Volumes.{last_of};
+ghost use Rattle.replay.specs.Beginning.{IsFoundOn, failed_begin_device};
 ghost use Rattle.replay.specs.Mending.{IsInOrderOn, IsReady, KeepsMeaning, KeepsPast};
 ghost use Rattle.replay.specs.Opening.{IsRefusal, IsSpent, in_next_session, opening_fault};
+ghost use Rattle.replay.specs.Roots.{AreRootsAlike};
 ghost use Rattle.replay.specs.Volumes.{found_in};
 
-use crate::{BeginFault, Loaded, begin_session, load, mend_journal};
+use crate::{
+    BeginFault, Loaded, begin_session, found_btrees_are_a_key_map, load, mend_journal, mend_roots,
+};
 use dev_model::Devices;
 use image_view::MountFault;
 use journal_ring::FoundEntry;
 use std::alloc::Global;
-use vol_types::Layout;
+use vol_types::{Layout, NodePtr};
 
-/// Opens the volume on devices for writing: loads it, begins its next session, and mends its journal, in this order. Where no
+/// Opens the volume on devices for writing: loads it, begins its next session, and mends its journal and its roots, in this order. Where no
 /// number of a session is left it answers `NoEntry`, as where no session is named. It costs what `load` and `begin_and_mend` do.
 ///
 /// Where the devices showed an orderly volume, whatever a crash leaves meanwhile means the same volume, in the session that was
@@ -40,6 +44,12 @@ pub fn open_volume<D: Devices>(alloc: Global, devices: &mut D) -> Result<Loaded,
         → KeepsMeaning f (D.state devices.old) (D.state devices.new) }
     ensures ready { D.tells → (f : Found) → IsInOrderOn f (now (D.state devices.old))
         → OnOk result (IsReady (with_session (f.session + 1) f) (now (D.state devices.new))) }
+    // Where no call failed, each root has the same sets on every metadata device then, if its places agreed on it: also where they
+    // didn't have the same before.
+    ensures alike { D.tells → ¬ SomeFailed (D.state devices.old).faults (D.state devices.new).faults
+        → (f : Found) → IsFoundOn f (now (D.state devices.old))
+        → NodesAgree (as_read (now (D.state devices.old))) f
+        → OnOk result (AreRootsAlike f (as_read (now (D.state devices.new)))) }
     // A fault before the nodes is the image's, and comes only where no call failed, or no number of a session is left.
     ensures early { D.tells → (fault : AFault) → result ≡ Err fault → IsEarly fault
         → (found (as_read (now (D.state devices.old))) ≡ Err fault)
@@ -89,16 +99,20 @@ fn begin_loaded<D: Devices>(
     ensures ready { D.tells → (f : Found) → IsInOrderOn f (now (D.state devices.old))
         → f.layout ≡ loaded.layout → f.session ≡ loaded.session → f.needed ≡ loaded.needed
         → OnOk result (IsReady (with_session (loaded.session + 1) f) (now (D.state devices.new))) }
+    ensures alike { D.tells → ¬ SomeFailed (D.state devices.old).faults (D.state devices.new).faults
+        → (f : Found) → IsFoundOn f (now (D.state devices.old))
+        → NodesAgree (as_read (now (D.state devices.old))) f
+        → AreRagged loaded.layout.id (as_read (now (D.state devices.old))) (nodes_of f.trees.nodes) loaded.ragged
+        → f.layout ≡ loaded.layout → f.session ≡ loaded.session → f.needed ≡ loaded.needed
+        → OnOk result (AreRootsAlike f (as_read (now (D.state devices.new)))) }
     ensures refused { (fault : AFault) → result ≡ Err fault → IsRefusal fault
         → devices.new ≡ devices.old }
     ensures spent { (fault : AFault) → result ≡ Err fault → IsRefusal fault
         → (fault ≡ MountFault.NoEntry) × (4294967295 ≤ loaded.session) }
     ensures untested { (check : ℕ) → result ≡ Err (MountFault.Unsound check) → ⊥ }
     ensures goes_on { GoOn (D.state devices.old) (D.state devices.new) }
-    ensures cause { AreAfterCalls (failed_mount_device result) (D.state devices.old).faults
-        (D.state devices.new).faults }
-    ensures device { IfSome (failed_mount_device result)
-        (λ dev. dev < loaded.layout.metadata_replicas) }
+    ensures cause { IfSome (failed_mount_device result) (λ dev. DeviceFailed dev
+        (D.state devices.old).faults (D.state devices.new).faults) }
 {
     match begin_and_mend(
         alloc,
@@ -106,6 +120,7 @@ fn begin_loaded<D: Devices>(
         &loaded.layout,
         loaded.session,
         loaded.needed.as_slice(),
+        loaded.ragged.as_slice(),
     ) {
         Ok(session) => Ok(in_session(loaded, session)),
         Err(fault) => Err(opening_fault(fault)),
@@ -135,8 +150,9 @@ fn opening_fault(fault: BeginFault) -> MountFault
     }
 }
 
-/// Makes a volume that was loaded ready for writing: begins its next session, whose number it gives, and then mends the journal.
-/// Where no number is left it answers `Spent`, and nothing is written. It costs what `begin_session` and `mend_journal` do.
+/// Makes a volume that was loaded ready for writing: begins its next session, whose number it gives, and then mends the journal, and the
+/// nodes that the newest entry names, of those with these births, which lack something on some place. Where no number is left it answers
+/// `Spent`, and nothing is written. It costs what `begin_session`, `mend_journal` and `mend_roots` do.
 ///
 /// Where the devices showed an orderly volume, whatever a crash leaves meanwhile means the same volume, in this session or a later
 /// one, as far as no torn block opens by chance. After `Ok` the devices hold it in the next session, nothing of the metadata
@@ -147,6 +163,7 @@ pub fn begin_and_mend<D: Devices>(
     layout: &Layout,
     session: u64,
     needed: &[FoundEntry],
+    ragged: &[u64],
 ) -> Result<u64, BeginFault>
     requires layout { is_layout_of (D.state devices.old).sizes layout.now ≡ true }
     requires whole { All (WasWhole layout.now) needed.now }
@@ -162,12 +179,34 @@ pub fn begin_and_mend<D: Devices>(
     ensures ready { D.tells → (f : Found) → IsInOrderOn f (now (D.state devices.old))
         → f.layout ≡ layout.now → f.session ≡ session → f.needed ≡ needed.now
         → OnOk result (IsReady (with_session (session + 1) f) (now (D.state devices.new))) }
+    // Where no call failed, each root has the same sets on every metadata device then, if its places agreed on it, and those are listed that
+    // lacked something.
+    ensures alike { D.tells → ¬ SomeFailed (D.state devices.old).faults (D.state devices.new).faults
+        → (f : Found) → IsFoundOn f (now (D.state devices.old))
+        → NodesAgree (as_read (now (D.state devices.old))) f
+        → AreRagged layout.now.id (as_read (now (D.state devices.old))) (nodes_of f.trees.nodes) ragged.now
+        → f.layout ≡ layout.now → f.session ≡ session → f.needed ≡ needed.now
+        → OnOk result (AreRootsAlike f (as_read (now (D.state devices.new)))) }
     ensures goes_on { GoOn (D.state devices.old) (D.state devices.new) }
-    ensures cause { AreAfterCalls (failed_begin_device result) (D.state devices.old).faults
-        (D.state devices.new).faults }
+    // A read of a node that fails is no fault.
+    ensures cause { IfSome (failed_begin_device result) (λ dev. DeviceFailed dev
+        (D.state devices.old).faults (D.state devices.new).faults) }
+    ensures unfailed { OnOk result ((D.state devices.new).faults.writes ≡ (D.state devices.old).faults.writes) }
     ensures device { IfSome (failed_begin_device result) (λ dev. dev < layout.now.metadata_replicas) }
 {
+    found_btrees_are_a_key_map();
     let next = begin_session(alloc, devices, layout, session)?;
     mend_journal(alloc, devices, layout, needed)?;
+    mend_roots(alloc, devices, layout, newest_roots(needed), ragged)?;
     Ok(next)
+}
+
+// The roots that the newest of some entries names; none where there is no entry.
+fn newest_roots(needed: &[FoundEntry]) -> &[NodePtr]
+    ensures { result.now ≡ (last_of needed.now).entry.roots }
+{
+    match needed.last() {
+        Some(newest) => newest.entry.roots.as_slice(),
+        None => &[],
+    }
 }

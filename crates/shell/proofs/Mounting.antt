@@ -1,23 +1,24 @@
 -- What loading a volume and beginning its next session say together, and what holds of the acknowledgements from the run's beginning on.
-use Rattle.std.proofs.Common.{◌≡◌, ◌<◌, ◌≤◌, ◌+◌, ℕ, inl, refl, sym, ap, ◌∙◌, subst, Some, Result, Ok, Err}
+use Rattle.std.proofs.Common.{◌≡◌, ◌≤◌, ◌+◌, ℕ, inl, refl, sym, ap, ◌∙◌, subst, Some, Result, Ok, Err}
 use Rattle.std.specs.Prelude.{IfSome, IsErr}
-use Rattle.dev_model.specs.Devices.{AreFaultCounts, DevicesState, FaultCounts, now}
+use Rattle.dev_model.specs.Devices.{DevicesState, now}
 use Rattle.dev_model.specs.Disk.{Image, as_read}
-use Rattle.dev_model.specs.Frames.{AreAfterCalls, AreNoFewer, AreOnlyRead}
+use Rattle.dev_model.specs.Frames.{AreNoFewer, AreOnlyRead}
 use Rattle.geometry.specs.Faults.{DeviceFailed, SomeFailed}
 use Rattle.image_view.specs.Found.{Found, found, with_session}
 use Rattle.image_view.specs.declared.fault.MountFault.{MountFault}
 use Rattle.image_view.specs.declared.fault.MountFault.TheVariants as faults
 use Rattle.image_reader.specs.Answers.{Finds, IsEarly, NodesAgree}
 use Rattle.image_reader.specs.Faults.{mount_fault_device}
-use Rattle.replay.specs.Beginning.{begin_fault_device}
+use Rattle.replay.specs.Beginning.{IsFoundOn, begin_fault_device}
 use Rattle.replay.specs.Mending.{IsInOrderOn, IsReady}
 use Rattle.replay.specs.Opening.{in_next_session}
+use Rattle.replay.specs.Roots.{AreRootsAlike}
 use Rattle.replay.specs.Volumes.{found_in}
 use Rattle.replay.specs.declared.beginning.BeginFault.{BeginFault}
 use Rattle.replay.specs.declared.beginning.BeginFault.TheVariants as of_begin
 use Rattle.replay.specs.declared.volume.Loaded.{Loaded}
-use Rattle.replay.proofs.OpenedVolume.{begun_is, failed_by_call}
+use Rattle.replay.proofs.OpenedVolume.{begun_is, failed_since, none_before}
 use Rattle.shell.specs.Causes.{SourceFailed}
 use Rattle.shell.specs.EarlyEnds.{end_of_begin, end_of_mount}
 use Rattle.shell.specs.Mounts.{HasRefused, IsOpenedFrom, MountCause}
@@ -51,29 +52,30 @@ load_ended tells old new (faults.DeviceFault dev) found early untested cause rea
 load_ended tells old new faults.NoMemory found early untested cause read = tt
 
 -- why no session was begun
-pub begin_ended : (tells : Type 0) (old mid new : DevicesState) (mirrors : ℕ) (fault : BeginFault) → (fault ≡ of_begin.Spent → HasRefused tells old new refusals.NoEntry)
-    → AreNoFewer old.faults.calls mid.faults.calls → AreAfterCalls (begin_fault_device fault) mid.faults new.faults → AreFaultCounts mid.faults → mirrors ≤ 8
-    → IfSome (begin_fault_device fault) (λ dev. dev < mirrors) → MountCause tells old new (end_of_begin fault)
-begin_ended tells old mid new mirrors of_begin.Spent spent more is are few below = spent refl
-begin_ended tells old mid new mirrors (of_begin.DeviceFault dev) spent more is are few below = failed_by_call (Some dev) old.faults mid.faults new.faults mirrors more is are few below
-begin_ended tells old mid new mirrors of_begin.NoMemory spent more is are few below = tt
+pub begin_ended : (tells : Type 0) (old mid new : DevicesState) (fault : BeginFault) → (fault ≡ of_begin.Spent → HasRefused tells old new refusals.NoEntry)
+    → AreNoFewer old.faults.calls mid.faults.calls → IfSome (begin_fault_device fault) (λ dev. DeviceFailed dev mid.faults new.faults) → MountCause tells old new (end_of_begin fault)
+begin_ended tells old mid new of_begin.Spent spent more failed = spent refl
+begin_ended tells old mid new (of_begin.DeviceFault dev) spent more failed = failed_since (Some dev) old.faults mid.faults new.faults more failed
+begin_ended tells old mid new of_begin.NoMemory spent more failed = tt
 
 -- devices that weren't touched since they were read
 pub read_only : {D : Type 0} (state : D → DevicesState) (tells : Type 0) (first mid last : D) → last ≡ mid → AreOnlyRead tells (state first) (state mid) → AreOnlyRead tells (state first) (state last)
 read_only state tells first mid last same read = subst (λ d. AreOnlyRead tells (state first) (state d)) (sym same) read
 
--- a volume that was loaded, and whose next session was begun without a failure, was opened
-pub is_opened : (tells : Type 0) (old mid new : DevicesState) (loaded opened : Loaded) (session : ℕ) → AreOnlyRead tells old mid → new.faults ≡ mid.faults
+-- a volume that was loaded, and whose next session was begun without a failed write, was opened
+pub is_opened : (tells : Type 0) (old mid new : DevicesState) (loaded opened : Loaded) (session : ℕ) → AreOnlyRead tells old mid → new.faults.writes ≡ mid.faults.writes → AreNoFewer mid.faults.calls new.faults.calls
     → (tells → (SomeFailed old.faults mid.faults → ⊥) → found (as_read (now old)) ≡ Ok (found_in loaded))
     → (tells → (f : Found) → found (as_read (now old)) ≡ Ok f → NodesAgree (as_read (now old)) f → found_in loaded ≡ f)
     → (4294967295 ≤ loaded.session → ⊥) → session ≡ loaded.session + 1 → found_in opened ≡ with_session session (found_in loaded)
     → (tells → (f : Found) → IsInOrderOn f (now old) → IsReady (with_session (f.session + 1) f) (now new))
+    → (tells → (SomeFailed old.faults new.faults → ⊥) → (f : Found) → IsFoundOn f (now old) → NodesAgree (as_read (now old)) f → AreRootsAlike f (as_read (now new)))
     → IsOpenedFrom tells (found_in opened) old new
-is_opened tells old mid new loaded opened session read same found made_up left next is ready = record {
-  unfailed = ap (λ (f : FaultCounts). f.writes) same ∙ read.writes;
-  means = λ told none. ap in_next_session (found told (λ failed. none (subst (λ (f : FaultCounts). SomeFailed old.faults f) (sym same) failed))) ∙ begins;
+is_opened tells old mid new loaded opened session read same more found made_up left next is ready alike = record {
+  unfailed = same ∙ read.writes;
+  means = λ told none. ap in_next_session (found told (none_before old.faults mid.faults new.faults more none)) ∙ begins;
   made_up = λ told f finds agree. ap (λ (g : Found). in_next_session (Ok g)) (sym (made_up told f finds agree)) ∙ begins;
   ready = ready;
+  alike = alike;
 }
   where
     begins : in_next_session (Ok (found_in loaded)) ≡ Ok (found_in opened)

@@ -11,7 +11,8 @@ use replay::{BeginFault, Loaded, begin_and_mend, load};
 use std::alloc::Global;
 
 /// Opens the volume on the devices for its next session: loads it, seals the session's number on every metadata device, and writes each needed
-/// entry of the journal anew where a mirror lacks it. Where nothing is found, nothing is written. It costs what `load` and `begin_and_mend` do.
+/// entry of the journal, and each node that the newest entry names, anew where a mirror lacks a part of it. Where nothing is found, nothing is
+/// written. It costs what `load` and `begin_and_mend` do.
 pub fn mount<D: Devices>(alloc: Global, devices: &mut D) -> Result<Loaded, EarlyEnd>
     ensures opened { IfOk result (λ opened. IsOpenedFrom D.tells (found_in opened) (D.state devices.old)
         (D.state devices.new)) }
@@ -30,6 +31,7 @@ pub fn mount<D: Devices>(alloc: Global, devices: &mut D) -> Result<Loaded, Early
         &loaded.layout,
         loaded.session,
         loaded.needed.as_slice(),
+        loaded.ragged.as_slice(),
     ) {
         Ok(session) => {
             loaded.session = session;

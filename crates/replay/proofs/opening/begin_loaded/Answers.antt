@@ -1,8 +1,11 @@
-use Rattle.std.proofs.Common.{◌<◌, ◌∙◌, ℕ, Option, Ok, Err, ap, sym, subst}
+use Rattle.std.proofs.Common.{◌∙◌, ℕ, List, Option, Ok, Err, ap, sym, subst}
 use Rattle.std.specs.Prelude.{IfSome}
-use Rattle.dev_model.specs.Frames.{AreAfterCalls}
+use Rattle.dev_model.specs.Devices.{now}
+use Rattle.dev_model.specs.Disk.{as_read}
+use Rattle.geometry.specs.Faults.{DeviceFailed}
+use Rattle.image_view.specs.Trees.{nodes_of}
 use Rattle.image_view.specs.declared.fault.MountFault.{MountFault}
-use Rattle.image_reader.specs.Answers.{Finds}
+use Rattle.image_reader.specs.Answers.{AreRagged, Finds}
 use Rattle.image_reader.specs.Faults.{mount_fault_device}
 use Rattle.replay.specs.Opening.{in_next_session}
 use Rattle.replay.specs.Volumes.{found_in}
@@ -52,9 +55,9 @@ pub returns-in-Err-clause-cause : goal.returns-in-Err-clause-cause
 returns-in-Err-clause-cause g c =
     let old = g.D.Devices.state c.args.devices.now in
     let new = g.D.Devices.state c.begin_and_mend.new.devices in
-    subst (λ (dev : Option ℕ). AreAfterCalls dev old.faults new.faults) (sym (ap mount_fault_device c.opening_fault.ensures ∙ same_device c.in-Err.fault)) c.in-Err.ensures.cause
+    subst (λ (device : Option ℕ). IfSome device (λ dev. DeviceFailed dev old.faults new.faults)) (sym (ap mount_fault_device c.opening_fault.ensures ∙ same_device c.in-Err.fault)) c.in-Err.ensures.cause
 
-pub returns-in-Err-clause-device : goal.returns-in-Err-clause-device
-returns-in-Err-clause-device g c =
-    let mirrors = c.args.loaded.layout.metadata_replicas in
-    subst (λ (device : Option ℕ). IfSome device (λ dev. dev < mirrors)) (sym (ap mount_fault_device c.opening_fault.ensures ∙ same_device c.in-Err.fault)) c.in-Err.ensures.device
+pub returns-in-Ok-clause-alike : goal.returns-in-Ok-clause-alike
+returns-in-Ok-clause-alike g c tells none f on agree ragged layouts sessions needs =
+    let image = as_read (now (g.D.Devices.state c.args.devices.now)) in
+    c.in-Ok.ensures.alike tells none f on agree (subst (λ (births : List ℕ). AreRagged c.args.loaded.layout.id image (nodes_of f.trees.nodes) births) (sym c.as_slice-2.ensures) ragged) layouts sessions (needs ∙ sym c.as_slice.ensures)

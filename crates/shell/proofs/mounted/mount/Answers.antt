@@ -1,14 +1,19 @@
-use Rattle.std.proofs.Common.{◌+◌, ℕ, Err, inr, refl, ap, ◌∙◌, sym, subst, arith}
+use Rattle.std.proofs.Common.{◌≡◌, ◌+◌, ℕ, List, Err, inr, refl, ap, ◌∙◌, sym, subst, arith}
 use Rattle.dev_model.specs.Devices.{now}
-use Rattle.dev_model.specs.Disk.{as_read}
-use Rattle.dev_model.specs.FrameLaws.{go_on_reading, go_on_then}
-use Rattle.geometry.specs.LayoutFacts.{has_places}
-use Rattle.image_view.specs.Found.{with_session}
+use Rattle.dev_model.specs.Disk.{Disk, as_read}
+use Rattle.dev_model.specs.FrameLaws.{go_on_reading, go_on_then, stay_now}
+use Rattle.image_view.specs.Found.{Found, with_session}
 use Rattle.image_view.specs.declared.fault.MountFault.{MountFault}
+use Rattle.image_reader.specs.Answers.{AreRagged, NodesAgree}
+use Rattle.image_view.specs.Trees.{nodes_of}
+use Rattle.key_codec.specs.Combined.{ok_is}
+use Rattle.vol_types.specs.declared.pointers.NodePtr.{NodePtr}
+use Rattle.replay.specs.Volumes.{found_in}
+use Rattle.replay.specs.Beginning.{IsFoundOn}
 use Rattle.replay.specs.Mending.{IsReady}
 use Rattle.replay.specs.declared.beginning.BeginFault.{BeginFault}
 use Rattle.replay.specs.declared.beginning.BeginFault.TheVariants.{Spent}
-use Rattle.replay.proofs.OpenedVolume.{in_order_now, is_begun, none_before, stay_means, stay_then_means}
+use Rattle.replay.proofs.OpenedVolume.{in_order_now, is_begun, none_before, none_since, stay_means, stay_then_means}
 use Rattle.shell.specs.EarlyEnds.{end_of_mount}
 use Rattle.shell.specs.Mounts.{MountCause}
 use Rattle.shell.proofs.LoadedFront.{front_is}
@@ -46,13 +51,22 @@ returns-in-Ok-clause-opened g c =
     let new = D.state c.begin_and_mend.new.devices in
     let loaded = c.in_ok-loaded.loaded in
     let session = c.in-Ok.session in
-    is_opened D.tells old mid new loaded (record loaded { session = session }) session c.load.ensures.read c.in-Ok.ensures.cause
+    is_opened D.tells old mid new loaded (record loaded { session = session }) session c.load.ensures.read c.in-Ok.ensures.unfailed c.begin_and_mend.ensures.goes_on.calls
     c.in_ok-loaded.ensures.found c.in_ok-loaded.ensures.made_up
     (λ past. is_begun session Spent (c.in-Ok.ensures.spent.1 past)) c.in-Ok.ensures.next refl
     (λ tells f on.
     let order = in_order_now f old mid on (c.load.ensures.read.disks tells) in
     let front = front_is (as_read (now old)) f on.on.finds loaded.layout loaded.session loaded.needed (c.in_ok-loaded.ensures.front tells) in
     subst (λ (s : ℕ). IsReady (with_session (s + 1) f) (now new)) (sym front.sessions) (c.in-Ok.ensures.ready tells f order front.layouts front.sessions (front.needs ∙ sym c.as_slice.ensures)))
+    (λ tells none f on agree.
+    let now_same = sym (stay_now old mid (c.load.ensures.read.disks tells)) in
+    let front = front_is (as_read (now old)) f on.finds loaded.layout loaded.session loaded.needed (c.in_ok-loaded.ensures.front tells) in
+    let none_there = none_before old.faults mid.faults new.faults c.begin_and_mend.ensures.goes_on.calls none in
+    let same : found_in loaded ≡ f = ok_is (found_in loaded) f (sym (c.in_ok-loaded.ensures.found tells none_there) ∙ on.finds) in
+    let ragged = subst (λ (nodes : List NodePtr). AreRagged loaded.layout.id (as_read (now old)) nodes loaded.ragged) (ap (λ (g : Found). nodes_of g.trees.nodes) same) (c.in_ok-loaded.ensures.ragged tells none_there) in
+    c.in-Ok.ensures.alike tells (none_since old.faults mid.faults new.faults c.load.ensures.read.calls none) f
+    (subst (λ (ds : List Disk). IsFoundOn f ds) now_same on) (subst (λ (ds : List Disk). NodesAgree (as_read ds) f) now_same agree)
+    (subst (λ (ds : List Disk). AreRagged loaded.layout.id (as_read ds) (nodes_of f.trees.nodes) c.as_slice-2.result.now) now_same (subst (λ (births : List ℕ). AreRagged loaded.layout.id (as_read (now old)) (nodes_of f.trees.nodes) births) (sym c.as_slice-2.ensures) ragged)) front.layouts front.sessions (front.needs ∙ sym c.as_slice.ensures))
 
 pub returns-in-Ok-clause-keeps : goal.returns-in-Ok-clause-keeps
 returns-in-Ok-clause-keeps g c tells f on =
@@ -119,13 +133,12 @@ returns-in-Err-clause-cause g c =
     let first = c.args.devices.now in
     let mid = c.load.new.devices in
     let last = c.begin_and_mend.new.devices in
-    let few = (has_places (D.state mid).sizes loaded.layout c.in_ok-loaded.ensures.fits).mirrors_few in
     subst (MountCause D.tells (D.state first) (D.state last)) (sym c.unbegun.ensures)
-    (begin_ended D.tells (D.state first) (D.state mid) (D.state last) loaded.layout.metadata_replicas c.in-Err.fault
+    (begin_ended D.tells (D.state first) (D.state mid) (D.state last) c.in-Err.fault
     (λ none.
     let spent = ap (λ (f : BeginFault). Err f) none in
     record {
       reason = λ tells shows. inr (record { layout = loaded.layout; session = loaded.session; needed = loaded.needed; front = c.in_ok-loaded.ensures.front tells; last = c.in-Err.ensures.spent.0 spent });
       read = read_only D.state D.tells first mid last (c.in-Err.ensures.nothing spent) c.load.ensures.read;
     })
-    c.load.ensures.read.calls c.in-Err.ensures.cause (g.met.D.Devices.counted mid) (omega (arith, few)) c.in-Err.ensures.device)
+    c.load.ensures.read.calls c.in-Err.ensures.cause)
