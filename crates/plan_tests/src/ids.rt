@@ -9,8 +9,8 @@ use std::sync::Arc;
 use std::test::Fail;
 use vol_types::{Key, Keys, Pos, Snap, SnapState, Value};
 
-/// The record of an id under this parent; 0 stands for none.
-pub(crate) fn snap_key(id: u32, parent: u32) -> Key
+/// The key of an id with its record.
+pub(crate) fn key_of_snap(id: u32, snap: Snap) -> Key
     ensures { IsSnapKey result }
 {
     Key {
@@ -19,13 +19,23 @@ pub(crate) fn snap_key(id: u32, parent: u32) -> Key
             offset: u64::from(id),
             snapshot: 0,
         },
-        value: Some(Value::Snap(Snap {
+        value: Some(Value::Snap(snap)),
+    }
+}
+
+/// The record of an id under this parent; 0 stands for none.
+pub(crate) fn snap_key(id: u32, parent: u32) -> Key
+    ensures { IsSnapKey result }
+{
+    key_of_snap(
+        id,
+        Snap {
             parent,
             first_child: 0,
             second_child: 0,
             state: SnapState::Interior,
-        })),
-    }
+        },
+    )
 }
 
 /// The keys of some ids, each given with its parent.

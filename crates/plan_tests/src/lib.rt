@@ -21,6 +21,10 @@ mod names;
 #[cfg(test)]
 mod plans;
 #[cfg(test)]
+mod snapshot_costs;
+#[cfg(test)]
+mod subvolume_plans;
+#[cfg(test)]
 mod triggers;
 #[cfg(test)]
 mod views;
