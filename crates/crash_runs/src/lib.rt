@@ -18,6 +18,8 @@ mod histories;
 #[cfg(test)]
 mod longer_script;
 #[cfg(test)]
+mod mended_nodes;
+#[cfg(test)]
 mod mending;
 #[cfg(test)]
 mod name_crashes;

@@ -1,7 +1,9 @@
 //! What is done with devices, step by step, and what each step must find.
 
 use crate::trials::{Seen, Trial, is_run, seen_run};
-use crate::volumes::{FORMAT_ONE, FORMAT_TWO, fail, put_session, restart, session_on, wipe};
+use crate::volumes::{
+    FORMAT_ONE, FORMAT_THREE, FORMAT_TWO, fail, put_session, restart, session_on, wipe,
+};
 use dev_model::{MemDevices, Pick};
 use std::alloc::{AllocError, Global};
 
@@ -14,6 +16,8 @@ pub enum Start {
     One,
     /// A fresh volume on two devices, with two replicas of everything.
     Two,
+    /// One on three devices, with three.
+    Three,
 }
 
 /// What is done with devices.
@@ -43,6 +47,7 @@ fn blank_at(alloc: Global, start: Start) -> Result<MemDevices, AllocError> {
         Start::Blank => MemDevices::blank(alloc, &[0, 0]),
         Start::One => MemDevices::blank(alloc, &[1024]),
         Start::Two => MemDevices::blank(alloc, &[1024, 1024]),
+        Start::Three => MemDevices::blank(alloc, &[1024, 1024, 1024]),
     }
 }
 
@@ -52,6 +57,7 @@ fn is_begun(alloc: Global, devices: &mut MemDevices, start: Start) -> Result<boo
         Start::Blank => Ok(true),
         Start::One => is_run(alloc, devices, &FORMAT_ONE),
         Start::Two => is_run(alloc, devices, &FORMAT_TWO),
+        Start::Three => is_run(alloc, devices, &FORMAT_THREE),
     }
 }
 

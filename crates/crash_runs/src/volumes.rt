@@ -45,6 +45,25 @@ pub const FORMAT_TWO: Trial<'static> = Trial {
     ..FORMAT_ONE
 };
 
+/// Formats three devices in the same way, with three replicas of everything.
+pub const FORMAT_THREE: Trial<'static> = Trial {
+    arguments: &[
+        "format",
+        "--id",
+        ID_TEXT,
+        "--blocks",
+        "1024",
+        "--data-replicas",
+        "3",
+        "--meta-replicas",
+        "3",
+    ],
+    printed: Some(
+        b"formatted 00000000-0000-4000-8000-000000000001 devices 3 blocks 1024 journal 256\n",
+    ),
+    ..FORMAT_ONE
+};
+
 /// How many calls a run on a fresh volume of one device makes before its first line. 2 superblock copies, 2 sessions, 256 blocks of
 /// the journal and 16 of each of nine roots are read; the next session is written and flushed; and the only entry is read once
 /// more, as the journal is mended. On two devices with two replicas of everything it makes twice as many.

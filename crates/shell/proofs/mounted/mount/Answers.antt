@@ -1,4 +1,4 @@
-use Rattle.std.proofs.Common.{◌≡◌, ◌+◌, ℕ, List, Err, inr, refl, ap, ◌∙◌, sym, subst, arith}
+use Rattle.std.proofs.Common.{◌≡◌, ◌+◌, ℕ, List, Err, inr, refl, ap, ◌∙◌, sym, subst}
 use Rattle.dev_model.specs.Devices.{now}
 use Rattle.dev_model.specs.Disk.{Disk, as_read}
 use Rattle.dev_model.specs.FrameLaws.{go_on_reading, go_on_then, stay_now}
