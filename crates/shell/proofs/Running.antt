@@ -26,6 +26,7 @@ use Rattle.core_actors.specs.Actors.{one_more}
 use Rattle.core_volume.specs.Volumes.{Volume}
 use Rattle.forest_ops.specs.Acknowledged.{synced_count}
 use Rattle.volume.specs.States.{VolumeState, session_in}
+use Rattle.image_view.specs.Found.{Found}
 use Rattle.volume.specs.Answers.{HasCause, IsAnswered, acks_after}
 use Rattle.forest_ops.specs.Fits.{entry_by, entry_if_any, last_entry}
 use Rattle.shell.specs.Lines.{AreRunLines, IsRunLine}
@@ -315,9 +316,9 @@ adds_ack Spent moment acks = sym (append-nil acks)
 adds_ack NoMemory moment acks = sym (append-nil acks)
 
 -- a reply with a cause doesn't say that it was out of memory
-found_memory : (client : ℕ) (op : Op) (reply : Reply) (volume : Volume) (before after : FaultCounts) → HasCause client op reply volume before after → is_no_memory reply ≡ false
-found_memory client op NoMemory volume before after cause = absurd cause
-found_memory client op other volume before after cause = refl
+found_memory : (begun : Found) (client : ℕ) (op : Op) (reply : Reply) (volume : Volume) (before after : FaultCounts) → HasCause begun client op reply volume before after → is_no_memory reply ≡ false
+found_memory begun client op NoMemory volume before after cause = absurd cause
+found_memory begun client op other volume before after cause = refl
 
 -- the number of commits that a reply acknowledges is in it
 synced_reply : (reply : Reply) (count : ℕ) → synced_count reply ≡ Some count → reply ≡ Synced count
@@ -326,13 +327,13 @@ synced_reply other count is = absurd (none_some count is)
 
 module _ {D : Type 0} (forest : Forest) (state : D → DevicesState) (client : ℕ) (op : Op) (old new : VolumeState D) where
   -- an operation was answered
-  pub adds_answer : (reply : Reply) → IsAnswered state client op reply (session_in old) (session_in new) → HasCause client op reply new.core.memory.volume (state old.core.devices).faults (state new.core.devices).faults
+  pub adds_answer : (begun : Found) (reply : Reply) → IsAnswered state client op reply (session_in old) (session_in new) → HasCause begun client op reply new.core.memory.volume (state old.core.devices).faults (state new.core.devices).faults
       → ((count : ℕ) → reply ≡ Synced count → count ≡ commit_count forest old.trace) → GoOn (state old.core.devices) (state new.core.devices)
       → AddsEntries forest state old new (cons_option (entry_if_any client op reply) []) (cons_option (ack_by (state new.core.devices).moment reply) [])
-  adds_answer reply answers cause synced after =
+  adds_answer begun reply answers cause synced after =
       let entry : Entry = record { client = client; op = op; reply = reply } in
       record {
-        trace = answers.trace ∙ ap (λ e. old.trace ++ cons_option e []) (sym (has_entry client op reply (found_memory client op reply new.core.memory.volume (state old.core.devices).faults (state new.core.devices).faults cause)));
+        trace = answers.trace ∙ ap (λ e. old.trace ++ cons_option e []) (sym (has_entry client op reply (found_memory begun client op reply new.core.memory.volume (state old.core.devices).faults (state new.core.devices).faults cause)));
         acks = answers.acks ∙ adds_ack reply (state new.core.devices).moment old.acks;
         counted = λ held.
             subst (AreSyncsCounted forest) (sym answers.trace)

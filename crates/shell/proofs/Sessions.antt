@@ -31,8 +31,8 @@ use Rattle.vol_session.specs.Runs.{MayRun, RunSurvives}
 use Rattle.vol_core.specs.Room.{LeavesRoom}
 use Rattle.vol_session.specs.Marks.{forest_found}
 use Rattle.vol_session.specs.Survivors.{BeginsWell, Survive}
-use Rattle.volume.specs.States.{BeganWithRoom}
-use Rattle.shell.specs.Causes.{MayRunWithRoom}
+use Rattle.volume.specs.States.{BeganWithRoom, BeganWithoutRoom}
+use Rattle.shell.specs.Causes.{IsUnspent, MayRunWithRoom}
 use Rattle.shell.specs.Mounts.{ComesAfter, IsOpenedFrom, IsSure, OpeningKeeps}
 
 -- A run without lines has no acknowledgements.
@@ -121,7 +121,7 @@ module _ (devices_tell : Type 0) (opening : Found) (old mounted : DevicesState) 
 
 -- What no entry says of a session that began with room, none says of a run of an image that leaves some.
 pub all_unspent : (devices_tell : Type 0) (opening : Found) (old mounted : DevicesState) → (MayRunWithRoom devices_tell old mounted → BeganWithRoom devices_tell opening mounted) → (trace : History)
-    → All (λ (entry : Entry). entry.reply ≡ Spent → (class_of entry.op ≡ Syncs) × ¬ BeganWithRoom devices_tell opening mounted) trace → All (λ (entry : Entry). entry.reply ≡ Spent → (class_of entry.op ≡ Syncs) × ¬ MayRunWithRoom devices_tell old mounted) trace
+    → All (λ (entry : Entry). entry.reply ≡ Spent → (class_of entry.op ≡ Syncs) × BeganWithoutRoom devices_tell opening mounted) trace → All (IsUnspent devices_tell opening old mounted) trace
 all_unspent devices_tell opening old mounted began trace unspent =
-    All-weaker (λ (entry : Entry). entry.reply ≡ Spent → (class_of entry.op ≡ Syncs) × ¬ BeganWithRoom devices_tell opening mounted) (λ (entry : Entry). entry.reply ≡ Spent → (class_of entry.op ≡ Syncs) × ¬ MayRunWithRoom devices_tell old mounted)
-    (λ entry is spent. ((is spent).0, λ with_room. (is spent).1 (began with_room))) trace unspent
+    All-weaker (λ (entry : Entry). entry.reply ≡ Spent → (class_of entry.op ≡ Syncs) × BeganWithoutRoom devices_tell opening mounted) (IsUnspent devices_tell opening old mounted)
+    (λ entry is spent. record { syncs = (is spent).0; unkept = (is spent).1.unkept; without = λ with_room. (is spent).1.without (began with_room) }) trace unspent

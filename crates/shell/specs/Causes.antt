@@ -21,7 +21,7 @@ use Rattle.vol_types.specs.declared.failure.Halt.{Halt}
 use Rattle.plain_forest.specs.Forest.{Forest}
 use Rattle.image_view.specs.Found.{Found}
 use Rattle.vol_session.specs.Runs.{MayRun}
-use Rattle.vol_core.specs.Room.{LeavesRoom}
+use Rattle.vol_core.specs.Room.{LeavesRoom, MayKeepRoom}
 use Rattle.vol_session.specs.Numbers.{IsFarFromSpent}
 use Rattle.vol_session.specs.Sessions.{IsExact}
 use Rattle.shell.specs.declared.early_end.EarlyEnd.{EarlyEnd}
@@ -126,13 +126,23 @@ pub record MayRunWithRoom (devices_tell : Type 0) (old mounted : DevicesState) :
   pub sure : IsSure f old mounted
   pub room : LeavesRoom f
 
+-- An operation that syncs found no room left in the ring of the journal: it may not be kept of what was opened, and the image may not be run with room.
+pub record FoundNoRoom (devices_tell : Type 0) (opening : Found) (old mounted : DevicesState) (entry : Entry) : Type 0 where
+  pub syncs : class_of entry.op ≡ Syncs
+  pub unkept : ¬ MayKeepRoom opening
+  pub without : ¬ MayRunWithRoom devices_tell old mounted
+
+-- The entry says that a number is used up only where its operation syncs, and found no room.
+abbrev pub IsUnspent : Type 0 → Found → DevicesState → DevicesState → Entry → Type 0
+IsUnspent devices_tell opening old mounted entry = entry.reply ≡ Spent → FoundNoRoom devices_tell opening old mounted entry
+
 -- Why the lines were answered as they were, over a volume that was opened with this forest. The arguments ask for a run.
 --
 -- Failures: once a device has failed at a write or a flush the session has halted, by one device and at one moment of the run (`halts`);
 -- no later entry is a commit; of each device at most as many entries say that it failed as its calls, and its writes and
 -- flushes, failed (`faults`). Where the image may be run, and was read for certain, an operation that would change the forest fails only where this wouldn't refuse it (`exact`).
--- No entry says that a number is used up, where the volume that was opened is far from that, and the run had fewer than 2^31 moments since; but for that of an operation which syncs over an image that may
--- not be run, wasn't read for certain, or has no room left in the ring of its journal (`unspent`).
+-- No entry says that a number is used up, where the volume that was opened is far from that, and the run had fewer than 2^31 moments since; but for that of an operation which syncs over what was opened
+-- with no room left in the ring of its journal; and so over an image that may not be run, wasn't read for certain, or leaves none (`unspent`).
 pub record HasAnswered {D K : Type 0} (sink_tells devices_tell : Type 0) (run : Run D K) (opening : Found) (mounted : DevicesState) (forest : Forest) (answered : List Answered) (last : Reply) : Type 0 where
   pub arguments : IsRun run.arguments run.state.sizes
   pub source : run.faults.source_after ≡ run.faults.source
@@ -142,7 +152,7 @@ pub record HasAnswered {D K : Type 0} (sink_tells devices_tell : Type 0) (run : 
   pub no_commit : NoCommitAfterHalt forest run.trace
   pub faults : HaveCauses run.state.faults run.state_after.faults run.trace
   pub exact : devices_tell → (f : Found) → MayRun f (now run.state) → IsSure f run.state mounted → EachEntry (IsExact forest) run.trace
-  pub unspent : IsFarFromSpent opening mounted run.state_after → All (λ (entry : Entry). entry.reply ≡ Spent → (class_of entry.op ≡ Syncs) × ¬ MayRunWithRoom devices_tell run.state mounted) run.trace
+  pub unspent : IsFarFromSpent opening mounted run.state_after → All (IsUnspent devices_tell opening run.state mounted) run.trace
 
 -- The arguments ask for a format with this layout, and the source wasn't touched. A format fails where one of the devices does,
 -- and no other failed; or where it is out of memory.

@@ -5,25 +5,22 @@ use Rattle.std.proofs.lemmas.Bool.{and_from, cases_lt, eq-eqb, eqb-true, le-leb,
 use Rattle.std.proofs.lemmas.List.Elements.{All-cons, All-contains, All-nil}
 use Rattle.std.specs.List.{filter}
 use Rattle.std.specs.Ordering.{nat_cmp}
-use Rattle.std.specs.Prelude.{◌&&◌, ◌||◌, ◌==◌, nat_lt, All, Contains, option_map, slice_get, slice_index_or}
+use Rattle.std.specs.Prelude.{◌&&◌, ◌||◌, ◌==◌, nat_le, nat_lt, All, Contains, option_map, slice_get, slice_index_or}
 use Rattle.birth_index.specs.Births.{levels_of}
 use Rattle.birth_index.specs.NameLaws.{birth_itself}
 use Rattle.btree_map.specs.Sizes.{all_btrees}
 use Rattle.core_volume.specs.Commits.{AreIntended}
 use Rattle.core_volume.specs.Rulings.{IsFull}
 use Rattle.core_volume.specs.Sealing.{oldest_needed}
-use Rattle.core_volume.specs.Volumes.{IsVolume, Volume, birth_due, can_let_go, last_sealed, needs_entry, node_stage_by}
-use Rattle.dev_model.specs.Devices.{DevicesState}
+use Rattle.core_volume.specs.Volumes.{IsVolume, Volume, birth_due, can_let_go, is_idle, last_sealed, needs_entry, node_stage_by}
 use Rattle.journal_writer.specs.Queues.{blocks_with, first_of, growth, last_block, oldest}
 use Rattle.journal_writer.specs.declared.changes.Pending.{Pending}
 use Rattle.journal_writer.specs.Writers.{Writer, first_flag, flush_before, stage_by, step_of}
 use Rattle.journal_writer.specs.declared.stage.Stage.{Stage}
 use Rattle.journal_writer.specs.declared.stage.Stage.TheVariants.{CommitNodes, Freeze, Rest, Seal, Settle, WriteEntry, WriteSet}
 use Rattle.journal_writer.specs.declared.writer.Flight.{Flight}
-use Rattle.image_view.specs.Found.{Found}
-use Rattle.crash_safety.specs.Writings.{Writing}
 use Rattle.node_writeback.specs.Due.{is_due, is_pinned_up_to, leaf_due, root_in}
-use Rattle.node_writeback.specs.NodeWork.{first_left}
+use Rattle.node_writeback.specs.NodeWork.{first_left, frozen_nodes}
 use Rattle.node_writeback.specs.declared.node.FrozenNode.{FrozenNode}
 use Rattle.pin_list.specs.Pins.{least_pin, smaller}
 use Rattle.tree_nodes.specs.Levels.{Levels}
@@ -32,11 +29,9 @@ use Rattle.vol_types.specs.Maps.{value_at}
 use Rattle.vol_types.specs.declared.keys.Update.{Update}
 use Rattle.vol_types.specs.declared.positions.Btree.{Btree}
 use Rattle.vol_types.specs.declared.positions.Btree.TheVariants.{Extents, Inodes, Dirents, Subvols, Snapshots, Alloc, Backptrs, Deleted, Counters}
-use Rattle.vol_core.specs.Entries.{AreStarts, FliesAs, entries_with}
 use Rattle.vol_core.specs.Rested.{HasRoomAfterCheckpoint, IsRested, KeepsRing, last_start, newest_changed}
-use Rattle.vol_core.specs.Safety.{IsCoreSafe}
 use Rattle.vol_core.proofs.HeldLeaves.{root_alone_in}
-use Rattle.vol_core.proofs.NeededEntries.{starts_count}
+use Rattle.vol_core.proofs.RingKept.{all_finished}
 
 -- ---- tests
 
@@ -121,10 +116,10 @@ resting None false writer is = (refl, refl)
 resting (Some flight) needed writer is = absurd (stepping_rests_nothing writer is)
 
 -- And no node is frozen, and none is to be.
-nodes_resting : (left due : Option ℕ) (volume : Volume) → node_stage_by left due volume ≡ Rest → (due ≡ None) × (volume.work.finished ≡ [])
+nodes_resting : (left due : Option ℕ) (volume : Volume) → node_stage_by left due volume ≡ Rest → (left ≡ None) × (due ≡ None) × (volume.work.finished ≡ [])
 nodes_resting (Some left) due volume is = absurd (set_is_no_rest left is)
 nodes_resting None (Some due) volume is = absurd (freeze_is_no_rest due is)
-nodes_resting None None volume is = (refl, nil_of volume.work.finished (by (length volume.work.finished == 0) refl is))
+nodes_resting None None volume is = (refl, refl, nil_of volume.work.finished (by (length volume.work.finished == 0) refl is))
   where
     by : (b : Bool) → (length volume.work.finished == 0) ≡ b → cond b Rest (flush_before (first_flag 0 (take volume.writer.ring.mirrors volume.writer.unsettled)) CommitNodes) ≡ Rest → length volume.work.finished ≡ 0
     by true none is = eqb-true (length volume.work.finished) 0 none
@@ -136,12 +131,6 @@ map_none f (Some x) is = absurd cc
 
 -- ---- what a volume at rest is
 
--- Nothing is written where nothing is in flight.
-pub nothing_written : (f : Found) (flight : Option Flight) (writing : Option Writing) (asked written : ℕ) (volume : Volume) → flight ≡ None → FliesAs f flight writing asked written volume → writing ≡ None
-nothing_written f None None asked written volume none flies = refl
-nothing_written f None (Some w) asked written volume none flies = absurd flies
-nothing_written f (Some flight) writing asked written volume none flies = absurd cc
-
 -- An entry without updates takes one block.
 one_block : (mirrors : ℕ) → mirrors ≤ 3 → blocks_with mirrors [] ≤ 1
 one_block mirrors few = omega (arith, few)
@@ -151,15 +140,15 @@ few_grown : (close : Bool) (alone all before : ℕ) → nat_lt 64 all ≡ close 
 few_grown true alone all before is few = few
 few_grown false alone all before is few = let most = at_least 64 all is in omega (arith, most)
 
-module _ (begun : Found) (start state : DevicesState) (volume : Volume) (is : IsVolume volume) (safe : IsCoreSafe begun start state volume) (ring : KeepsRing volume) (rests : IsRested volume) where
+module _ (volume : Volume) (is : IsVolume volume) (ring : KeepsRing volume) (rests : IsRested volume) where
   journal_rests : (volume.writer.flight ≡ None) × (needs_entry volume ≡ false)
   journal_rests = resting volume.writer.flight (needs_entry volume) volume.writer rests.journal
 
-  nodes_rest : (birth_due volume ≡ None) × (volume.work.finished ≡ [])
+  nodes_rest : (first_left volume.work ≡ None) × (birth_due volume ≡ None) × (volume.work.finished ≡ [])
   nodes_rest = nodes_resting (first_left volume.work) (birth_due volume) volume rests.nodes
 
-  -- Nothing needs a further entry: none is closed, the open one has no updates, and the last durable one lets none go.
-  unneeded : (volume.queue.closed ≡ []) × (volume.queue.open_entry.changes.updates ≡ []) × (can_let_go volume.writer.durable volume.pins ≡ false)
+  -- Nothing needs a further entry: none is closed, the open one has no updates, no bucket waits for it, and the last durable one lets none go.
+  unneeded : (volume.queue.closed ≡ []) × (volume.queue.open_entry.changes.updates ≡ []) × (can_let_go volume.writer.durable volume.pins ≡ false) × (volume.emptied ≤ volume.queue.open_entry.after)
   unneeded =
       let last = none_of _ _ journal_rests.1 in
       let fourth = none_of _ _ last.0 in
@@ -168,6 +157,7 @@ module _ (begun : Found) (start state : DevicesState) (volume : Volume) (is : Is
         nil_of volume.queue.closed (eqb-true (length volume.queue.closed) 0 (is_so (length volume.queue.closed == 0) second.0)),
         nil_of volume.queue.open_entry.changes.updates (eqb-true (length volume.queue.open_entry.changes.updates) 0 (is_so (length volume.queue.open_entry.changes.updates == 0) second.1)),
         last.1,
+        at_least volume.queue.open_entry.after volume.emptied fourth.1,
       )
 
   -- The open entry is the next one to be written, and follows the last durable one.
@@ -184,7 +174,7 @@ module _ (begun : Found) (start state : DevicesState) (volume : Volume) (is : Is
   none_due btree =
       All-contains (λ (b : Btree). is_due volume.writer.durable.sequence volume.trees.nodes volume.pins volume.work.finished b ≡ false) all_btrees btree
       (none_passes (is_due volume.writer.durable.sequence volume.trees.nodes volume.pins volume.work.finished) all_btrees
-      (map_none (λ (btree : Btree). (root_in volume.trees.nodes btree).birth) (leaf_due volume.writer.durable.sequence volume.trees.nodes volume.pins volume.work.finished) nodes_rest.0))
+      (map_none (λ (btree : Btree). (root_in volume.trees.nodes btree).birth) (leaf_due volume.writer.durable.sequence volume.trees.nodes volume.pins volume.work.finished) nodes_rest.1))
       (each_is_one btree)
 
   -- What is pinned would be due.
@@ -192,12 +182,12 @@ module _ (begun : Found) (start state : DevicesState) (volume : Volume) (is : Is
   pinned_due birth number pinned =
       let root = ring.nodes birth number pinned in
       let most : number ≤ volume.writer.durable.sequence = subst (λ (n : ℕ). number ≤ n) newest_is (ring.pins birth number pinned) in
-      let alone : (length (levels_of volume.trees.nodes root.0) == 1) ≡ true = eq-eqb (length (levels_of volume.trees.nodes root.0)) 1 (ap (λ (levels : Levels). length levels) (root_alone_in volume.trees.nodes safe.one root.0)) in
+      let alone : (length (levels_of volume.trees.nodes root.0) == 1) ≡ true = eq-eqb (length (levels_of volume.trees.nodes root.0)) 1 (ap (λ (levels : Levels). length levels) (root_alone_in volume.trees.nodes ring.one root.0)) in
       let up_to : is_pinned_up_to volume.writer.durable.sequence (value_at nat_cmp (root_in volume.trees.nodes root.0).birth volume.pins) ≡ true =
       ap (is_pinned_up_to volume.writer.durable.sequence) (ap (λ (b : ℕ). value_at nat_cmp b volume.pins) root.1 ∙ pinned) ∙ le-leb number volume.writer.durable.sequence most in
       let due : is_due volume.writer.durable.sequence volume.trees.nodes volume.pins [] root.0 ≡ true = and_from _ _ alone up_to in
       let none : is_due volume.writer.durable.sequence volume.trees.nodes volume.pins [] root.0 ≡ false =
-      ap (λ (finished : List FrozenNode). is_due volume.writer.durable.sequence volume.trees.nodes volume.pins finished root.0) (sym nodes_rest.1) ∙ none_due root.0 in
+      ap (λ (finished : List FrozenNode). is_due volume.writer.durable.sequence volume.trees.nodes volume.pins finished root.0) (sym nodes_rest.2) ∙ none_due root.0 in
       true≢false (sym due ∙ none)
 
   -- So no node is dirty.
@@ -212,21 +202,23 @@ module _ (begun : Found) (start state : DevicesState) (volume : Volume) (is : Is
   needs_none : volume.writer.durable.sequence ≤ volume.writer.durable.oldest
   needs_none = at_least volume.writer.durable.oldest volume.writer.durable.sequence (alone_false (nat_lt volume.writer.durable.oldest volume.writer.durable.sequence) (ap (can_let_go volume.writer.durable) (sym clean) ∙ unneeded.2))
 
+  -- No node is dirty, no bucket waits, and no node is frozen.
+  idle : is_idle volume ≡ true
+  idle =
+      let none_waits : nat_le volume.emptied volume.writer.durable.sequence ≡ true = le-leb volume.emptied volume.writer.durable.sequence (let most = unneeded.3 in let same = follows in omega (arith, most, same)) in
+      let none_frozen : (length (frozen_nodes volume.work) == 0) ≡ true = ap (λ (nodes : List FrozenNode). length nodes == 0) (all_finished volume.work.finished volume.work.unfinished nodes_rest.0 ∙ nodes_rest.2) in
+      and_from _ _ (ap (λ (pins : List (ℕ × ℕ)). length pins == 0) clean) (and_from _ _ none_waits none_frozen)
+
   next_needs_none : oldest_needed volume ≡ (oldest volume.queue).after + 1
   next_needs_none = ap (λ (pins : List (ℕ × ℕ)). smaller ((oldest volume.queue).after + 1) (least_pin pins)) clean
 
   -- It alone is needed, and begins at the first number that is known.
   first_is : volume.writer.durable.first ≡ last_start volume.writer.starts
   first_is =
-      let none : safe.writing ≡ None = nothing_written safe.f volume.writer.flight safe.writing safe.asked safe.written volume journal_rests.0 safe.flying in
-      let starts : AreStarts volume.writer.starts safe.f.needed = subst (λ (writing : Option Writing). AreStarts volume.writer.starts (entries_with writing safe.f.needed)) none safe.starts in
-      let count = starts_count volume.writer.starts safe.f.needed starts in
-      let some = safe.known.some in
-      let all = safe.known.count in
-      let sequence = safe.known.sequence in
-      let oldest = safe.known.oldest in
+      let count : volume.writer.durable.oldest + length volume.writer.starts ≡ volume.writer.durable.sequence + 1 = ring.count ∙ ap (λ (flight : Option Flight). last_sealed flight volume.writer.durable.sequence + 1) journal_rests.0 in
+      let needs = ring.needs in
       let least = needs_none in
-      let zero_is : 0 ≡ length volume.writer.starts - 1 = omega (arith, count, some, all, sequence, oldest, least) in
+      let zero_is : 0 ≡ length volume.writer.starts - 1 = omega (arith, count, needs, least) in
       ring.first ∙ ap (λ (n : ℕ). slice_index_or volume.writer.starts n 0) zero_is
 
   -- The journal has room for each commit.
@@ -253,4 +245,4 @@ module _ (begun : Found) (start state : DevicesState) (volume : Volume) (is : Is
 
   -- At rest the ring is free.
   pub rested : HasRoomAfterCheckpoint volume
-  rested = record { clean = clean; durable = needs_none; next = next_needs_none; room = has_room }
+  rested = record { clean = clean; durable = needs_none; next = next_needs_none; idle = idle; room = has_room }

@@ -15,6 +15,8 @@ use Rattle.std.specs.Prelude.{◌==◌, All, Contains, IfSome, option_map, slice
 use Rattle.birth_index.specs.Births.{levels_of}
 use Rattle.birth_index.specs.Exchanges.{HaveOneNode, exchanged, one_node}
 use Rattle.birth_index.specs.NameLaws.{birth_itself, one_birth}
+use Rattle.bucket_pool.specs.NodeLaws.{taken_devices}
+use Rattle.bucket_pool.specs.Space.{node_places}
 use Rattle.btree_map.specs.Sizes.{all_btrees}
 use Rattle.btree_map.specs.Trees.{Trees, keys_in}
 use Rattle.dirty_nodes.specs.Dirty.{birth_at, birth_in, changed_node, changed_nodes, moved_pin, paths_of, with_pins}
@@ -23,11 +25,10 @@ use Rattle.core_volume.specs.Checkpoints.{AreInPlace, IsLeafFrozen, after_refuse
 use Rattle.core_volume.specs.Commits.{IsCommitted}
 use Rattle.core_volume.specs.Rulings.{entry_of}
 use Rattle.core_volume.specs.Sealing.{IsFlown, next_record, oldest_needed, roots_in, settled_volume, with_writer}
-use Rattle.core_volume.specs.Volumes.{IsVolume, Volume, birth_due, halted_at, in_flight, last_sealed, needs_entry, node_stage_by, undurable_in}
+use Rattle.core_volume.specs.Volumes.{IsFlightHeld, IsVolume, Volume, birth_due, halted_at, in_flight, last_sealed, needs_entry, node_stage_by, undurable_in}
 use Rattle.vol_types.specs.declared.failure.Halt.{Halt}
 use Rattle.core_actors.specs.declared.answer.Refusal.{Refusal}
 use Rattle.core_actors.specs.declared.answer.Refusal.TheVariants as refusals
-use Rattle.dev_model.specs.Devices.{DevicesState}
 use Rattle.journal_writer.specs.Changes.{changes_btree, changes_of}
 use Rattle.journal_writer.specs.Queues.{Queue, blocks_with, closes, first_of, first_with, follower_of, head_length, joined, last_of, left_by, oldest, record_of, waiting_entries, with_commit, without_oldest}
 use Rattle.journal_writer.specs.declared.changes.KeyChanges.{KeyChanges}
@@ -36,19 +37,19 @@ use Rattle.journal_writer.specs.Writers.{Writer, first_of as first_start, passed
 use Rattle.journal_writer.specs.declared.durable.Durable.{Durable}
 use Rattle.journal_writer.specs.declared.stage.Stage.TheVariants.{CommitNodes, WriteSet}
 use Rattle.journal_writer.specs.declared.writer.Flight.{Flight}
-use Rattle.image_view.specs.Found.{Found, IsMirrored}
 use Rattle.journal_ring.specs.EntryBlocks.{part_count, parts_of}
-use Rattle.journal_ring.specs.declared.found.FoundEntry.{FoundEntry}
-use Rattle.crash_safety.specs.Writings.{Writing}
 use Rattle.node_writeback.specs.Due.{root_in, root_of}
 use Rattle.node_writeback.specs.Durable.{undurable}
 use Rattle.node_writeback.specs.Placing.{AreFrozenLeaves, exchanges_of, moved_pins}
-use Rattle.node_writeback.specs.NodeWork.{birth_left, first_left, left_nodes}
+use Rattle.node_writeback.specs.Freezing.{fresh_leaf}
+use Rattle.node_writeback.specs.NodeWork.{NodeWork, birth_left, first_left, frozen_nodes, left_nodes, with_part_of}
 use Rattle.node_writeback.specs.declared.node.FrozenNode.{FrozenNode}
 use Rattle.node_writeback.specs.declared.node.UnfinishedNode.{UnfinishedNode}
 use Rattle.pin_list.specs.Pins.{smaller, with_pin}
 use Rattle.record_codec.specs.Entries.{root_length_of, update_length_of}
 use Rattle.tree_nodes.specs.Levels.{Levels, level_of}
+use Rattle.vol_types.specs.LayoutLaws.{layout_found}
+use Rattle.vol_types.specs.Limits.{bucket_blocks}
 use Rattle.vol_types.specs.MapLaws.{IsMap-put_at, IsMap-with_value, IsMap-without, value_at-put_at, value_at-with_value, value_at-without}
 use Rattle.vol_types.specs.Maps.{IsMap, value_at, without}
 use Rattle.vol_types.specs.Positions.{greatest_pos, pos_cmp}
@@ -58,12 +59,11 @@ use Rattle.vol_types.specs.declared.pointers.NodePtr.{NodePtr}
 use Rattle.vol_types.specs.declared.pointers.Place.{Place}
 use Rattle.vol_types.specs.declared.positions.Btree.{Btree}
 use Rattle.vol_types.specs.declared.positions.Pos.{Pos}
-use Rattle.vol_core.specs.Entries.{AreStarts, entries_with}
-use Rattle.vol_core.specs.Rested.{AreInARow, ArePinnedRoots, ArePinnedTo, DoCommitsRise, IsNextTo, KeepsRing, last_start, newest_changed}
-use Rattle.vol_core.specs.Safety.{IsCoreSafe}
-use Rattle.vol_core.specs.CoreLaws.{PlaceLaws}
+use Rattle.vol_core.specs.Rested.{AreInARow, ArePinnedRoots, ArePinnedTo, DoCommitsRise, IsNextTo, IsOnMirrors, KeepsRing, LieOnMirrors, last_start, newest_changed}
+use Rattle.vol_core.specs.CoreLaws.{ExchangeLaws, PlaceLaws}
 use Rattle.vol_core.proofs.NamedRoots.{nine_roots}
-use Rattle.vol_core.proofs.NeededEntries.{starts_count}
+use Rattle.vol_core.proofs.NodeStages.{freezing_is}
+use Rattle.vol_core.proofs.PlacedRoots.{IsLeftRoot, IsPlacedRoot, placed_or_left}
 use Rattle.vol_core.proofs.Stages.{sealing_is_free}
 
 -- ---- nodes that are pinned
@@ -228,7 +228,7 @@ rise_more (Some flight) durable next later more rise = (rise.0, let before = ris
 
 -- ---- a commit
 
-module _ (volume : Volume) (ring : KeepsRing volume) (one : HaveOneNode volume.trees.nodes) (updates : List Update) (counted : Bool) where
+module _ (volume : Volume) (ring : KeepsRing volume) (updates : List Update) (counted : Bool) where
   abbrev made_with : Trees → Volume
   made_with trees = record volume {
     trees = trees;
@@ -248,16 +248,19 @@ module _ (volume : Volume) (ring : KeepsRing volume) (one : HaveOneNode volume.t
       ⊎_elim
       (λ new. let low = new.1 in let here = newest_here close changes counted volume.queue new.0.1 in omega (arith, low, here))
       (λ old. let low = before birth number old in let more = newest_joined close changes counted volume.queue in omega (arith, low, more))
-      (pinned_by (λ (b : ℕ). IsRootBirth volume.trees.nodes b × (0 < length updates)) (entry_of volume updates) birth number (changed_nodes volume.trees.nodes updates) numbers (roots_changed volume.trees.nodes one updates) at)
+      (pinned_by (λ (b : ℕ). IsRootBirth volume.trees.nodes b × (0 < length updates)) (entry_of volume updates) birth number (changed_nodes volume.trees.nodes updates) numbers (roots_changed volume.trees.nodes ring.one updates) at)
 
   joined_roots : ArePinnedRoots volume.trees.nodes (with_pins (entry_of volume updates) (changed_nodes volume.trees.nodes updates) volume.pins)
   joined_roots birth number at = ⊎_elim
       (λ new. new.0.0)
       (λ old. ring.nodes birth number old)
-      (pinned_by (λ (b : ℕ). IsRootBirth volume.trees.nodes b × (0 < length updates)) (entry_of volume updates) birth number (changed_nodes volume.trees.nodes updates) volume.pins (roots_changed volume.trees.nodes one updates) at)
+      (pinned_by (λ (b : ℕ). IsRootBirth volume.trees.nodes b × (0 < length updates)) (entry_of volume updates) birth number (changed_nodes volume.trees.nodes updates) volume.pins (roots_changed volume.trees.nodes ring.one updates) at)
 
   made_ring : (trees : Trees) → trees.nodes ≡ volume.trees.nodes → KeepsRing (made_with trees)
   made_ring trees nodes = record {
+    one = subst HaveOneNode (sym nodes) ring.one;
+    mirrored = subst (LieOnMirrors volume.layout.metadata_replicas) (sym nodes) ring.mirrored;
+    fresh = ring.fresh;
     rises = rises_pinned (entry_of volume updates) (changed_nodes volume.trees.nodes updates) volume.pins ring.rises;
     later_rises = rises_pinned (entry_of volume updates) (changed_nodes volume.trees.nodes updates) volume.later ring.later_rises;
     nodes = subst (λ (levels : List Levels). ArePinnedRoots levels (with_pins (entry_of volume updates) (changed_nodes volume.trees.nodes updates) volume.pins)) (sym nodes) joined_roots;
@@ -269,6 +272,8 @@ module _ (volume : Volume) (ring : KeepsRing volume) (one : HaveOneNode volume.t
         rise_more volume.writer.flight volume.writer.durable.commits (oldest volume.queue).commits (oldest (joined (changes_of updates (keys_in volume.trees)) counted volume.queue)).commits
         (commits_joined (closes updates volume.queue) (changes_of updates (keys_in volume.trees)) counted volume.queue) ring.commits;
     first = ring.first;
+    needs = ring.needs;
+    count = ring.count;
     few = ring.few;
   }
 
@@ -289,12 +294,32 @@ passed_within : (oldest : ℕ) (writer : Writer) → passed oldest writer ≤ le
 passed_within oldest writer = omega arith
 
 -- The entry in flight becomes the last durable one.
-pub ring_settled : (volume : Volume) → KeepsRing volume → KeepsRing (settled_volume volume)
-ring_settled volume ring = by volume.writer.flight ring.commits
+pub ring_settled : (volume : Volume) → IsVolume volume → KeepsRing volume → KeepsRing (settled_volume volume)
+ring_settled volume is ring = by volume.writer.flight is.held_back.flight ring.count ring.commits
   where
-    by : (flight : Option Flight) → DoCommitsRise flight volume.writer.durable.commits (oldest volume.queue).commits → KeepsRing (record (with_writer (settled_by flight volume.writer) volume) { space = (settled_volume volume).space })
-    by None rise = record { rises = ring.rises; later_rises = ring.later_rises; nodes = ring.nodes; pins = ring.pins; later = ring.later; row = ring.row; behind = ring.behind; commits = ring.commits; first = ring.first; few = ring.few }
-    by (Some flight) rise = record {
+    by : (flight : Option Flight) → IfSome flight (IsFlightHeld volume.writer.durable volume.pins) → volume.writer.durable.oldest + length volume.writer.starts ≡ last_sealed flight volume.writer.durable.sequence + 1
+        → DoCommitsRise flight volume.writer.durable.commits (oldest volume.queue).commits → KeepsRing (record (with_writer (settled_by flight volume.writer) volume) { space = (settled_volume volume).space })
+    by None held count rise = record {
+      one = ring.one;
+      mirrored = ring.mirrored;
+      fresh = ring.fresh;
+      rises = ring.rises;
+      later_rises = ring.later_rises;
+      nodes = ring.nodes;
+      pins = ring.pins;
+      later = ring.later;
+      row = ring.row;
+      behind = ring.behind;
+      commits = ring.commits;
+      first = ring.first;
+      needs = ring.needs;
+      count = ring.count;
+      few = ring.few;
+    }
+    by (Some flight) held count rise = record {
+      one = ring.one;
+      mirrored = ring.mirrored;
+      fresh = ring.fresh;
       rises = ring.rises;
       later_rises = ring.later_rises;
       nodes = ring.nodes;
@@ -304,6 +329,13 @@ ring_settled volume ring = by volume.writer.flight ring.commits
       behind = ring.behind;
       commits = rise.1;
       first = refl;
+      needs = held.to;
+      count =
+          let left : length (drop (passed flight.oldest volume.writer) volume.writer.starts) ≡ length volume.writer.starts - passed flight.oldest volume.writer = length-drop (passed flight.oldest volume.writer) volume.writer.starts in
+          let from = held.from in
+          let to = held.to in
+          let needs = ring.needs in
+          omega (arith, count, left, from, to, needs);
       few = subst (λ (n : ℕ). volume.writer.ring.next ≤ n + 64) (sym (last_stays (passed flight.oldest volume.writer) volume.writer.starts (passed_within flight.oldest volume.writer))) ring.few;
     }
 
@@ -347,18 +379,19 @@ first_stays starts more some = get_or_append_left starts more 0 0 some
 pub last_pushed : (starts : List ℕ) (start : ℕ) → last_start (starts ++ start ∷ []) ≡ start
 last_pushed starts start = get_or_push starts start 0 (length (starts ++ start ∷ []) - 1) (let all : length (starts ++ start ∷ []) ≡ length starts + 1 = length-append starts (start ∷ []) in omega (arith, all))
 
--- There is a start, since an entry is needed.
-pub some_start : (writing : Option Writing) (starts : List ℕ) (needed : List FoundEntry) → AreStarts starts (entries_with writing needed) → 0 < length needed → 0 < length starts
-some_start None starts needed are some = let count = starts_count starts needed are in omega (arith, count, some)
-some_start (Some w) starts needed are some = let count = starts_count starts (needed ++ w.next ∷ []) are in omega (arith, count, some, length-append needed (w.next ∷ []))
+-- There is a start, since the last durable entry needs itself.
+pub some_start : (volume : Volume) → IsVolume volume → KeepsRing volume → 0 < length volume.writer.starts
+some_start volume is ring = by volume.writer.flight is.in_turn.flying ring.count
+  where
+    by : (flight : Option Flight) → IfSome flight (λ (some : Flight). some.entry.after ≡ volume.writer.durable.sequence) → volume.writer.durable.oldest + length volume.writer.starts ≡ last_sealed flight volume.writer.durable.sequence + 1
+        → 0 < length volume.writer.starts
+    by None flying count = let needs = ring.needs in omega (arith, count, needs)
+    by (Some flight) flying count = let needs = ring.needs in omega (arith, count, flying, needs)
 
-module _ (begun : Found) (start state : DevicesState) (volume : Volume) (is : IsVolume volume) (safe : IsCoreSafe begun start state volume) (ring : KeepsRing volume) where
+module _ (volume : Volume) (is : IsVolume volume) (ring : KeepsRing volume) where
   -- Each root lies on every metadata device.
   root_places : (btree : Btree) → length (root_in volume.trees.nodes btree).places ≡ volume.queue.mirrors
-  root_places btree =
-      let root : NodePtr = root_in volume.trees.nodes btree in
-      let mirrored : IsMirrored safe.f.layout root = (safe.kept.stand btree).mirrored in
-      sym (length-map root.places (λ (place : Place). place.dev)) ∙ ap (λ (devs : List ℕ). length devs) mirrored ∙ length-range_with_len 0 safe.f.layout.metadata_replicas ∙ ap (λ (layout : Layout). layout.metadata_replicas) safe.known.layout ∙ sym is.mirrors
+  root_places btree = ring.mirrored btree ∙ sym is.mirrors
 
   -- The next entry takes the blocks that the queue counts, where nine roots are named.
   pub parts_are : length (roots_in volume.trees.nodes) ≡ 9 → parts_of (next_record volume) ≡ blocks_with volume.queue.mirrors (oldest volume.queue).changes.updates
@@ -372,6 +405,9 @@ module _ (begun : Found) (start state : DevicesState) (volume : Volume) (is : Is
   module _ (new : Volume) (flown : IsFlown volume new) where
     flown_ring : KeepsRing (record volume { queue = without_oldest volume.queue; writer = with_entry new.writer.ring.blocks (oldest volume.queue) (oldest_needed volume) volume.writer })
     flown_ring = record {
+      one = ring.one;
+      mirrored = ring.mirrored;
+      fresh = ring.fresh;
       rises = ring.rises;
       later_rises = ring.later_rises;
       nodes = ring.nodes;
@@ -388,7 +424,13 @@ module _ (begun : Found) (start state : DevicesState) (volume : Volume) (is : Is
         subst (λ (flight : Option Flight). DoCommitsRise flight volume.writer.durable.commits (oldest volume.queue).commits) (sealing_is_free volume.writer volume.writer.flight (needs_entry volume) flown.stage.stage_is) ring.commits,
         commits_left volume.queue.closed volume.queue ring.row,
       );
-      first = ring.first ∙ sym (first_stays volume.writer.starts (volume.writer.ring.next ∷ []) (some_start safe.writing volume.writer.starts safe.f.needed safe.starts safe.known.some));
+      first = ring.first ∙ sym (first_stays volume.writer.starts (volume.writer.ring.next ∷ []) (some_start volume is ring));
+      needs = ring.needs;
+      count =
+          let more : length (volume.writer.starts ++ volume.writer.ring.next ∷ []) ≡ length volume.writer.starts + 1 = length-append volume.writer.starts (volume.writer.ring.next ∷ []) in
+          let all = ring.count in
+          let turn = is.in_turn.waiting_ones in
+          omega (arith, more, all, turn);
       few =
           let count : length new.writer.ring.blocks ≡ parts_of (next_record volume) = flown.sealed.blocks.count in
           let most : parts_of (next_record volume) ≤ 64 = flown.sealed.room.few in
@@ -454,9 +496,36 @@ first_undurable volume is ring btree first found = by volume.writer.flight is.in
             omega (arith, turn, same, most, newest)
         here false found = waits found
 
+-- All frozen nodes are written where none is left.
+pub all_finished : (finished : List FrozenNode) (unfinished : Option UnfinishedNode) → birth_left unfinished ≡ None → finished ++ left_nodes unfinished ≡ finished
+all_finished finished None none = append-nil finished
+all_finished finished (Some left) none = absurd (none-some left.node.birth (sym none))
+
+-- The places that a leaf gets are as many as the metadata devices.
+fresh_mirrored : (volume : Volume) → IsVolume volume → length (node_places volume.layout.metadata_replicas volume.space) ≡ volume.layout.metadata_replicas
+fresh_mirrored volume is =
+    let few = (layout_found volume.layout is.placed).metadata.1 in
+    let devices = is.devices in
+    let places : List Place = node_places volume.layout.metadata_replicas volume.space in
+    sym (length-map places (λ (place : Place). place.dev)) ∙ ap (λ (devs : List ℕ). length devs) (taken_devices volume.layout.metadata_replicas volume.space (omega (arith, few, devices))) ∙ length-range_with_len 0 volume.layout.metadata_replicas
+
+module _ (volume : Volume) (is : IsVolume volume) (ring : KeepsRing volume) (node : ℕ) (new : Volume) (frozen : IsLeafFrozen node volume new) where
+  abbrev here : FrozenNode
+  here = record { btree = frozen.btree; birth = node; fresh = fresh_leaf volume.session volume.work.born volume.layout.metadata_replicas volume.space; blocked = frozen.frozen.blocked }
+
+  -- All frozen leaves, this one too, have as many places.
+  frozen_mirrored : All (IsOnMirrors volume.layout.metadata_replicas) (frozen_nodes new.work)
+  frozen_mirrored =
+      let On : FrozenNode → Type 0 = IsOnMirrors volume.layout.metadata_replicas in
+      let finished : All On volume.work.finished = subst (λ (nodes : List FrozenNode). All On nodes) (all_finished volume.work.finished volume.work.unfinished (freezing_is volume node frozen.stage.stage_is).0) ring.fresh in
+      subst (λ (work : NodeWork). All On (frozen_nodes work)) (sym frozen.frozen.is) (All-append On volume.work.finished (here ∷ []) finished (All-cons On here [] (fresh_mirrored volume is) (All-nil On)))
+
 -- A leaf is frozen, and the first entry is noted that it lacks.
 pub ring_frozen : (volume : Volume) → IsVolume volume → KeepsRing volume → (node : ℕ) (new : Volume) → IsLeafFrozen node volume new → KeepsRing new
 ring_frozen volume is ring node new frozen = subst KeepsRing (sym frozen.rest) (record {
+  one = ring.one;
+  mirrored = ring.mirrored;
+  fresh = frozen_mirrored volume is ring node new frozen;
   rises = ring.rises;
   later_rises = IsMap-put_at nat_cmp_total node (first_with frozen.btree (undurable_in volume)) volume.later ring.later_rises;
   nodes = ring.nodes;
@@ -466,6 +535,8 @@ ring_frozen volume is ring node new frozen = subst KeepsRing (sym frozen.rest) (
   behind = ring.behind;
   commits = ring.commits;
   first = ring.first;
+  needs = ring.needs;
+  count = ring.count;
   few = ring.few;
 })
   where
@@ -482,10 +553,6 @@ no_set_places node is = cc
 pub none_left : (left due : Option ℕ) (volume : Volume) → node_stage_by left due volume ≡ CommitNodes → left ≡ None
 none_left None due volume is = refl
 none_left (Some node) due volume is = absurd (no_set_places node is)
-
-pub all_finished : (finished : List FrozenNode) (unfinished : Option UnfinishedNode) → birth_left unfinished ≡ None → finished ++ left_nodes unfinished ≡ finished
-all_finished finished None none = append-nil finished
-all_finished finished (Some left) none = absurd (none-some left.node.birth (sym none))
 
 rises_moved : (later : List (ℕ × ℕ)) (frozen : List FrozenNode) (pins : List (ℕ × ℕ)) → IsMap nat_cmp pins → IsMap nat_cmp (moved_pins frozen later pins)
 rises_moved later [] pins rises = rises
@@ -571,9 +638,30 @@ module _ (places : PlaceLaws) (volume : Volume) (is : IsVolume volume) (ring : K
       (λ (other : IsUnmoved volume.pins volume.work.finished birth number). ring.pins birth number other.pinned)
       (placed_pinned birth number at)
 
+  -- What comes in the place of a root has as many places, and is the root then.
+  abbrev IsRootThen : FrozenNode → Type 0
+  IsRootThen node = (levels_of placed_nodes node.btree ≡ one_node node.fresh) × IsOnMirrors volume.layout.metadata_replicas node
+
+  roots_then : All IsRootThen volume.work.finished
+  roots_then =
+      let fresh : All (IsOnMirrors volume.layout.metadata_replicas) volume.work.finished =
+      subst (λ (nodes : List FrozenNode). All (IsOnMirrors volume.layout.metadata_replicas) nodes) (all_finished volume.work.finished volume.work.unfinished (none_left (first_left volume.work) (birth_due volume) volume placed.stage.stage_is)) ring.fresh in
+      λ k d within. (places.leaves volume.trees.nodes volume.pins volume.work.finished frozen_leaves k d within, fresh k d within)
+
+  placed_mirrored : LieOnMirrors volume.layout.metadata_replicas placed_nodes
+  placed_mirrored btree = ⊎_elim
+      (λ (it : IsPlacedRoot volume.later IsRootThen volume.work.finished (root_in volume.trees.nodes) (λ b. None) btree).
+      ap (λ (root : NodePtr). length root.places) (ap (root_in placed_nodes) (sym it.of) ∙ ap root_of it.known.0) ∙ it.known.1)
+      (λ (it : IsLeftRoot volume.later IsRootThen volume.work.finished (root_in volume.trees.nodes) (λ b. None) btree).
+      ap (λ (levels : Levels). length (root_of levels).places) (places.others volume.trees.nodes volume.work.finished btree it.others) ∙ ring.mirrored btree)
+      (placed_or_left volume.later IsRootThen volume.work.finished (root_in volume.trees.nodes) (λ b. None) btree roots_then)
+
   -- The frozen leaves are put in place.
-  pub ring_placed : KeepsRing new
-  ring_placed = subst KeepsRing (sym placed.rest) (record {
+  pub ring_placed : ExchangeLaws → KeepsRing new
+  ring_placed exchanges = subst KeepsRing (sym placed.rest) (record {
+    one = exchanges.stay volume.trees.nodes (exchanges_of volume.work.finished) ring.one (places.of_roots volume.work.finished);
+    mirrored = placed_mirrored;
+    fresh = All-nil (IsOnMirrors volume.layout.metadata_replicas);
     rises = rises_moved volume.later volume.work.finished volume.pins ring.rises;
     later_rises = none_rise;
     nodes = placed_roots;
@@ -583,6 +671,8 @@ module _ (places : PlaceLaws) (volume : Volume) (is : IsVolume volume) (ring : K
     behind = ring.behind;
     commits = ring.commits;
     first = ring.first;
+    needs = ring.needs;
+    count = ring.count;
     few = ring.few;
   })
 
@@ -590,6 +680,9 @@ module _ (places : PlaceLaws) (volume : Volume) (is : IsVolume volume) (ring : K
 
 pub ring_given_up : (volume : Volume) → KeepsRing volume → KeepsRing (given_up volume)
 ring_given_up volume ring = record {
+  one = ring.one;
+  mirrored = ring.mirrored;
+  fresh = All-nil (IsOnMirrors volume.layout.metadata_replicas);
   rises = ring.rises;
   later_rises = none_rise;
   nodes = ring.nodes;
@@ -599,6 +692,8 @@ ring_given_up volume ring = record {
   behind = ring.behind;
   commits = ring.commits;
   first = ring.first;
+  needs = ring.needs;
+  count = ring.count;
   few = ring.few;
 }
 
@@ -615,6 +710,9 @@ ring_refused (refusals.NoSpace none) volume ring = ring_given_up volume ring
 -- The ring is kept where of the writer only what is written and what isn't settled has changed.
 ring_with : (volume : Volume) (writer : Writer) → writer.ring.next ≡ volume.writer.ring.next → writer.starts ≡ volume.writer.starts → writer.durable ≡ volume.writer.durable → writer.flight ≡ volume.writer.flight → KeepsRing volume → KeepsRing (with_writer writer volume)
 ring_with volume writer next starts durable flight ring = record {
+  one = ring.one;
+  mirrored = ring.mirrored;
+  fresh = ring.fresh;
   rises = ring.rises;
   later_rises = ring.later_rises;
   nodes = ring.nodes;
@@ -626,6 +724,10 @@ ring_with volume writer next starts durable flight ring = record {
       subst (λ (o : Option Flight). DoCommitsRise o writer.durable.commits (oldest volume.queue).commits) (sym flight)
       (subst (λ (d : Durable). DoCommitsRise volume.writer.flight d.commits (oldest volume.queue).commits) (sym durable) ring.commits);
   first = ap (λ (d : Durable). d.first) durable ∙ ring.first ∙ ap first_start (sym starts);
+  needs = subst (λ (d : Durable). d.oldest ≤ d.sequence) (sym durable) ring.needs;
+  count =
+      ap (λ (d : Durable). d.oldest + length writer.starts) durable ∙ ap (λ (s : List ℕ). volume.writer.durable.oldest + length s) starts ∙ ring.count
+      ∙ ap (λ (o : Option Flight). last_sealed o volume.writer.durable.sequence + 1) (sym flight) ∙ ap (λ (d : Durable). last_sealed writer.flight d.sequence + 1) (sym durable);
   few = subst (λ (n : ℕ). n ≤ last_start writer.starts + 64) (sym next) (subst (λ (s : List ℕ). volume.writer.ring.next ≤ last_start s + 64) (sym starts) ring.few);
 }
 
@@ -639,7 +741,48 @@ pub ring_flushed : (volume : Volume) (dev : ℕ) → KeepsRing volume → KeepsR
 ring_flushed volume dev ring = ring_with volume (with_flushed dev volume.writer) refl refl refl refl ring
 
 pub ring_halted : (volume : Volume) (halt : Halt) → KeepsRing volume → KeepsRing (halted_at halt volume)
-ring_halted volume halt ring = record { rises = ring.rises; later_rises = ring.later_rises; nodes = ring.nodes; pins = ring.pins; later = ring.later; row = ring.row; behind = ring.behind; commits = ring.commits; first = ring.first; few = ring.few }
+ring_halted volume halt ring = record {
+  one = ring.one;
+  mirrored = ring.mirrored;
+  fresh = ring.fresh;
+  rises = ring.rises;
+  later_rises = ring.later_rises;
+  nodes = ring.nodes;
+  pins = ring.pins;
+  later = ring.later;
+  row = ring.row;
+  behind = ring.behind;
+  commits = ring.commits;
+  first = ring.first;
+  needs = ring.needs;
+  count = ring.count;
+  few = ring.few;
+}
+
+-- The frozen nodes are the same where one more block of one is written.
+pub frozen_same : (unfinished : Option UnfinishedNode) (work : NodeWork) → work.unfinished ≡ unfinished → frozen_nodes (with_part_of unfinished work) ≡ frozen_nodes work
+frozen_same None work is = refl
+frozen_same (Some some) work is = by (some.written + 1 == bucket_blocks) ∙ ap (λ (u : Option UnfinishedNode). work.finished ++ left_nodes u) (sym is)
+  where
+    by : (done : Bool) → frozen_nodes (cond done (record { finished = work.finished ++ some.node ∷ []; unfinished = None; born = work.born }) (record { finished = work.finished; unfinished = Some (record { node = some.node; written = some.written + 1 }); born = work.born })) ≡ work.finished ++ some.node ∷ []
+    by true = append-nil (work.finished ++ some.node ∷ [])
+    by false = refl
 
 pub ring_block : (volume : Volume) → KeepsRing volume → KeepsRing (with_block volume)
-ring_block volume ring = record { rises = ring.rises; later_rises = ring.later_rises; nodes = ring.nodes; pins = ring.pins; later = ring.later; row = ring.row; behind = ring.behind; commits = ring.commits; first = ring.first; few = ring.few }
+ring_block volume ring = record {
+  one = ring.one;
+  mirrored = ring.mirrored;
+  fresh = subst (λ (nodes : List FrozenNode). All (IsOnMirrors volume.layout.metadata_replicas) nodes) (sym (frozen_same volume.work.unfinished volume.work refl)) ring.fresh;
+  rises = ring.rises;
+  later_rises = ring.later_rises;
+  nodes = ring.nodes;
+  pins = ring.pins;
+  later = ring.later;
+  row = ring.row;
+  behind = ring.behind;
+  commits = ring.commits;
+  first = ring.first;
+  needs = ring.needs;
+  count = ring.count;
+  few = ring.few;
+}

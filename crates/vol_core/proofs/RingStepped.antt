@@ -13,12 +13,10 @@ use Rattle.core_actors.specs.declared.event.Event.{Event}
 use Rattle.core_actors.specs.declared.event.Event.TheVariants as events
 use Rattle.dev_model.specs.Devices.{DevicesState}
 use Rattle.journal_writer.specs.Writers.{unsettled_by, with_flushed, with_next_part}
-use Rattle.image_view.specs.Found.{Found}
 use Rattle.vol_core.specs.Cores.{CoreState, StepGives}
 use Rattle.vol_core.specs.Rested.{KeepsRing}
 use Rattle.vol_core.specs.Room.{KeepsRoom}
-use Rattle.vol_core.specs.Safety.{IsCoreSafe}
-use Rattle.vol_core.specs.CoreLaws.{PlaceLaws}
+use Rattle.vol_core.specs.CoreLaws.{ExchangeLaws, PlaceLaws}
 use Rattle.vol_core.proofs.RingKept.{ring_block, ring_committed, ring_flown, ring_flushed, ring_frozen, ring_halted, ring_part, ring_placed, ring_refused, ring_settled, ring_unsettled}
 use Rattle.vol_core.proofs.RoomKept.{room_block, room_committed, room_flown, room_flushed, room_frozen, room_halted, room_part, room_placed, room_refused, room_settled, room_unsettled}
 use Rattle.vol_core.proofs.Stages.{sealing_is_free}
@@ -155,29 +153,28 @@ module _ (P : Volume → Type 0) (memory : State) (actor : ℕ) (kept : IsKeptBy
   event_kept events.CommitNodes answer gives = place_kept answer gives
 
 -- What is kept of the ring.
-ring_by_events : PlaceLaws → (begun : Found) (start state : DevicesState) (memory : State) → IsState memory → IsCoreSafe begun start state memory.volume → KeepsRing memory.volume → (actor : ℕ) → IsKeptByEvents KeepsRing memory actor
-ring_by_events places begun start state memory is safe ring actor = record {
+ring_by_events : PlaceLaws → ExchangeLaws → (memory : State) → IsState memory → KeepsRing memory.volume → (actor : ℕ) → IsKeptByEvents KeepsRing memory actor
+ring_by_events places exchanges memory is ring actor = record {
   now = ring;
-  committed = λ counted new made. ring_committed memory.volume ring safe.one (intended_by memory actor) counted new.volume made.made;
-  flown = ring_flown begun start state memory.volume is.volume safe ring;
-  settled = ring_settled memory.volume ring;
+  committed = λ counted new made. ring_committed memory.volume ring (intended_by memory actor) counted new.volume made.made;
+  flown = ring_flown memory.volume is.volume ring;
+  settled = ring_settled memory.volume is.volume ring;
   part = ring_part memory.volume ring;
   unsettled = ring_unsettled memory.volume ring;
   flushed = λ dev. ring_flushed memory.volume dev ring;
   frozen = ring_frozen memory.volume is.volume ring;
   refused = λ refusal. ring_refused refusal memory.volume ring;
   block = ring_block memory.volume ring;
-  placed = ring_placed places memory.volume is.volume ring;
+  placed = λ new placed. ring_placed places memory.volume is.volume ring new placed exchanges;
   halted = ring_halted;
 }
 
 -- What is kept of the room in it.
-room_by_events : PlaceLaws → (begun : Found) (start state : DevicesState) (memory : State) → IsState memory → KeepParts memory.volume → IsCoreSafe begun start state memory.volume → KeepsRing memory.volume → KeepsRoom memory.volume → (actor : ℕ)
-    → IsKeptByEvents KeepsRoom memory actor
-room_by_events places begun start state memory is parts safe ring room actor = record {
+room_by_events : PlaceLaws → (memory : State) → IsState memory → KeepParts memory.volume → KeepsRing memory.volume → KeepsRoom memory.volume → (actor : ℕ) → IsKeptByEvents KeepsRoom memory actor
+room_by_events places memory is parts ring room actor = record {
   now = room;
   committed = λ counted new made. room_committed memory.volume is.volume ring room (intended_by memory actor) counted made.allowed.joins.room new.volume made.made;
-  flown = λ new flown. room_flown begun start state memory.volume is.volume parts safe ring room (sealing_is_free memory.volume.writer memory.volume.writer.flight (needs_entry memory.volume) flown.stage.stage_is) new flown;
+  flown = λ new flown. room_flown memory.volume is.volume parts ring room (sealing_is_free memory.volume.writer memory.volume.writer.flight (needs_entry memory.volume) flown.stage.stage_is) new flown;
   settled = room_settled memory.volume is.volume ring room;
   part = room_part memory.volume room;
   unsettled = room_unsettled memory.volume room;
@@ -185,7 +182,7 @@ room_by_events places begun start state memory is parts safe ring room actor = r
   frozen = room_frozen memory.volume is.volume parts ring room;
   refused = λ refusal. room_refused refusal memory.volume room;
   block = room_block memory.volume room;
-  placed = room_placed places begun start state memory.volume is.volume safe ring room;
+  placed = room_placed places memory.volume is.volume ring room;
   halted = room_halted;
 }
 
@@ -209,11 +206,10 @@ module _ {D : Type 0} (tells : Type 0) (state : D → DevicesState) (old new : C
   kept_stepped P actor kept events.CommitNodes answer gives = event_kept P old.memory actor kept new.memory events.CommitNodes answer gives.0
 
   -- The ring is kept.
-  pub ring_stepped : PlaceLaws → (begun : Found) (start : DevicesState) → IsState old.memory → IsCoreSafe begun start (state old.devices) old.memory.volume → KeepsRing old.memory.volume
-      → (actor : ℕ) (event : Event) (answer : Answer) → StepGives tells state old actor event answer new → KeepsRing new.memory.volume
-  ring_stepped places begun start is safe ring actor event answer gives = kept_stepped KeepsRing actor (ring_by_events places begun start (state old.devices) old.memory is safe ring actor) event answer gives
+  pub ring_stepped : PlaceLaws → ExchangeLaws → IsState old.memory → KeepsRing old.memory.volume → (actor : ℕ) (event : Event) (answer : Answer) → StepGives tells state old actor event answer new → KeepsRing new.memory.volume
+  ring_stepped places exchanges is ring actor event answer gives = kept_stepped KeepsRing actor (ring_by_events places exchanges old.memory is ring actor) event answer gives
 
   -- And so is the room in it.
-  pub room_stepped : PlaceLaws → (begun : Found) (start : DevicesState) → IsState old.memory → KeepParts old.memory.volume → IsCoreSafe begun start (state old.devices) old.memory.volume → KeepsRing old.memory.volume → KeepsRoom old.memory.volume
+  pub room_stepped : PlaceLaws → IsState old.memory → KeepParts old.memory.volume → KeepsRing old.memory.volume → KeepsRoom old.memory.volume
       → (actor : ℕ) (event : Event) (answer : Answer) → StepGives tells state old actor event answer new → KeepsRoom new.memory.volume
-  room_stepped places begun start is parts safe ring room actor event answer gives = kept_stepped KeepsRoom actor (room_by_events places begun start (state old.devices) old.memory is parts safe ring room actor) event answer gives
+  room_stepped places is parts ring room actor event answer gives = kept_stepped KeepsRoom actor (room_by_events places old.memory is parts ring room actor) event answer gives

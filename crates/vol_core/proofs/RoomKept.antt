@@ -22,7 +22,6 @@ use Rattle.core_volume.specs.Volumes.{IsFlightHeld, IsVolume, KeepParts, Volume,
 use Rattle.vol_types.specs.declared.failure.Halt.{Halt}
 use Rattle.core_actors.specs.declared.answer.Refusal.{Refusal}
 use Rattle.core_actors.specs.declared.answer.Refusal.TheVariants as refusals
-use Rattle.dev_model.specs.Devices.{DevicesState}
 use Rattle.journal_writer.specs.Changes.{changes_of}
 use Rattle.journal_writer.specs.FirstLaws.{first-behind, waiting-behind}
 use Rattle.journal_writer.specs.Queues.{AreBehind, AreChanges, AreFollowed, Queue, blocks_with, closes, first_of, first_with, follower_of, growth, joined, last_block, last_of, left_by, oldest, with_commit, without_oldest}
@@ -33,9 +32,7 @@ use Rattle.journal_writer.specs.Writers.{HasRoom, Writer, first_of as first_star
 use Rattle.journal_writer.specs.declared.durable.Durable.{Durable}
 use Rattle.journal_writer.specs.declared.stage.Stage.TheVariants.{CommitNodes, Freeze, Rest, Seal, WriteSet}
 use Rattle.journal_writer.specs.declared.writer.Flight.{Flight}
-use Rattle.image_view.specs.Found.{Found}
 use Rattle.journal_ring.specs.EntryBlocks.{parts_of}
-use Rattle.crash_safety.specs.Writings.{Writing}
 use Rattle.node_writeback.specs.Due.{is_due, is_frozen, is_pinned_up_to, leaf_due, root_in, root_of}
 use Rattle.node_writeback.specs.Durable.{undurable}
 use Rattle.node_writeback.specs.Freezing.{fresh_leaf}
@@ -53,15 +50,12 @@ use Rattle.vol_types.specs.Maps.{IsMap, put_at, value_at}
 use Rattle.vol_types.specs.declared.keys.Update.{Update}
 use Rattle.vol_types.specs.declared.positions.Btree.{Btree}
 use Rattle.vol_core.specs.CoreLaws.{PlaceLaws}
-use Rattle.vol_core.specs.Entries.{AreStarts, entries_with}
 use Rattle.vol_core.specs.Rested.{AreInARow, KeepsRing, last_start}
 use Rattle.vol_core.specs.Room.{AreRising, HasRoomForNext, IsNotedAfter, KeepsRoom, LetsGo, is_waiting}
-use Rattle.vol_core.specs.Safety.{IsCoreSafe}
 use Rattle.vol_core.proofs.HeldLeaves.{root_alone_in}
-use Rattle.vol_core.proofs.NeededEntries.{starts_count}
 use Rattle.vol_core.proofs.NodeStages.{first_passes, freezing_is}
-use Rattle.vol_core.proofs.Rested.{each_is_one, map_none, none_passes, nothing_written}
-use Rattle.vol_core.proofs.RingKept.{IsPlaced, IsUnmoved, all_finished, first_stays, frozen_leaves, none_left, oldest_joined, oldest_left, oldest_to, parts_are, placed_pinned, some_start}
+use Rattle.vol_core.proofs.Rested.{each_is_one, map_none, none_passes}
+use Rattle.vol_core.proofs.RingKept.{IsPlaced, IsUnmoved, all_finished, first_stays, frozen_leaves, frozen_same, none_left, oldest_joined, oldest_left, oldest_to, parts_are, placed_pinned, some_start}
 
 -- ---- starts that rise
 
@@ -367,7 +361,7 @@ none_frozen (node ∷ frozen) birth apart = by (node.birth == birth) refl (none_
 one_block : (mirrors : ℕ) → mirrors ≤ 3 → blocks_with mirrors [] ≤ 1
 one_block mirrors few = omega (arith, few)
 
-module _ (begun : Found) (start state : DevicesState) (volume : Volume) (is : IsVolume volume) (parts : KeepParts volume) (safe : IsCoreSafe begun start state volume) (ring : KeepsRing volume) (room : KeepsRoom volume) (free : volume.writer.flight ≡ None) where
+module _ (volume : Volume) (is : IsVolume volume) (parts : KeepParts volume) (ring : KeepsRing volume) (room : KeepsRoom volume) (free : volume.writer.flight ≡ None) where
   abbrev mirrors : ℕ
   mirrors = volume.queue.mirrors
 
@@ -461,10 +455,10 @@ module _ (begun : Found) (start state : DevicesState) (volume : Volume) (is : Is
     starts = volume.writer.starts ++ volume.writer.ring.next ∷ []
 
     taken : length blocks ≡ count
-    taken = flown.sealed.blocks.count ∙ parts_are begun start state volume is safe ring flown.sealed.valid.in_range.all_roots
+    taken = flown.sealed.blocks.count ∙ parts_are volume is ring flown.sealed.valid.in_range.all_roots
 
     some_start_is : 0 < length volume.writer.starts
-    some_start_is = some_start safe.writing volume.writer.starts safe.f.needed safe.starts safe.known.some
+    some_start_is = some_start volume is ring
 
     more_starts : length starts ≡ length volume.writer.starts + 1
     more_starts = length-append volume.writer.starts (volume.writer.ring.next ∷ [])
@@ -492,14 +486,9 @@ module _ (begun : Found) (start state : DevicesState) (volume : Volume) (is : Is
     -- Where one entry alone is needed, the ring is nearly free.
     alone : volume.writer.durable.sequence ≤ volume.writer.durable.oldest → volume.writer.ring.next ≤ volume.writer.durable.first + 64
     alone most =
-        let none : safe.writing ≡ None = nothing_written safe.f volume.writer.flight safe.writing safe.asked safe.written volume free safe.flying in
-        let begin : AreStarts volume.writer.starts safe.f.needed = subst (λ (writing : Option Writing). AreStarts volume.writer.starts (entries_with writing safe.f.needed)) none safe.starts in
-        let all = starts_count volume.writer.starts safe.f.needed begin in
-        let some = safe.known.some in
-        let known = safe.known.count in
-        let sequence = safe.known.sequence in
-        let oldest = safe.known.oldest in
-        let zero_is : length volume.writer.starts - 1 ≡ 0 = omega (arith, all, some, known, sequence, oldest, most) in
+        let count : volume.writer.durable.oldest + length volume.writer.starts ≡ volume.writer.durable.sequence + 1 = ring.count ∙ ap (λ (flight : Option Flight). last_sealed flight volume.writer.durable.sequence + 1) free in
+        let needs = ring.needs in
+        let zero_is : length volume.writer.starts - 1 ≡ 0 = omega (arith, count, needs, most) in
         let last : last_start volume.writer.starts ≡ first_start volume.writer.starts = ap (λ (n : ℕ). slice_index_or volume.writer.starts n 0) zero_is in
         let few = ring.few in
         let first = ring.first in
@@ -573,9 +562,8 @@ next_few volume parts = by volume.queue.closed parts.queue.closed_changes
     by (entry ∷ later) all = (All-head (λ (e : Pending). AreChanges volume.queue.mirrors e.changes) entry later all).few
 
 -- The next entry finds room, whenever none is in flight.
-pub room_for_next : (begun : Found) (start state : DevicesState) (volume : Volume) → IsVolume volume → KeepParts volume → IsTrees volume.trees → IsCoreSafe begun start state volume → KeepsRing volume → KeepsRoom volume → HasRoomForNext volume
-room_for_next begun start state volume is parts trees safe ring room free =
-    next_fits begun start state volume is parts safe ring room free (parts_are begun start state volume is safe ring (length-map volume.trees.nodes root_of ∙ trees.node_count)) (next_few volume parts)
+pub room_for_next : (volume : Volume) → IsVolume volume → KeepParts volume → IsTrees volume.trees → KeepsRing volume → KeepsRoom volume → HasRoomForNext volume
+room_for_next volume is parts trees ring room free = next_fits volume is parts ring room free (parts_are volume is ring (length-map volume.trees.nodes root_of ∙ trees.node_count)) (next_few volume parts)
 
 -- ---- an entry that becomes durable
 
@@ -749,15 +737,6 @@ room_flushed volume dev room = room_with volume (with_flushed dev volume.writer)
 pub room_halted : (volume : Volume) (halt : Halt) → KeepsRoom volume → KeepsRoom (halted_at halt volume)
 room_halted volume halt room = record { emptied = room.emptied; first = room.first; next = room.next; rising = room.rising; waiting = room.waiting; flying = room.flying; landed = room.landed; noted = room.noted; let_go = room.let_go }
 
--- The frozen nodes are the same where one more block of one is written.
-frozen_same : (unfinished : Option UnfinishedNode) (work : NodeWork) → work.unfinished ≡ unfinished → frozen_nodes (with_part_of unfinished work) ≡ frozen_nodes work
-frozen_same None work is = refl
-frozen_same (Some some) work is = by (some.written + 1 == bucket_blocks) ∙ ap (λ (u : Option UnfinishedNode). work.finished ++ left_nodes u) (sym is)
-  where
-    by : (done : Bool) → frozen_nodes (cond done (record { finished = work.finished ++ some.node ∷ []; unfinished = None; born = work.born }) (record { finished = work.finished; unfinished = Some (record { node = some.node; written = some.written + 1 }); born = work.born })) ≡ work.finished ++ some.node ∷ []
-    by true = append-nil (work.finished ++ some.node ∷ [])
-    by false = refl
-
 -- A block of a frozen leaf is written.
 pub room_block : (volume : Volume) → KeepsRoom volume → KeepsRoom (with_block volume)
 room_block volume room =
@@ -776,7 +755,7 @@ room_block volume room =
 
 -- ---- leaves that are put in place, and work that is given up
 
-module _ (places : PlaceLaws) (begun : Found) (start state : DevicesState) (volume : Volume) (is : IsVolume volume) (safe : IsCoreSafe begun start state volume) (ring : KeepsRing volume) (room : KeepsRoom volume) (new : Volume) (placed : AreInPlace volume new) where
+module _ (places : PlaceLaws) (volume : Volume) (is : IsVolume volume) (ring : KeepsRing volume) (room : KeepsRoom volume) (new : Volume) (placed : AreInPlace volume new) where
   abbrev newest : Durable
   newest = (settled volume.writer).durable
 
@@ -808,7 +787,7 @@ module _ (places : PlaceLaws) (begun : Found) (start state : DevicesState) (volu
       (λ (newer : volume.writer.durable.sequence < number). newer)
       (λ (most : number ≤ volume.writer.durable.sequence).
       let root = ring.nodes birth number unmoved.pinned in
-      let one : (length (levels_of volume.trees.nodes root.0) == 1) ≡ true = eq-eqb (length (levels_of volume.trees.nodes root.0)) 1 (ap (λ (levels : Levels). length levels) (root_alone_in volume.trees.nodes safe.one root.0)) in
+      let one : (length (levels_of volume.trees.nodes root.0) == 1) ≡ true = eq-eqb (length (levels_of volume.trees.nodes root.0)) 1 (ap (λ (levels : Levels). length levels) (root_alone_in volume.trees.nodes ring.one root.0)) in
       let up_to : is_pinned_up_to volume.writer.durable.sequence (value_at nat_cmp (root_in volume.trees.nodes root.0).birth volume.pins) ≡ true =
       ap (is_pinned_up_to volume.writer.durable.sequence) (ap (λ (b : ℕ). value_at nat_cmp b volume.pins) root.1 ∙ unmoved.pinned) ∙ le-leb number volume.writer.durable.sequence most in
       let unfrozen : not (is_frozen volume.work.finished (root_in volume.trees.nodes root.0).birth) ≡ true = ap not (ap (is_frozen volume.work.finished) root.1 ∙ none_frozen volume.work.finished birth unmoved.apart) in

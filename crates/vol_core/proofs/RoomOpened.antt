@@ -22,12 +22,9 @@ use Rattle.replay.specs.declared.volume.Loaded.{Loaded}
 use Rattle.vol_types.specs.declared.layout.Layout.{Layout}
 use Rattle.vol_types.specs.declared.pointers.Place.{Place}
 use Rattle.vol_core.specs.CoreLaws.{EntryPlaceLaws}
-use Rattle.vol_core.specs.Room.{AreRising, IsNotedAfter, KeepsRoom, LeavesRoom}
+use Rattle.vol_core.specs.Rested.{MayKeepRing}
+use Rattle.vol_core.specs.Room.{AreRising, HasBlocks, IsNotedAfter, KeepsRoom, LeavesRoom, MayKeepRoom}
 use Rattle.vol_core.specs.Safety.{MayBegin}
-
--- The entry has a block at least.
-abbrev HasBlocks : FoundEntry → Type 0
-HasBlocks entry = entry.number < entry.end
 
 -- The last of entries that follow on one another ends no earlier than the first.
 ends_later : (one : FoundEntry) (later : List FoundEntry) (entry : FoundEntry) → FollowOn (one ∷ later) → All HasBlocks (one ∷ later) → slice_get (one ∷ later) (length later) ≡ Some entry → one.end ≤ entry.end
@@ -96,16 +93,22 @@ have_blocks laws f state finds k default within =
     let here : HasBlocks at = omega (arith, end) in
     subst HasBlocks (get_or_default f.needed k f.last default within) here
 
--- A volume that was loaded, as it is kept in memory, has what is kept of the room, where what was found left some.
-pub opened_room : EntryPlaceLaws → (loaded : Loaded) (memory : State) (begun : Found) (start : DevicesState) → found_in loaded ≡ begun → IsOpened loaded.layout loaded.session loaded.map loaded.needed (node_places (found_in loaded)) memory
-    → MayBegin begun (now start) → LeavesRoom begun → KeepsRoom memory.volume
-opened_room laws loaded memory begun start opens is begins leaves =
+-- A volume that was loaded, as it is kept in memory, has what is kept of the room, where that may be.
+pub opened_room : (loaded : Loaded) (memory : State) (begun : Found) → found_in loaded ≡ begun → IsOpened loaded.layout loaded.session loaded.map loaded.needed (node_places (found_in loaded)) memory → MayKeepRoom begun → KeepsRoom memory.volume
+opened_room loaded memory begun opens is may =
     let entry : FoundEntry = is.volume.newest in
     let f : Found = found_in loaded in
-    let finds : found (as_read (now start)) ≡ Ok f = begins.ready.mended.found_on.on.finds ∙ ap (λ (g : Found). Ok g) (sym opens) in
-    let follow : FollowOn loaded.needed = subst (λ (g : Found). FollowOn g.needed) (sym opens) begins.ready.mended.found_on.order.entries in
+    let kept : MayKeepRoom f = subst MayKeepRoom (sym opens) may in
     let same : last_of loaded.needed ≡ entry = get_or_from_slice_get loaded.needed (length loaded.needed - 1) entry no_entry is.volume.last in
-    let left : LeavesRoom f = subst LeavesRoom (sym opens) leaves in
     let room : entry.end + kept_blocks ≤ (slice_index_or loaded.needed 0 entry).number + loaded.layout.journal =
-    subst (λ (e : FoundEntry). e.end + kept_blocks ≤ (slice_index_or loaded.needed 0 e).number + loaded.layout.journal) same left in
-    subst KeepsRoom (sym is.volume.is) (opened_room_of loaded.layout loaded.session loaded.map loaded.needed (node_places f) entry is.volume.last follow (have_blocks laws f start finds) room)
+    subst (λ (e : FoundEntry). e.end + kept_blocks ≤ (slice_index_or loaded.needed 0 e).number + loaded.layout.journal) same kept.leaves in
+    subst KeepsRoom (sym is.volume.is) (opened_room_of loaded.layout loaded.session loaded.map loaded.needed (node_places f) entry is.volume.last kept.follow kept.blocks room)
+
+-- Where the session may begin with what was found, and that left room, the room may be kept of it.
+pub may_keep_room : EntryPlaceLaws → (begun : Found) (start : DevicesState) → MayBegin begun (now start) → MayKeepRing begun → LeavesRoom begun → MayKeepRoom begun
+may_keep_room laws begun start begins ring leaves = record {
+  ring = ring;
+  follow = begins.ready.mended.found_on.order.entries;
+  blocks = have_blocks laws begun start begins.ready.mended.found_on.on.finds;
+  leaves = leaves;
+}

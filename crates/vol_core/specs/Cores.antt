@@ -11,7 +11,7 @@ use Rattle.geometry.specs.Layouts.{is_layout_of}
 use Rattle.image_view.specs.Found.{Found}
 use Rattle.vol_core.specs.KeptFiles.{KeepsFilesIf}
 use Rattle.vol_core.specs.Rested.{KeepsRingIf}
-use Rattle.vol_core.specs.Room.{KeepsRoomIf}
+use Rattle.vol_core.specs.Room.{KeepsRoomIf, MayKeepIf}
 use Rattle.vol_core.specs.Safety.{KeepsSafe}
 
 -- what is in memory, and the devices
@@ -23,12 +23,14 @@ pub record CoreState (D : Type 0) : Type 0 where
 abbrev pub LiesOn : List ℕ → State → Type 0
 LiesOn sizes memory = is_layout_of sizes memory.volume.layout ≡ true
 
--- What is kept of an open volume: it lies on its devices, is safe on them, and its ring, the room in it and the blocks of files are kept.
+-- What is kept of an open volume: it lies on its devices, is safe on them, and its ring, the room in it and the blocks of files are kept. The ring and the room hang on
+-- what is in memory alone.
 pub record IsCore (tells : Type 0) (begun : Found) (start state : DevicesState) (memory : State) : Type 0 where
   pub lies : LiesOn state.sizes memory
   pub safe : KeepsSafe tells begun start state memory.volume
-  pub ring : KeepsRingIf tells begun start memory.volume
-  pub room : KeepsRoomIf tells begun start memory.volume
+  pub may : MayKeepIf tells begun start
+  pub ring : KeepsRingIf begun memory.volume
+  pub room : KeepsRoomIf begun memory.volume
   pub files : KeepsFilesIf tells begun start state memory.volume
 
 -- An actor's event is answered and changes what is in memory as its row says. A part of an entry and a block of a node are written, and a device is

@@ -8,17 +8,30 @@ use Rattle.dev_model.specs.Devices.{DevicesState, now}
 use Rattle.journal_writer.specs.Queues.{last_block, oldest}
 use Rattle.journal_writer.specs.Writers.{HasRoom, settled}
 use Rattle.journal_writer.specs.declared.durable.Durable.{Durable}
-use Rattle.image_view.specs.Found.{Found}
+use Rattle.image_view.specs.Found.{FollowOn, Found}
 use Rattle.journal_ring.specs.EntryBlocks.{parts_of}
+use Rattle.journal_ring.specs.declared.found.FoundEntry.{FoundEntry}
 use Rattle.node_writeback.specs.NodeWork.{frozen_nodes}
 use Rattle.node_writeback.specs.declared.node.FrozenNode.{FrozenNode}
 use Rattle.vol_types.specs.Maps.{value_at}
+use Rattle.vol_core.specs.Rested.{MayKeepRing}
 use Rattle.vol_core.specs.Safety.{MayBegin}
 
 -- From the first of the needed entries to the end of the newest one, what was found leaves as many blocks of the journal free as a commit leaves for the entries of
 -- a checkpoint.
 abbrev pub LeavesRoom : Found → Type 0
 LeavesRoom f = f.last.end + kept_blocks ≤ (slice_index_or f.needed 0 f.last).number + f.layout.journal
+
+-- The entry has a block at least.
+abbrev pub HasBlocks : FoundEntry → Type 0
+HasBlocks entry = entry.number < entry.end
+
+-- The room in the ring may be kept of what was found: the ring may be, the needed entries follow on one another, each of which has blocks, and they leave room.
+pub record MayKeepRoom (f : Found) : Type 0 where
+  pub ring : MayKeepRing f
+  pub follow : FollowOn f.needed
+  pub blocks : All HasBlocks f.needed
+  pub leaves : LeavesRoom f
 
 -- Where no entry is in flight, the ring has room for the next one.
 abbrev pub HasRoomForNext : Volume → Type 0
@@ -59,6 +72,11 @@ pub record KeepsRoom (volume : Volume) : Type 0 where
   pub noted : All (IsNotedAfter volume.writer.durable.sequence volume.pins volume.later) (frozen_nodes volume.work)
   pub let_go : volume.queue.closed ≡ [] → length volume.queue.open_entry.changes.updates ≡ 0 → volume.queue.open_entry.after < volume.emptied → LetsGo (settled volume.writer).durable volume.pins
 
--- Where the devices tell what they hold, the session may begin so, and what was found left room, this is kept.
-abbrev pub KeepsRoomIf : Type 0 → Found → DevicesState → Volume → Type 0
-KeepsRoomIf tells begun start volume = tells → MayBegin begun (now start) → LeavesRoom begun → KeepsRoom volume
+-- Where the room may be kept of what was found, it is.
+abbrev pub KeepsRoomIf : Found → Volume → Type 0
+KeepsRoomIf begun volume = MayKeepRoom begun → KeepsRoom volume
+
+-- Where the devices tell what they hold, and the session may begin so, the ring may be kept of what was found, and where that left room, the room in it.
+pub record MayKeepIf (tells : Type 0) (begun : Found) (start : DevicesState) : Type 0 where
+  pub ring : tells → MayBegin begun (now start) → MayKeepRing begun
+  pub room : tells → MayBegin begun (now start) → LeavesRoom begun → MayKeepRoom begun

@@ -10,8 +10,8 @@ ghost use Rattle.dev_model.specs.Devices.{now};
 ghost use Rattle.dev_model.specs.Frames.{GoOn, after_writes};
 ghost use Rattle.vol_core.specs.Cores.{StepGives};
 ghost use Rattle.vol_core.specs.Left.{KeepsLeft, failed_by};
-ghost use Rattle.vol_core.specs.Rested.{HasRoomAfterCheckpoint, IsRested};
-ghost use Rattle.vol_core.specs.Room.{HasRoomForNext, LeavesRoom};
+ghost use Rattle.vol_core.specs.Rested.{HasRoomAfterCheckpoint, IsRested, MayKeepRing};
+ghost use Rattle.vol_core.specs.Room.{HasRoomForNext, MayKeepIf, MayKeepRoom};
 ghost use Rattle.vol_core.specs.Safety.{KeepsDurable, KeepsSafe, MayBegin, Survives};
 ghost use Rattle.vol_types.specs.Layouts.{is_layout};
 
@@ -77,15 +77,16 @@ impl<D: Devices, O: Opening> Core<D, O> {
         }
     }
 
-    /// What is in memory. Where the devices tell and the session may begin with what was found, a volume at rest has room: where neither the journal nor the
-    /// nodes have a next step, as once a checkpoint is done, no node is dirty, neither the last durable entry nor the next one needs an older
-    /// one, and no commit that may be intended meets a full ring. Where what was found left room in the ring, the next entry finds room at any time.
+    /// What is in memory. Where the ring may be kept of what was found (`MayKeepRing`), as of all that this program leaves, a volume at rest has room: where neither the
+    /// journal nor the nodes have a next step, as once a checkpoint is done, no node is dirty, neither the last durable entry nor the next one needs an older
+    /// one, and no commit that may be intended meets a full ring. Where what was found left room in the ring too (`MayKeepRoom`), the next entry finds room at any time.
+    /// Both are so whether the devices tell what they hold or not; where they do, and the session may begin with what was found, they may be kept (`may`).
     pub fn memory(&self) -> &Memory
         ensures memory { result.now ≡ self.now.memory }
-        ensures rested { D.tells → MayBegin O.found (now O.start) → IsRested self.now.memory.volume
+        ensures may { MayKeepIf D.tells O.found O.start }
+        ensures rested { MayKeepRing O.found → IsRested self.now.memory.volume
             → HasRoomAfterCheckpoint self.now.memory.volume }
-        ensures room { D.tells → MayBegin O.found (now O.start) → LeavesRoom O.found
-            → HasRoomForNext self.now.memory.volume }
+        ensures room { MayKeepRoom O.found → HasRoomForNext self.now.memory.volume }
     {
         self.memory.see_kept();
         &self.memory

@@ -16,8 +16,8 @@ ghost use Rattle.replay.specs.Volumes.{found_in};
 ghost use Rattle.forest_ops.specs.Acknowledged.{AreAcks, synced_count};
 ghost use Rattle.vol_core.specs.Cores.{StepGives};
 ghost use Rattle.vol_core.specs.Left.{failed_by};
-ghost use Rattle.vol_core.specs.Rested.{HasRoomAfterCheckpoint, IsRested};
-ghost use Rattle.vol_core.specs.Room.{HasRoomForNext, LeavesRoom};
+ghost use Rattle.vol_core.specs.Rested.{HasRoomAfterCheckpoint, IsRested, MayKeepRing};
+ghost use Rattle.vol_core.specs.Room.{HasRoomForNext, LeavesRoom, MayKeepRoom};
 ghost use Rattle.vol_session.specs.Marks.{commits_found, forest_found};
 ghost use Rattle.vol_session.specs.Sessions.{IsCounted, IsExact, IsNoCommit, IsPlanNow, IsSyncedNow, IsToldNow, IsUncommitted};
 ghost use Rattle.vol_session.specs.Numbers.{HasNumbersLeft, IsFarFromSpent};
@@ -91,22 +91,23 @@ impl<D: Devices, O: Opening> Session<D, O> {
         })
     }
 
-    /// What is in memory. A volume at rest has room, as `Core::memory` says.
+    /// What is in memory. A volume at rest has room where the ring may be kept of what was found, as `Core::memory` says.
     pub fn memory(&self) -> &Memory
         ensures memory { result.now ≡ self.now.core.memory }
         ensures counted { IsCounted O.found O.start (D.state self.now.core.devices)
             self.now.core.memory.volume self.now.trace self.now.acks self.now.commits }
-        ensures rested { D.tells → BeginsWell O.found O.start
-            → IsRested self.now.core.memory.volume
+        ensures rested { MayKeepRing O.found → IsRested self.now.core.memory.volume
             → HasRoomAfterCheckpoint self.now.core.memory.volume }
     {
         self.core.memory()
     }
 
-    /// Where the devices tell what they hold, and the session began well with a volume that left room in the ring of the journal, the next entry finds room.
+    /// Where the room in the ring of the journal may be kept of what was found, the next entry finds room. The ring may be kept where the devices tell what they hold, and the session
+    /// began well (`ring`), and the room in it where what was found left some (`may`).
     pub fn see_room(&self)
-        ensures { D.tells → BeginsWell O.found O.start → LeavesRoom O.found
-            → HasRoomForNext self.now.core.memory.volume }
+        ensures ring { D.tells → BeginsWell O.found O.start → MayKeepRing O.found }
+        ensures may { D.tells → BeginsWell O.found O.start → LeavesRoom O.found → MayKeepRoom O.found }
+        ensures room { MayKeepRoom O.found → HasRoomForNext self.now.core.memory.volume }
     {
         let _ = self.core.memory();
     }

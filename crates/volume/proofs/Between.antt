@@ -8,7 +8,7 @@ use Rattle.forest_ops.specs.History.{History}
 use Rattle.forest_ops.specs.declared.operation.Op.{Op}
 use Rattle.forest_ops.specs.declared.operation.Reply.{Reply}
 use Rattle.image_view.specs.Found.{Found}
-use Rattle.vol_core.specs.Room.{HasRoomForNext, LeavesRoom}
+use Rattle.vol_core.specs.Room.{HasRoomForNext, LeavesRoom, MayKeepRoom}
 use Rattle.vol_session.specs.Sessions.{SessionState}
 use Rattle.vol_session.specs.Survivors.{BeginsWell}
 use Rattle.volume.specs.Serving.{IsServed, IsUnserved}
@@ -33,21 +33,25 @@ module _ {D : Type 0} (tells : Type 0) (begun : Found) (start : DevicesState) (s
   abbrev pub IsLeft : SessionState D → Type 0
   IsLeft session = IsFarFromSpent begun start (state session.core.devices) → length session.trace < 2 ^ 31 → HasNumbersLeft session.core.memory.volume
 
-  -- The next entry finds room, where the session began well with a volume that left some.
+  -- The next entry finds room, where that may be kept of what was found.
   abbrev pub FindsRoom : SessionState D → Type 0
-  FindsRoom session = tells → BeginsWell begun start → LeavesRoom begun → HasRoomForNext session.core.memory.volume
+  FindsRoom session = MayKeepRoom begun → HasRoomForNext session.core.memory.volume
 
-  module _ (old new : SessionState D) (left : IsLeft new) (room : FindsRoom new) (counting : AreCounting old.core.devices) (keeps : Keeps old) where
+  -- It may where the session began well with a volume that left some.
+  abbrev pub MayFindRoom : Type 0
+  MayFindRoom = tells → BeginsWell begun start → LeavesRoom begun → MayKeepRoom begun
+
+  module _ (old new : SessionState D) (left : IsLeft new) (may : MayFindRoom) (room : FindsRoom new) (counting : AreCounting old.core.devices) (keeps : Keeps old) where
     -- by an operation that was answered
-    keeps_served : (client : ℕ) (op : Op) (reply : Reply) → IsServed state client op reply old new → Keeps new
+    keeps_served : (client : ℕ) (op : Op) (reply : Reply) → IsServed begun state client op reply old new → Keeps new
     keeps_served client op reply served = record {
       rest = served.rest;
       failures = subst (λ (trace : History). KeepsFailures begun start (state new.core.devices) new.core.memory.volume.halted trace) (sym served.answered.trace)
           (failures_served begun start (state old.core.devices) (state new.core.devices) old.trace served.goes_on counting.goes_on counting.counts counting.few old.core.memory.volume.halted new.core.memory.volume.halted client op reply
-          (faults_caused client op reply new.core.memory.volume (state old.core.devices).faults (state new.core.devices).faults served.cause) served.halts served.writes keeps.failures);
+          (faults_caused begun client op reply new.core.memory.volume (state old.core.devices).faults (state new.core.devices).faults served.cause) served.halts served.writes keeps.failures);
       unspent = subst (λ (trace : History). AreUnspent tells begun start (state new.core.devices) trace) (sym served.answered.trace)
           (unspent_served tells begun start (state old.core.devices) (state new.core.devices) old.trace client op reply new.core.memory.volume (state old.core.devices).faults (state new.core.devices).faults served.goes_on served.cause
-          (subst (λ (trace : History). IsFarFromSpent begun start (state new.core.devices) → length trace < 2 ^ 31 → HasNumbersLeft new.core.memory.volume) served.answered.trace left) room keeps.unspent);
+          (subst (λ (trace : History). IsFarFromSpent begun start (state new.core.devices) → length trace < 2 ^ 31 → HasNumbersLeft new.core.memory.volume) served.answered.trace left) may room keeps.unspent);
     }
 
     -- and where there was no memory for it
@@ -60,12 +64,12 @@ module _ {D : Type 0} (tells : Type 0) (begun : Found) (start : DevicesState) (s
           (unspent_later tells begun start (state old.core.devices) (state new.core.devices) old.trace unserved.goes_on keeps.unspent);
     }
 
-    keeps_result : (result : Result Reply AllocError) (client : ℕ) (op : Op) → IfOk result (λ reply. IsServed state client op reply old new) → OnErr result (IsUnserved state old new) → Keeps new
+    keeps_result : (result : Result Reply AllocError) (client : ℕ) (op : Op) → IfOk result (λ reply. IsServed begun state client op reply old new) → OnErr result (IsUnserved state old new) → Keeps new
     keeps_result (Ok reply) client op served unserved = keeps_served client op reply served
     keeps_result (Err error) client op served unserved = keeps_unserved unserved
 
   -- Room was made first.
-  pub keeps_call : (result : Result Reply AllocError) (client : ℕ) (op : Op) (old mid new : SessionState D) → mid ≡ record old { spare = mid.spare } → IsLeft new → FindsRoom new → AreCounting old.core.devices → Keeps old
-      → IfOk result (λ reply. IsServed state client op reply mid new) → OnErr result (IsUnserved state mid new) → Keeps new
-  keeps_call result client op old mid new same left room counting keeps served unserved =
-      keeps_result mid new left room (subst (λ (s : SessionState D). AreCounting s.core.devices) (sym same) counting) (subst Keeps (sym same) keeps) result client op served unserved
+  pub keeps_call : (result : Result Reply AllocError) (client : ℕ) (op : Op) (old mid new : SessionState D) → mid ≡ record old { spare = mid.spare } → IsLeft new → MayFindRoom → FindsRoom new → AreCounting old.core.devices → Keeps old
+      → IfOk result (λ reply. IsServed begun state client op reply mid new) → OnErr result (IsUnserved state mid new) → Keeps new
+  keeps_call result client op old mid new same left may room counting keeps served unserved =
+      keeps_result mid new left may room (subst (λ (s : SessionState D). AreCounting s.core.devices) (sym same) counting) (subst Keeps (sym same) keeps) result client op served unserved

@@ -16,7 +16,7 @@ use Rattle.forest_ops.specs.declared.operation.Reply.TheVariants.{Spent}
 use Rattle.image_view.specs.Found.{Found}
 use Rattle.forest_ops.specs.Failures.{has_halted}
 use Rattle.vol_session.specs.Marks.{forest_found}
-use Rattle.volume.specs.States.{BeganWithRoom, IsAtRest, IsBetween, KeepsFailures}
+use Rattle.volume.specs.States.{BeganWithoutRoom, IsAtRest, IsBetween, KeepsFailures}
 
 -- No entry tells a failure.
 none_failed : (begun : Found) (start : DevicesState) → KeepsFailures begun start start None []
@@ -51,5 +51,5 @@ module _ (memory : State) (writes : memory.volume.halted ≡ None) (idle : memor
       (subst (λ (t : History). IsBetween tells begun start start memory t) (sym nothing) (record {
         rest = rests;
         failures = subst (λ (halted : Option Halt). KeepsFailures begun start start halted []) (sym writes) (none_failed begun start);
-        unspent = λ far few. All-nil (λ (entry : Entry). entry.reply ≡ Spent → (class_of entry.op ≡ Syncs) × ¬ BeganWithRoom tells begun start);
+        unspent = λ far few. All-nil (λ (entry : Entry). entry.reply ≡ Spent → (class_of entry.op ≡ Syncs) × BeganWithoutRoom tells begun start);
       }))

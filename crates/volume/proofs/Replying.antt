@@ -19,6 +19,7 @@ use Rattle.fs_plan.specs.declared.planned.Plan.{Plan}
 use Rattle.plain_forest.specs.Forest.{Forest}
 use Rattle.forest_ops.specs.Acknowledged.{synced_count}
 use Rattle.vol_session.specs.Sessions.{IsAnswerNow, IsFailureNow, IsPlanNow, IsSyncedNow}
+use Rattle.image_view.specs.Found.{Found}
 use Rattle.volume.specs.Answers.{HasCause, nothing_short}
 use Rattle.volume.specs.Serving.{HaltsAs, IsChange, IsDoneNow, IsIntended, IsWriting, halt_told, is_synced}
 use Rattle.volume.proofs.Failing.{commit_changes, commit_is_done, faults_after, not_done}
@@ -166,23 +167,23 @@ unsynced_none other unsynced = refl
 -- The forest's reply shows no failure, and no halt.
 pub record IsQuiet (reply : Reply) : Type 0 where
   pub unsynced : synced_count reply ≡ None
-  pub cause : (client : ℕ) (op : Op) (volume : Volume) (before after : FaultCounts) → after ≡ before → HasCause client op reply volume before after
+  pub cause : (begun : Found) (client : ℕ) (op : Op) (volume : Volume) (before after : FaultCounts) → after ≡ before → HasCause begun client op reply volume before after
   pub halts : (before after : ℕ) (sizes : List ℕ) (old new : Option Halt) → new ≡ old → HaltsAs reply before after sizes old new
 
 pub forests_is_quiet : (reply : Reply) → is_failure reply ≡ false → is_synced reply ≡ false → IsQuiet reply
 forests_is_quiet reply unfailed unsynced = record {
   unsynced = unsynced_none reply unsynced;
-  cause = λ client op volume before after same. quiet_cause client op reply volume before after unfailed same;
+  cause = λ begun client op volume before after same. quiet_cause begun client op reply volume before after unfailed same;
   halts = λ before after sizes old new same. quiet_halts reply before after sizes old new unfailed same;
 }
   where
-    quiet_cause : (client : ℕ) (op : Op) (reply : Reply) (volume : Volume) (before after : FaultCounts) → is_failure reply ≡ false → after ≡ before → HasCause client op reply volume before after
-    quiet_cause client op (replies.DeviceFault dev) volume before after none same = absurd (true≢false none)
-    quiet_cause client op (replies.Halted dev tick) volume before after none same = absurd (true≢false none)
-    quiet_cause client op (replies.NoSpace short) volume before after none same = absurd (true≢false none)
-    quiet_cause client op replies.Spent volume before after none same = absurd (true≢false none)
-    quiet_cause client op replies.NoMemory volume before after none same = absurd (true≢false none)
-    quiet_cause client op other volume before after none same = same
+    quiet_cause : (begun : Found) (client : ℕ) (op : Op) (reply : Reply) (volume : Volume) (before after : FaultCounts) → is_failure reply ≡ false → after ≡ before → HasCause begun client op reply volume before after
+    quiet_cause begun client op (replies.DeviceFault dev) volume before after none same = absurd (true≢false none)
+    quiet_cause begun client op (replies.Halted dev tick) volume before after none same = absurd (true≢false none)
+    quiet_cause begun client op (replies.NoSpace short) volume before after none same = absurd (true≢false none)
+    quiet_cause begun client op replies.Spent volume before after none same = absurd (true≢false none)
+    quiet_cause begun client op replies.NoMemory volume before after none same = absurd (true≢false none)
+    quiet_cause begun client op other volume before after none same = same
 
     quiet_halts : (reply : Reply) (before after : ℕ) (sizes : List ℕ) (old new : Option Halt) → is_failure reply ≡ false → new ≡ old → HaltsAs reply before after sizes old new
     quiet_halts (replies.DeviceFault dev) before after sizes old new none same = absurd (true≢false none)
@@ -218,10 +219,10 @@ told_halts op reply halted halt is = by (is_changing (class_of op)) (is_done rep
     by false done changes is_it told = absurd (none_some halt told)
 
 -- The counts after a reply are as its cause says.
-pub faults_caused : (client : ℕ) (op : Op) (reply : Reply) (volume : Volume) (before after : FaultCounts) → HasCause client op reply volume before after → after ≡ faults_after reply before
-faults_caused client op (replies.DeviceFault dev) volume before after cause = cause
-faults_caused client op (replies.Halted dev tick) volume before after cause = cause.0
-faults_caused client op (replies.NoSpace short) volume before after cause = cause.0
-faults_caused client op replies.Spent volume before after cause = cause.0
-faults_caused client op replies.NoMemory volume before after cause = absurd cause
-faults_caused client op other volume before after cause = cause
+pub faults_caused : (begun : Found) (client : ℕ) (op : Op) (reply : Reply) (volume : Volume) (before after : FaultCounts) → HasCause begun client op reply volume before after → after ≡ faults_after reply before
+faults_caused begun client op (replies.DeviceFault dev) volume before after cause = cause
+faults_caused begun client op (replies.Halted dev tick) volume before after cause = cause.0
+faults_caused begun client op (replies.NoSpace short) volume before after cause = cause.0
+faults_caused begun client op replies.Spent volume before after cause = cause.0
+faults_caused begun client op replies.NoMemory volume before after cause = absurd cause
+faults_caused begun client op other volume before after cause = cause

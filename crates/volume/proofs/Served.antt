@@ -28,6 +28,7 @@ use Rattle.vol_types.specs.declared.space.Short.{Short}
 use Rattle.vol_session.specs.Writeback.{IsForeign, MayStopSync, IsWorked, StopsWith, stopped_by}
 use Rattle.vol_session.specs.declared.writeback_end.WritebackEnd.{WritebackEnd}
 use Rattle.vol_session.specs.declared.writeback_end.WritebackEnd.TheVariants as stops
+use Rattle.image_view.specs.Found.{Found}
 use Rattle.volume.specs.Answers.{AcknowledgesAll, HasCause, IsNumberSpent, LacksSpace, acks_after}
 use Rattle.volume.specs.Planning.{Standing, standing_in}
 use Rattle.volume.specs.Serving.{HaltsAs, IsEntered, IsIntended, IsMoved, IsServed, IsStepped, IsUnmade, IsUnserved, IsWriting, TellsStop, TellsSync, halt_told}
@@ -46,7 +47,7 @@ halts_from : (reply : Reply) (earlier before after : ℕ) (sizes : List ℕ) (ol
 halts_from (replies.DeviceFault dev) earlier before after sizes old new le is = (is.0, is.1, is.2, let e : earlier ≤ is.1 = omega (arith, le, is.3) in e, is.4, is.5)
 halts_from other earlier before after sizes old new le is = is
 
-module _ {D : Type 0} (state : D → DevicesState) (client : ℕ) where
+module _ {D : Type 0} (begun : Found) (state : D → DevicesState) (client : ℕ) where
   -- What only a client has under way may change.
   pub stepped_moves : (old new : SessionState D) → IsStepped old new → IsMoved state old new
   stepped_moves old new is = record {
@@ -91,14 +92,14 @@ module _ {D : Type 0} (state : D → DevicesState) (client : ℕ) where
   spare_still old new moved spare = subst (λ (s : SessionState D). 0 < s.spare) (sym moved.rest) spare
 
   -- An operation that was answered after a session was moved was answered.
-  pub served_after : (op : Op) (reply : Reply) (old mid new : SessionState D) → IsMoved state old mid → IsServed state client op reply mid new → IsServed state client op reply old new
+  pub served_after : (op : Op) (reply : Reply) (old mid new : SessionState D) → IsMoved state old mid → IsServed begun state client op reply mid new → IsServed begun state client op reply old new
   served_after op reply old mid new moved served = record {
     answered = record {
       trace = served.answered.trace ∙ ap (λ (s : SessionState D). s.trace ++ entry_of client op reply ∷ []) moved.rest;
       acks = served.answered.acks ∙ ap (λ (s : SessionState D). acks_after reply (state new.core.devices).moment s.acks) moved.rest;
       synced = λ count is. let both = served.answered.synced count is in (both.0, both.1 ∙ ap (λ (s : SessionState D). s.commits) moved.rest);
     };
-    cause = subst (λ (faults : FaultCounts). HasCause client op reply new.core.memory.volume faults (state new.core.devices).faults) moved.unfailed served.cause;
+    cause = subst (λ (faults : FaultCounts). HasCause begun client op reply new.core.memory.volume faults (state new.core.devices).faults) moved.unfailed served.cause;
     halts = halts_from reply (state old.core.devices).moment (state mid.core.devices).moment (state new.core.devices).moment (state old.core.devices).sizes old.core.memory.volume.halted new.core.memory.volume.halted moved.goes_on.later
         (subst (λ (sizes : List ℕ). HaltsAs reply (state mid.core.devices).moment (state new.core.devices).moment sizes old.core.memory.volume.halted new.core.memory.volume.halted) moved.goes_on.sizes
         (subst (λ (halted : Option Halt). HaltsAs reply (state mid.core.devices).moment (state new.core.devices).moment (state mid.core.devices).sizes halted new.core.memory.volume.halted) moved.halted served.halts));
@@ -149,17 +150,17 @@ module _ {D : Type 0} (state : D → DevicesState) (client : ℕ) where
 
   -- An entry that shows no failure of a device answers an operation, where its cause and its halt are the volume's.
   pub entered_served : (op : Op) (reply : Reply) (old new : SessionState D) → IsEntered client op reply old new → synced_count reply ≡ None
-      → HasCause client op reply old.core.memory.volume (state old.core.devices).faults (state old.core.devices).faults
+      → HasCause begun client op reply old.core.memory.volume (state old.core.devices).faults (state old.core.devices).faults
       → HaltsAs reply (state old.core.devices).moment (state old.core.devices).moment (state old.core.devices).sizes old.core.memory.volume.halted old.core.memory.volume.halted
-      → IsWriting op reply old.core.memory.volume.halted → IsServed state client op reply old new
+      → IsWriting op reply old.core.memory.volume.halted → IsServed begun state client op reply old new
   entered_served op reply old new entered unsynced cause halts writes = record {
     answered = record {
       trace = ap (λ (s : SessionState D). s.trace) entered.entry;
       acks = ap (λ (s : SessionState D). s.acks) entered.entry ∙ acks_still reply (state new.core.devices).moment old.acks unsynced;
       synced = λ count is. absurd (none_some count (sym unsynced ∙ ap synced_count is));
     };
-    cause = subst (λ (volume : Volume). HasCause client op reply volume (state old.core.devices).faults (state new.core.devices).faults) (sym entered.volume)
-        (subst (λ (devices : D). HasCause client op reply old.core.memory.volume (state old.core.devices).faults (state devices).faults) (sym entered.devices) cause);
+    cause = subst (λ (volume : Volume). HasCause begun client op reply volume (state old.core.devices).faults (state new.core.devices).faults) (sym entered.volume)
+        (subst (λ (devices : D). HasCause begun client op reply old.core.memory.volume (state old.core.devices).faults (state devices).faults) (sym entered.devices) cause);
     halts = subst (λ (volume : Volume). HaltsAs reply (state old.core.devices).moment (state new.core.devices).moment (state old.core.devices).sizes old.core.memory.volume.halted volume.halted) (sym entered.volume)
         (subst (λ (devices : D). HaltsAs reply (state old.core.devices).moment (state devices).moment (state old.core.devices).sizes old.core.memory.volume.halted old.core.memory.volume.halted) (sym entered.devices) halts);
     writes = writes;
@@ -168,43 +169,43 @@ module _ {D : Type 0} (state : D → DevicesState) (client : ℕ) where
   }
 
   -- So does the forest's reply where it changes nothing,
-  pub quiet_served : (op : Op) (reply : Reply) (old new : SessionState D) → IsEntered client op reply old new → IsQuiet reply → halt_told op reply old.core.memory.volume.halted ≡ None → IsServed state client op reply old new
+  pub quiet_served : (op : Op) (reply : Reply) (old new : SessionState D) → IsEntered client op reply old new → IsQuiet reply → halt_told op reply old.core.memory.volume.halted ≡ None → IsServed begun state client op reply old new
   quiet_served op reply old new entered quiet none =
-      entered_served op reply old new entered quiet.unsynced (quiet.cause client op old.core.memory.volume _ _ refl) (quiet.halts _ _ _ _ _ refl) (untold_writes op reply old.core.memory.volume.halted none)
+      entered_served op reply old new entered quiet.unsynced (quiet.cause begun client op old.core.memory.volume _ _ refl) (quiet.halts _ _ _ _ _ refl) (untold_writes op reply old.core.memory.volume.halted none)
 
   -- a failure for want of space,
-  pub lack_served : (op : Op) (reply : Reply) (short : Short) (old new : SessionState D) → reply ≡ replies.NoSpace short → LacksSpace client op short old.core.memory.volume → IsEntered client op reply old new → IsServed state client op reply old new
+  pub lack_served : (op : Op) (reply : Reply) (short : Short) (old new : SessionState D) → reply ≡ replies.NoSpace short → LacksSpace begun client op short old.core.memory.volume → IsEntered client op reply old new → IsServed begun state client op reply old new
   lack_served op reply short old new is lacks entered =
       entered_served op reply old new entered (ap synced_count is)
-      (subst (λ (r : Reply). HasCause client op r old.core.memory.volume (state old.core.devices).faults (state old.core.devices).faults) (sym is) (refl, lacks))
+      (subst (λ (r : Reply). HasCause begun client op r old.core.memory.volume (state old.core.devices).faults (state old.core.devices).faults) (sym is) (refl, lacks))
       (subst (λ (r : Reply). HaltsAs r (state old.core.devices).moment (state old.core.devices).moment (state old.core.devices).sizes old.core.memory.volume.halted old.core.memory.volume.halted) (sym is) refl)
       (undone_writes op reply old.core.memory.volume.halted (ap is_done is))
 
   -- for want of a number,
-  pub spent_served : (op : Op) (reply : Reply) (old new : SessionState D) → reply ≡ replies.Spent → IsNumberSpent client op old.core.memory.volume → IsEntered client op reply old new → IsServed state client op reply old new
+  pub spent_served : (op : Op) (reply : Reply) (old new : SessionState D) → reply ≡ replies.Spent → IsNumberSpent client op old.core.memory.volume → IsEntered client op reply old new → IsServed begun state client op reply old new
   spent_served op reply old new is spent entered =
       entered_served op reply old new entered (ap synced_count is)
-      (subst (λ (r : Reply). HasCause client op r old.core.memory.volume (state old.core.devices).faults (state old.core.devices).faults) (sym is) (refl, spent))
+      (subst (λ (r : Reply). HasCause begun client op r old.core.memory.volume (state old.core.devices).faults (state old.core.devices).faults) (sym is) (refl, spent))
       (subst (λ (r : Reply). HaltsAs r (state old.core.devices).moment (state old.core.devices).moment (state old.core.devices).sizes old.core.memory.volume.halted old.core.memory.volume.halted) (sym is) refl)
       (undone_writes op reply old.core.memory.volume.halted (ap is_done is))
 
   -- and one in a session that has stopped writing.
-  pub halted_served : (op : Op) (reply : Reply) (halt : Halt) (old new : SessionState D) → reply ≡ replies.Halted halt.dev halt.tick → old.core.memory.volume.halted ≡ Some halt → IsEntered client op reply old new → IsServed state client op reply old new
+  pub halted_served : (op : Op) (reply : Reply) (halt : Halt) (old new : SessionState D) → reply ≡ replies.Halted halt.dev halt.tick → old.core.memory.volume.halted ≡ Some halt → IsEntered client op reply old new → IsServed begun state client op reply old new
   halted_served op reply halt old new is halted entered =
       entered_served op reply old new entered (ap synced_count is)
-      (subst (λ (r : Reply). HasCause client op r old.core.memory.volume (state old.core.devices).faults (state old.core.devices).faults) (sym is) (refl, halted))
+      (subst (λ (r : Reply). HasCause begun client op r old.core.memory.volume (state old.core.devices).faults (state old.core.devices).faults) (sym is) (refl, halted))
       (subst (λ (r : Reply). HaltsAs r (state old.core.devices).moment (state old.core.devices).moment (state old.core.devices).sizes old.core.memory.volume.halted old.core.memory.volume.halted) (sym is) (refl, halted))
       (undone_writes op reply old.core.memory.volume.halted (ap is_done is))
 
   -- A change that was committed is answered.
   pub made_served : (op : Op) (reply : Reply) (old new : SessionState D) → IsState old.core.memory → IsIntended old.core.memory client op reply → IsMade old.core.memory client true new.core.memory
-      → new.trace ≡ old.trace ++ entry_of client op reply ∷ [] → new.acks ≡ old.acks → new.core.devices ≡ old.core.devices → IsServed state client op reply old new
+      → new.trace ≡ old.trace ++ entry_of client op reply ∷ [] → new.acks ≡ old.acks → new.core.devices ≡ old.core.devices → IsServed begun state client op reply old new
   made_served op reply old new is intended made trace acks devices =
       let committed = has_committed client old.core.memory new.core.memory is intended.under made in
       let quiet = done_is_quiet reply (change_is_done op reply intended.change) in
       record {
         answered = record { trace = trace; acks = acks ∙ acks_still reply (state new.core.devices).moment old.acks quiet.unsynced; synced = λ count same. absurd (none_some count (sym quiet.unsynced ∙ ap synced_count same)) };
-        cause = quiet.cause client op new.core.memory.volume _ _ (ap (λ (d : D). (state d).faults) devices);
+        cause = quiet.cause begun client op new.core.memory.volume _ _ (ap (λ (d : D). (state d).faults) devices);
         halts = quiet.halts _ _ _ _ _ committed.writes;
         writes = λ changes done. committed.wrote;
         rest = committed.rest;
@@ -244,7 +245,7 @@ module _ {D : Type 0} (state : D → DevicesState) (client : ℕ) where
     pub goes_on : GoOn (state old.core.devices) (state new.core.devices)
 
   -- The failure of a device answers an operation.
-  device_served : (op : Op) (dev : ℕ) (old mid new : SessionState D) → HasStopped (stops.DeviceFault dev) old mid → IsEntered client op (replies.DeviceFault dev) mid new → IsServed state client op (replies.DeviceFault dev) old new
+  device_served : (op : Op) (dev : ℕ) (old mid new : SessionState D) → HasStopped (stops.DeviceFault dev) old mid → IsEntered client op (replies.DeviceFault dev) mid new → IsServed begun state client op (replies.DeviceFault dev) old new
   device_served op dev old mid new stopped entered = record {
     answered = record {
       trace = ap (λ (s : SessionState D). s.trace) entered.entry ∙ ap (λ (s : SessionState D). s.trace ++ entry_of client op (replies.DeviceFault dev) ∷ []) stopped.worked.rest;
@@ -266,9 +267,9 @@ module _ {D : Type 0} (state : D → DevicesState) (client : ℕ) where
   }
 
   -- A change that fails as a checkpoint ended early is answered,
-  pub stopped_served : (op : Op) (reply : Reply) (stop : WritebackEnd) (old mid new : SessionState D) → HasStopped stop old mid → TellsStop stop reply → IsEntered client op reply mid new → IsServed state client op reply old new
+  pub stopped_served : (op : Op) (reply : Reply) (stop : WritebackEnd) (old mid new : SessionState D) → HasStopped stop old mid → TellsStop stop reply → IsEntered client op reply mid new → IsServed begun state client op reply old new
   stopped_served op reply (stops.DeviceFault dev) old mid new stopped tells entered =
-      subst (λ (r : Reply). IsServed state client op r old new) (sym tells) (device_served op dev old mid new stopped (subst (λ (r : Reply). IsEntered client op r mid new) tells entered))
+      subst (λ (r : Reply). IsServed begun state client op r old new) (sym tells) (device_served op dev old mid new stopped (subst (λ (r : Reply). IsEntered client op r mid new) tells entered))
   stopped_served op reply (stops.Halted halt) old mid new stopped tells entered =
       served_after op reply old mid new (works_move old mid stopped.worked stopped.stops.0 stopped.cause stopped.goes_on) (halted_served op reply halt mid new tells stopped.stops.1 entered)
   stopped_served op reply stops.Spent old mid new stopped tells entered =
@@ -297,9 +298,9 @@ module _ {D : Type 0} (state : D → DevicesState) (client : ℕ) where
   ring_spent op syncs (refusals.NoSpace none) volume journal foreign = absurd foreign
 
   -- A sync that ended early is answered.
-  pub sync_stopped : (op : Op) (reply : Reply) (stop : WritebackEnd) (old mid new : SessionState D) → class_of op ≡ Syncs → HasStopped stop old mid → MayStopSync stop → TellsSync stop reply → IsEntered client op reply mid new → IsServed state client op reply old new
+  pub sync_stopped : (op : Op) (reply : Reply) (stop : WritebackEnd) (old mid new : SessionState D) → class_of op ≡ Syncs → HasStopped stop old mid → MayStopSync stop → TellsSync stop reply → IsEntered client op reply mid new → IsServed begun state client op reply old new
   sync_stopped op reply (stops.DeviceFault dev) old mid new syncs stopped journal tells entered =
-      subst (λ (r : Reply). IsServed state client op r old new) (sym tells) (device_served op dev old mid new stopped (subst (λ (r : Reply). IsEntered client op r mid new) tells entered))
+      subst (λ (r : Reply). IsServed begun state client op r old new) (sym tells) (device_served op dev old mid new stopped (subst (λ (r : Reply). IsEntered client op r mid new) tells entered))
   sync_stopped op reply (stops.Halted halt) old mid new syncs stopped journal tells entered =
       served_after op reply old mid new (works_move old mid stopped.worked stopped.stops.0 stopped.cause stopped.goes_on) (halted_served op reply halt mid new tells stopped.stops.1 entered)
   sync_stopped op reply stops.Spent old mid new syncs stopped journal tells entered =
@@ -318,10 +319,10 @@ module _ {D : Type 0} (state : D → DevicesState) (client : ℕ) where
         acks = mid.acks ++ record { moment = (state mid.core.devices).moment; commits = mid.commits } ∷ [];
         spare = new.spare;
       }
-      → IsServed state client op (replies.Synced count) old new
+      → IsServed begun state client op (replies.Synced count) old new
   sync_served few op syncs count old mid new rest worked halted unfailed goes_on counted entry =
       let core : new.core ≡ mid.core = ap (λ (s : SessionState D). s.core) entry in
-      subst (λ (n : ℕ). IsServed state client op (replies.Synced n) old new) (sym counted) (record {
+      subst (λ (n : ℕ). IsServed begun state client op (replies.Synced n) old new) (sym counted) (record {
         answered = record {
           trace = ap (λ (s : SessionState D). s.trace) entry ∙ ap (λ (s : SessionState D). s.trace ++ entry_of client op (replies.Synced mid.commits) ∷ []) worked.rest;
           acks = ap (λ (s : SessionState D). s.acks) entry
@@ -342,14 +343,14 @@ module _ {D : Type 0} (state : D → DevicesState) (client : ℕ) where
   -- ---- by the result of a part
 
   -- A change that lacks space is answered, where there was memory.
-  pub lack_result : (result : Result Reply AllocError) (op : Op) (short : Short) (old new : SessionState D) → LacksSpace client op short old.core.memory.volume → IfOk result (λ reply. IsEntered client op reply old new) → IfOk result (λ reply. reply ≡ replies.NoSpace short)
-      → IfOk result (λ reply. IsServed state client op reply old new)
+  pub lack_result : (result : Result Reply AllocError) (op : Op) (short : Short) (old new : SessionState D) → LacksSpace begun client op short old.core.memory.volume → IfOk result (λ reply. IsEntered client op reply old new) → IfOk result (λ reply. reply ≡ replies.NoSpace short)
+      → IfOk result (λ reply. IsServed begun state client op reply old new)
   lack_result (Ok reply) op short old new lacks entered is = lack_served op reply short old new is lacks entered
   lack_result (Err error) op short old new lacks entered is = tt
 
   -- What was answered after the session was moved is answered,
-  pub served_later : (result : Result Reply AllocError) (op other : Op) (old mid new : SessionState D) → IsMoved state old mid → other ≡ op → IfOk result (λ reply. IsServed state client other reply mid new) → IfOk result (λ reply. IsServed state client op reply old new)
-  served_later (Ok reply) op other old mid new moved same served = served_after op reply old mid new moved (subst (λ (o : Op). IsServed state client o reply mid new) same served)
+  pub served_later : (result : Result Reply AllocError) (op other : Op) (old mid new : SessionState D) → IsMoved state old mid → other ≡ op → IfOk result (λ reply. IsServed begun state client other reply mid new) → IfOk result (λ reply. IsServed begun state client op reply old new)
+  served_later (Ok reply) op other old mid new moved same served = served_after op reply old mid new moved (subst (λ (o : Op). IsServed begun state client o reply mid new) same served)
   served_later (Err error) op other old mid new moved same served = tt
 
   -- and what wasn't, isn't.
@@ -359,7 +360,7 @@ module _ {D : Type 0} (state : D → DevicesState) (client : ℕ) where
 
   -- A change that fails as a checkpoint ended early is answered, where there was memory,
   pub stopped_result : (result : Result Reply AllocError) (op : Op) (stop : WritebackEnd) (old mid new : SessionState D) → HasStopped stop old mid → IfOk result (TellsStop stop) → IfOk result (λ reply. IsEntered client op reply mid new)
-      → IfOk result (λ reply. IsServed state client op reply old new)
+      → IfOk result (λ reply. IsServed begun state client op reply old new)
   stopped_result (Ok reply) op stop old mid new stopped tells entered = stopped_served op reply stop old mid new stopped tells entered
   stopped_result (Err error) op stop old mid new stopped tells entered = tt
 
@@ -372,7 +373,7 @@ module _ {D : Type 0} (state : D → DevicesState) (client : ℕ) where
 
   -- A sync that ended early is answered, where there was memory,
   pub sync_result : (result : Result Reply AllocError) (op : Op) (stop : WritebackEnd) (old mid new : SessionState D) → class_of op ≡ Syncs → HasStopped stop old mid → MayStopSync stop → IfOk result (TellsSync stop) → IfOk result (λ reply. IsEntered client op reply mid new)
-      → IfOk result (λ reply. IsServed state client op reply old new)
+      → IfOk result (λ reply. IsServed begun state client op reply old new)
   sync_result (Ok reply) op stop old mid new syncs stopped may tells entered = sync_stopped op reply stop old mid new syncs stopped may tells entered
   sync_result (Err error) op stop old mid new syncs stopped may tells entered = tt
 
@@ -384,7 +385,7 @@ module _ {D : Type 0} (state : D → DevicesState) (client : ℕ) where
       (moved_unserved old mid (stopped_moves stop old mid stopped (ap (λ (t : WritebackEnd). stopped_by {T = Unit {0}} (Err t)) none)) (works_rest client old.core.memory mid.core.memory few stopped.worked.memory rest))
 
   -- A sync acknowledges all commits that were made before room was made for it.
-  pub synced_all : (reply : Reply) (op : Op) (commits : ℕ) (old mid new : SessionState D) → old.commits ≡ commits → mid ≡ record old { spare = mid.spare } → IsServed state client op reply mid new → AcknowledgesAll commits reply
+  pub synced_all : (reply : Reply) (op : Op) (commits : ℕ) (old mid new : SessionState D) → old.commits ≡ commits → mid ≡ record old { spare = mid.spare } → IsServed begun state client op reply mid new → AcknowledgesAll commits reply
   synced_all reply op commits old mid new counted same served = λ count is.
       let both = served.answered.synced count is in
       both.0 ∙ both.1 ∙ ap (λ (s : SessionState D). s.commits) same ∙ counted

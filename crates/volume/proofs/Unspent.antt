@@ -17,13 +17,13 @@ use Rattle.forest_ops.specs.declared.operation.Op.{Op}
 use Rattle.forest_ops.specs.declared.operation.Reply.{Reply}
 use Rattle.forest_ops.specs.declared.operation.Reply.TheVariants.{Spent}
 use Rattle.image_view.specs.Found.{Found}
-use Rattle.vol_core.specs.Room.{HasRoomForNext, LeavesRoom}
+use Rattle.vol_core.specs.Room.{HasRoomForNext, LeavesRoom, MayKeepRoom}
 use Rattle.vol_core.proofs.Stages.{sealing_is_free}
 use Rattle.vol_session.specs.Numbers.{HasNumbersLeft, IsFarFromSpent}
 use Rattle.vol_session.specs.Survivors.{BeginsWell}
 use Rattle.vol_session.specs.Writeback.{IsForeign, LacksNumber}
 use Rattle.volume.specs.Answers.{HasCause, IsCommitSpent, IsNumberSpent, IsOfRing, IsRingSpent}
-use Rattle.volume.specs.States.{AreUnspent, BeganWithRoom}
+use Rattle.volume.specs.States.{AreUnspent, BeganWithRoom, BeganWithoutRoom}
 
 -- The works on what is durable lack no number that is left.
 not_lacking : (volume : Volume) → HasNumbersLeft volume → LacksNumber volume → ⊥
@@ -71,19 +71,20 @@ none_spent client op volume left room spent =
 
 -- What an entry says of its number.
 abbrev IsUnspent : Type 0 → Found → DevicesState → Entry → Type 0
-IsUnspent tells begun start entry = entry.reply ≡ Spent → (class_of entry.op ≡ Syncs) × ¬ BeganWithRoom tells begun start
+IsUnspent tells begun start entry = entry.reply ≡ Spent → (class_of entry.op ≡ Syncs) × BeganWithoutRoom tells begun start
 
 -- After a call that was answered, with its cause, it is so.
-pub unspent_served : (tells : Type 0) (begun : Found) (start old new : DevicesState) (trace : History) (client : ℕ) (op : Op) (reply : Reply) (volume : Volume) (before after : FaultCounts) → GoOn old new → HasCause client op reply volume before after
-    → (IsFarFromSpent begun start new → length (trace ++ record { client = client; op = op; reply = reply } ∷ []) < 2 ^ 31 → HasNumbersLeft volume) → (tells → BeginsWell begun start → LeavesRoom begun → HasRoomForNext volume)
+pub unspent_served : (tells : Type 0) (begun : Found) (start old new : DevicesState) (trace : History) (client : ℕ) (op : Op) (reply : Reply) (volume : Volume) (before after : FaultCounts) → GoOn old new → HasCause begun client op reply volume before after
+    → (IsFarFromSpent begun start new → length (trace ++ record { client = client; op = op; reply = reply } ∷ []) < 2 ^ 31 → HasNumbersLeft volume) → (tells → BeginsWell begun start → LeavesRoom begun → MayKeepRoom begun) → (MayKeepRoom begun → HasRoomForNext volume)
     → AreUnspent tells begun start old trace → AreUnspent tells begun start new (trace ++ record { client = client; op = op; reply = reply } ∷ [])
-unspent_served tells begun start old new trace client op reply volume before after goes cause left room unspent far few =
+unspent_served tells begun start old new trace client op reply volume before after goes cause left may room unspent far few =
     let entry : Entry = record { client = client; op = op; reply = reply } in
     let longer = length-append trace (entry ∷ []) in
     All-push (IsUnspent tells begun start) trace entry (unspent (far_before begun start old new goes far) (omega (arith, longer, few)))
     (λ spent.
-    let number = (subst (λ (r : Reply). HasCause client op r volume before after) spent cause).1 in
-    (only_syncs client op volume (left far few) number, λ (began : BeganWithRoom tells begun start). none_spent client op volume (left far few) (room began.told began.well began.room) number))
+    let number = (subst (λ (r : Reply). HasCause begun client op r volume before after) spent cause).1 in
+    let unkept : ¬ MayKeepRoom begun = λ kept. none_spent client op volume (left far few) (room kept) number in
+    (only_syncs client op volume (left far few) number, record { unkept = unkept; without = λ (began : BeganWithRoom tells begun start). unkept (may began.told began.well began.room) }))
 
 -- Where time went on, it is so still.
 pub unspent_later : (tells : Type 0) (begun : Found) (start old new : DevicesState) (trace : History) → GoOn old new → AreUnspent tells begun start old trace → AreUnspent tells begun start new trace

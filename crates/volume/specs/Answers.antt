@@ -19,7 +19,8 @@ use Rattle.forest_ops.specs.declared.acks.Ack.{Ack}
 use Rattle.fs_plan.specs.Plans.{IsPlanOf}
 use Rattle.key_meaning.specs.Checks.{IsSound}
 use Rattle.key_meaning.specs.Tidy.{IsTidy}
-use Rattle.vol_core.specs.Rested.{IsRested}
+use Rattle.image_view.specs.Found.{Found}
+use Rattle.vol_core.specs.Rested.{IsRested, MayKeepRing}
 use Rattle.vol_session.specs.Sessions.{SessionState}
 use Rattle.vol_types.specs.declared.keys.Update.{Update}
 use Rattle.vol_types.specs.declared.layout.Layout.{Layout}
@@ -82,8 +83,10 @@ TellsRefusal short (refusals.RingFull full) = short ≡ nothing_short
 TellsRefusal short (refusals.NoSpace none) = short ≡ none.short
 TellsRefusal short other = ⊥
 
--- Both works rest, as after a checkpoint, and still the commit of the operation's updates is refused, for lack of room in the ring or of free buckets.
-pub record IsFullAtRest (client : ℕ) (op : Op) (short : Short) (volume : Volume) : Type 0 where
+-- Both works rest, as after a checkpoint, and still the commit of the operation's updates is refused, for lack of room in the ring or of free buckets. So it is only
+-- where the ring may not be kept of what was found, as where a btree has several nodes, which only an image of another program shows.
+pub record IsFullAtRest (begun : Found) (client : ℕ) (op : Op) (short : Short) (volume : Volume) : Type 0 where
+  pub unkept : ¬ MayKeepRing begun
   pub updates : List Update
   pub of_op : AreUpdatesOf client op volume updates
   pub refusal : Refusal
@@ -95,10 +98,10 @@ pub record IsFullAtRest (client : ℕ) (op : Op) (short : Short) (volume : Volum
 pub record HasNoCheckpoint (short : Short) (volume : Volume) : Type 0 where
   pub why : ((none : NoSpaceHere) × LackedSpace volume none × (short ≡ none.short)) ⊎ ((refusal : Refusal) × IsForeign volume refusal × (short ≡ nothing_short))
 
--- There is no space for the client's operation, by one of these causes.
-abbrev pub LacksSpace : ℕ → Op → Short → Volume → Type 0
-LacksSpace client op short volume =
-    IsLeafFull client op short volume ⊎ IsEntryFull client op short volume ⊎ AreBucketsFull client op short volume ⊎ IsFullAtRest client op short volume ⊎ HasNoCheckpoint short volume
+-- There is no space for the client's operation in a session that began with what was found, by one of these causes.
+abbrev pub LacksSpace : Found → ℕ → Op → Short → Volume → Type 0
+LacksSpace begun client op short volume =
+    IsLeafFull client op short volume ⊎ IsEntryFull client op short volume ⊎ AreBucketsFull client op short volume ⊎ IsFullAtRest begun client op short volume ⊎ HasNoCheckpoint short volume
 
 -- It is a refusal for lack of room in the ring.
 abbrev pub IsOfRing : Refusal → Type 0
@@ -125,10 +128,10 @@ IsNumberSpent client op volume = IsCommitSpent client op volume ⊎ LacksNumber 
 
 -- The cause of a reply to a client's operation, in the volume that it leaves: a failure of a device is the only one that its counts tell; a halt is the session's; where space or a
 -- number is lacking, the volume lacks it; want of memory is told by no reply; and with every other reply no call failed.
-abbrev pub HasCause : ℕ → Op → Reply → Volume → FaultCounts → FaultCounts → Type 0
-HasCause client op (DeviceFault dev) volume before after = after ≡ with_write_fault dev before
-HasCause client op (Halted dev tick) volume before after = (after ≡ before) × (volume.halted ≡ Some (record { dev = dev; tick = tick }))
-HasCause client op (NoSpace short) volume before after = (after ≡ before) × LacksSpace client op short volume
-HasCause client op Spent volume before after = (after ≡ before) × IsNumberSpent client op volume
-HasCause client op NoMemory volume before after = ⊥
-HasCause client op reply volume before after = after ≡ before
+abbrev pub HasCause : Found → ℕ → Op → Reply → Volume → FaultCounts → FaultCounts → Type 0
+HasCause begun client op (DeviceFault dev) volume before after = after ≡ with_write_fault dev before
+HasCause begun client op (Halted dev tick) volume before after = (after ≡ before) × (volume.halted ≡ Some (record { dev = dev; tick = tick }))
+HasCause begun client op (NoSpace short) volume before after = (after ≡ before) × LacksSpace begun client op short volume
+HasCause begun client op Spent volume before after = (after ≡ before) × IsNumberSpent client op volume
+HasCause begun client op NoMemory volume before after = ⊥
+HasCause begun client op reply volume before after = after ≡ before

@@ -21,6 +21,7 @@ use Rattle.forest_ops.specs.declared.operation.Op.{Op}
 use Rattle.forest_ops.specs.declared.operation.Reply.{Reply}
 use Rattle.forest_ops.specs.declared.operation.Reply.TheVariants as replies
 use Rattle.fs_plan.specs.Plans.{is_planned}
+use Rattle.image_view.specs.Found.{Found}
 use Rattle.key_meaning.specs.Forest.{Read, forest_in}
 use Rattle.plain_forest.specs.Forest.{Forest}
 use Rattle.vol_core.specs.Rested.{IsRested}
@@ -75,9 +76,9 @@ abbrev pub halt_told : Op → Reply → Option Halt → Option Halt
 halt_told op reply halted = if is_changing (class_of op) && is_done reply then halted else None
 
 -- The client's operation was answered, with a cause, and no client has anything under way.
-pub record IsServed {D : Type 0} (state : D → DevicesState) (client : ℕ) (op : Op) (reply : Reply) (old new : SessionState D) : Type 0 where
+pub record IsServed {D : Type 0} (begun : Found) (state : D → DevicesState) (client : ℕ) (op : Op) (reply : Reply) (old new : SessionState D) : Type 0 where
   pub answered : IsAnswered state client op reply old new
-  pub cause : HasCause client op reply new.core.memory.volume (state old.core.devices).faults (state new.core.devices).faults
+  pub cause : HasCause begun client op reply new.core.memory.volume (state old.core.devices).faults (state new.core.devices).faults
   pub halts : HaltsAs reply (state old.core.devices).moment (state new.core.devices).moment (state old.core.devices).sizes old.core.memory.volume.halted new.core.memory.volume.halted
   pub writes : IsWriting op reply old.core.memory.volume.halted
   pub rest : IsAtRest new.core.memory

@@ -16,7 +16,7 @@ use Rattle.image_view.specs.Found.{Found}
 use Rattle.forest_ops.specs.Failures.{Halts, HaveCauses, NoCommitAfterHalt, has_failed}
 use Rattle.vol_session.specs.Marks.{forest_found}
 use Rattle.vol_core.specs.Cores.{CoreState}
-use Rattle.vol_core.specs.Room.{LeavesRoom}
+use Rattle.vol_core.specs.Room.{LeavesRoom, MayKeepRoom}
 use Rattle.vol_session.specs.Numbers.{IsFarFromSpent}
 use Rattle.vol_session.specs.Sessions.{SessionState}
 use Rattle.vol_session.specs.Survivors.{BeginsWell}
@@ -63,11 +63,16 @@ pub record BeganWithRoom (tells : Type 0) (begun : Found) (start : DevicesState)
   pub well : BeginsWell begun start
   pub room : LeavesRoom begun
 
+-- The session began without room in the ring: it may not be kept of what was found, so that besides the devices don't tell, or the session didn't begin well with room.
+pub record BeganWithoutRoom (tells : Type 0) (begun : Found) (start : DevicesState) : Type 0 where
+  pub unkept : ¬ MayKeepRoom begun
+  pub without : ¬ BeganWithRoom tells begun start
+
 -- Where what was found is far from the end of each number, and the session and its history are short, no entry says that a number is used up, but that of an operation which syncs, and that
--- only where the session didn't begin with room.
+-- only where the session began without room.
 abbrev pub AreUnspent : Type 0 → Found → DevicesState → DevicesState → History → Type 0
 AreUnspent tells begun start state trace =
-    IsFarFromSpent begun start state → length trace < 2 ^ 31 → All (λ (entry : Entry). entry.reply ≡ Spent → (class_of entry.op ≡ Syncs) × ¬ BeganWithRoom tells begun start) trace
+    IsFarFromSpent begun start state → length trace < 2 ^ 31 → All (λ (entry : Entry). entry.reply ≡ Spent → (class_of entry.op ≡ Syncs) × BeganWithoutRoom tells begun start) trace
 
 -- What is kept between operations.
 pub record IsBetween (tells : Type 0) (begun : Found) (start state : DevicesState) (memory : State) (trace : History) : Type 0 where

@@ -34,7 +34,7 @@ pub(crate) fn make<D: Devices, O: Opening>(
     requires class { IsOfItsClass plan }
     requires commits { plan.commits ≡ true }
     requires now { IsPlanNow session.old.core.memory client plan }
-    ensures served { IfOk result (λ reply. IsServed D.state client plan.op reply session.old
+    ensures served { IfOk result (λ reply. IsServed O.found D.state client plan.op reply session.old
         session.new) }
     ensures unserved { OnErr result (IsUnserved D.state session.old session.new) }
 {
@@ -83,7 +83,7 @@ fn commit<D: Devices, O: Opening>(
 ) -> Result<Reply, AllocError>
     requires spare { 0 < session.old.spare }
     requires intended { IsIntended session.old.core.memory client op reply }
-    ensures served { IfOk result (λ reply. IsServed D.state client op reply session.old
+    ensures served { IfOk result (λ reply. IsServed O.found D.state client op reply session.old
         session.new) }
     ensures unserved { OnErr result (IsUnserved D.state session.old session.new) }
 {
@@ -124,7 +124,7 @@ fn settle<D: Devices, O: Opening>(
     requires spare { 0 < session.old.spare }
     requires intended { IsIntended session.old.core.memory client not.op not.reply }
     requires unmade { IsUnmade session.old.core.memory client not.answer }
-    ensures served { IfOk result (λ reply. IsServed D.state client not.op reply session.old
+    ensures served { IfOk result (λ reply. IsServed O.found D.state client not.op reply session.old
         session.new) }
     ensures unserved { OnErr result (IsUnserved D.state session.old session.new) }
 {
@@ -170,7 +170,7 @@ fn fail_uncommitted<D: Devices, O: Opening>(
     requires intended { HasIntent session.old.core.memory client op }
     requires unmade { IsUnmade session.old.core.memory client answer }
     requires helpless { IsHelpless session.old.core.memory.volume (may_be_helped answer) }
-    ensures served { IfOk result (λ reply. IsServed D.state client op reply session.old
+    ensures served { IfOk result (λ reply. IsServed O.found D.state client op reply session.old
         session.new) }
     ensures unserved { OnErr result (IsUnserved D.state session.old session.new) }
 {
@@ -199,10 +199,12 @@ fn refuse<D: Devices, O: Opening>(
     requires refused { IsRefused session.old.core.memory.volume
         (intended_by session.old.core.memory client) true refusal }
     requires helpless { IsHelpless session.old.core.memory.volume (lacks_room refusal) }
-    ensures served { IfOk result (λ reply. IsServed D.state client op reply session.old
+    ensures served { IfOk result (λ reply. IsServed O.found D.state client op reply session.old
         session.new) }
     ensures unserved { OnErr result (IsUnserved D.state session.old session.new) }
 {
+    // At rest the ring has room, where it may be kept of what was found.
+    let _ = session.memory();
     match refusal {
         Refusal::Halted(halt) => {
             drop(refusal);
@@ -234,7 +236,7 @@ fn try_again<D: Devices, O: Opening>(
 ) -> Result<Reply, AllocError>
     requires spare { 0 < session.old.spare }
     requires intended { IsIntended session.old.core.memory client op reply }
-    ensures served { IfOk result (λ reply. IsServed D.state client op reply session.old
+    ensures served { IfOk result (λ reply. IsServed O.found D.state client op reply session.old
         session.new) }
     ensures unserved { OnErr result (IsUnserved D.state session.old session.new) }
 {
@@ -258,7 +260,7 @@ fn commit_at_rest<D: Devices, O: Opening>(
     requires spare { 0 < session.old.spare }
     requires intended { IsIntended session.old.core.memory client op reply }
     requires rested { IsRested session.old.core.memory.volume }
-    ensures served { IfOk result (λ reply. IsServed D.state client op reply session.old
+    ensures served { IfOk result (λ reply. IsServed O.found D.state client op reply session.old
         session.new) }
     ensures unserved { OnErr result (IsUnserved D.state session.old session.new) }
 {

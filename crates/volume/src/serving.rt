@@ -30,7 +30,7 @@ pub(crate) fn answer<D: Devices, O: Opening>(
     requires rest { IsAtRest session.old.core.memory }
     requires planned { is_planned op ≡ true }
     requires bounded { IsBounded op }
-    ensures served { IfOk result (λ reply. IsServed D.state client op reply session.old
+    ensures served { IfOk result (λ reply. IsServed O.found D.state client op reply session.old
         session.new) }
     ensures unserved { OnErr result (IsUnserved D.state session.old session.new) }
 {
@@ -57,7 +57,7 @@ fn carry_out<D: Devices, O: Opening>(
     requires planned { is_planned plan.op ≡ true }
     requires now { IsPlanNow session.old.core.memory client plan }
     requires class { IsOfItsClass plan }
-    ensures served { IfOk result (λ reply. IsServed D.state client plan.op reply session.old
+    ensures served { IfOk result (λ reply. IsServed O.found D.state client plan.op reply session.old
         session.new) }
     ensures unserved { OnErr result (IsUnserved D.state session.old session.new) }
 {
@@ -98,7 +98,7 @@ fn stop_change<D: Devices, O: Opening>(
     requires planned { is_planned plan.op ≡ true }
     requires now { IsPlanNow session.old.core.memory client plan }
     requires told { halt_told plan.op plan.reply session.old.core.memory.volume.halted ≡ Some halt }
-    ensures { IsServed D.state client plan.op result session.old session.new }
+    ensures { IsServed O.found D.state client plan.op result session.old session.new }
 {
     let Plan {
         op,
@@ -126,7 +126,7 @@ fn tell_copied<D: Devices, O: Opening>(
     requires no_commit { plan.commits ≡ false }
     requires unsynced { is_synced plan.reply ≡ false }
     requires told { halt_told plan.op plan.reply session.old.core.memory.volume.halted ≡ None }
-    ensures served { IfOk result (λ reply. IsServed D.state client plan.op reply session.old
+    ensures served { IfOk result (λ reply. IsServed O.found D.state client plan.op reply session.old
         session.new) }
     ensures unserved { OnErr result (IsUnserved D.state session.old session.new) }
 {
@@ -162,7 +162,7 @@ fn sync_after<D: Devices, O: Opening>(
     requires now { IsPlanNow session.old.core.memory client plan }
     requires class { IsOfItsClass plan }
     requires synced { is_synced plan.reply ≡ true }
-    ensures served { IfOk result (λ reply. IsServed D.state client plan.op reply session.old
+    ensures served { IfOk result (λ reply. IsServed O.found D.state client plan.op reply session.old
         session.new) }
     ensures unserved { OnErr result (IsUnserved D.state session.old session.new) }
 {
@@ -190,7 +190,7 @@ fn sync<D: Devices, O: Opening>(
     requires planned { is_planned op ≡ true }
     requires syncs { class_of op ≡ Syncs }
     requires synced { IsSyncedNow session.old.core.memory client op }
-    ensures served { IfOk result (λ reply. IsServed D.state client op reply session.old
+    ensures served { IfOk result (λ reply. IsServed O.found D.state client op reply session.old
         session.new) }
     ensures unserved { OnErr result (IsUnserved D.state session.old session.new) }
 {

@@ -10,6 +10,7 @@ ghost use Rattle.replay.specs.Mending.{KeepsPast};
 ghost use Rattle.replay.specs.Volumes.{found_in};
 ghost use Rattle.forest_ops.specs.Acknowledged.{AreAcks};
 ghost use Rattle.forest_ops.specs.Failures.{Halts, HaveCauses, NoCommitAfterHalt, has_failed};
+ghost use Rattle.vol_core.specs.Rested.{MayKeepRing};
 ghost use Rattle.vol_session.specs.Marks.{forest_found};
 ghost use Rattle.vol_session.specs.Sessions.{IsExact};
 ghost use Rattle.vol_session.specs.Survivors.{BeginsWell, Survive};
@@ -101,7 +102,8 @@ impl<D: Devices, O: Opening> VolState<D, O> {
 
     /// Answers an operation of a client: its entry joins the history, and its reply is handed back. An `Err` says that it is out of memory, which no reply says, and
     /// leaves the history and the acknowledgements as they were. It counts as one call in any case (`called`). A sync acknowledges all commits before it. Once the session has stopped writing, no change is done (`writes`),
-    /// not even one that would change nothing.
+    /// not even one that would change nothing. No commit meets a full ring after a checkpoint where the ring may be kept of what was found (`IsFullAtRest` in `cause`), whether the devices
+    /// tell what they hold or not; where they do, and the session began well, it may (`ring`).
     ///
     /// An operation costs the looks of its plan; a change calls devices only where the journal or the buckets are short, and then makes a checkpoint. A sync writes and
     /// flushes what isn't durable. A listing is copied once, for the history.
@@ -111,7 +113,7 @@ impl<D: Devices, O: Opening> VolState<D, O> {
         requires bounded { IsBounded op }
         ensures answers { IfOk result (λ reply. IsAnswered D.state client op reply
             (session_in self.old) (session_in self.new)) }
-        ensures cause { IfOk result (λ reply. HasCause client op reply
+        ensures cause { IfOk result (λ reply. HasCause O.found client op reply
             self.new.core.memory.volume (D.state self.old.core.devices).faults (D.state self.new.core.devices).faults) }
         ensures synced { IfOk result (AcknowledgesAll (commit_count
             (forest_found O.found O.start) self.old.trace)) }
@@ -120,11 +122,13 @@ impl<D: Devices, O: Opening> VolState<D, O> {
         ensures err { OnErr result (self.new ≡ record self.old
             { core = self.new.core; spare = self.new.spare; calls = self.new.calls }) }
         ensures called { self.new.calls ≡ one_more self.old.calls }
+        ensures ring { D.tells → BeginsWell O.found O.start → MayKeepRing O.found }
         ensures unfailed { OnErr result ((D.state self.new.core.devices).faults
             ≡ (D.state self.old.core.devices).faults) }
         ensures goes_on { GoOn (D.state self.old.core.devices) (D.state self.new.core.devices) }
     {
         self.session.see_history();
+        self.session.see_room();
         let _count = self.session.devices().count();
         self.calls.count_one();
         if let Err(error) = self.session.reserve() {

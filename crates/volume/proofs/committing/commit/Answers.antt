@@ -10,22 +10,22 @@ use Rattle.volume.proofs.committing.commit.Goals as goal
 pub settle-requires-clause-intended : goal.settle-requires-clause-intended
 settle-requires-clause-intended g c =
     let why = c.in-Err.ensures.err in
-    (not_made g.D.Devices.state c.args.client c.args.op c.in-Err.not.op c.args.reply c.in-Err.not.reply c.args.session.now c.commit-committed.new.self c.in-Err.not.answer c.memory.result.now c.memory.ensures.memory c.see_kept.ensures.kept why.0 why.1 why.2 why.3 c.commit-committed.ensures.devices
+    (not_made g.O.Opening.found g.D.Devices.state c.args.client c.args.op c.in-Err.not.op c.args.reply c.in-Err.not.reply c.args.session.now c.commit-committed.new.self c.in-Err.not.answer c.memory.result.now c.memory.ensures.memory c.see_kept.ensures.kept why.0 why.1 why.2 why.3 c.commit-committed.ensures.devices
     c.requires.intended).intended
 
 pub settle-requires-clause-unmade : goal.settle-requires-clause-unmade
 settle-requires-clause-unmade g c =
     let why = c.in-Err.ensures.err in
-    (not_made g.D.Devices.state c.args.client c.args.op c.in-Err.not.op c.args.reply c.in-Err.not.reply c.args.session.now c.commit-committed.new.self c.in-Err.not.answer c.memory.result.now c.memory.ensures.memory c.see_kept.ensures.kept why.0 why.1 why.2 why.3 c.commit-committed.ensures.devices
+    (not_made g.O.Opening.found g.D.Devices.state c.args.client c.args.op c.in-Err.not.op c.args.reply c.in-Err.not.reply c.args.session.now c.commit-committed.new.self c.in-Err.not.answer c.memory.result.now c.memory.ensures.memory c.see_kept.ensures.kept why.0 why.1 why.2 why.3 c.commit-committed.ensures.devices
     c.requires.intended).unmade
 
 pub returns-in-Err-clause-served : goal.returns-in-Err-clause-served
 returns-in-Err-clause-served g c =
     let why = c.in-Err.ensures.err in
     let state = g.D.Devices.state in
-    let not = not_made state c.args.client c.args.op c.in-Err.not.op c.args.reply c.in-Err.not.reply c.args.session.now c.commit-committed.new.self c.in-Err.not.answer c.memory.result.now c.memory.ensures.memory c.see_kept.ensures.kept why.0 why.1 why.2 why.3 c.commit-committed.ensures.devices
+    let not = not_made g.O.Opening.found state c.args.client c.args.op c.in-Err.not.op c.args.reply c.in-Err.not.reply c.args.session.now c.commit-committed.new.self c.in-Err.not.answer c.memory.result.now c.memory.ensures.memory c.see_kept.ensures.kept why.0 why.1 why.2 why.3 c.commit-committed.ensures.devices
     c.requires.intended in
-    served_later state c.args.client c.settle.result c.args.op c.in-Err.not.op c.args.session.now c.commit-committed.new.self c.settle.new.session not.moved why.1 c.settle.ensures.served
+    served_later g.O.Opening.found state c.args.client c.settle.result c.args.op c.in-Err.not.op c.args.session.now c.commit-committed.new.self c.settle.new.session not.moved why.1 c.settle.ensures.served
 
 pub commit-committed-requires-clause-client : goal.commit-committed-requires-clause-client
 commit-committed-requires-clause-client g c = c.requires.intended.under.there
@@ -37,6 +37,6 @@ pub returns-in-Ok-clause-served : goal.returns-in-Ok-clause-served
 returns-in-Ok-clause-served g c =
     let entered = c.in-Ok.ensures.entry in
     let state = g.D.Devices.state in
-    subst (λ (reply : Reply). IsServed state c.args.client c.args.op reply c.args.session.now c.commit-committed.new.self) (sym c.done_reply-told.ensures)
-    (made_served state c.args.client c.args.op c.args.reply c.args.session.now c.commit-committed.new.self (subst IsState c.memory.ensures.memory c.see_kept.ensures.kept) c.requires.intended c.in-Ok.ensures.made
+    subst (λ (reply : Reply). IsServed g.O.Opening.found state c.args.client c.args.op reply c.args.session.now c.commit-committed.new.self) (sym c.done_reply-told.ensures)
+    (made_served g.O.Opening.found state c.args.client c.args.op c.args.reply c.args.session.now c.commit-committed.new.self (subst IsState c.memory.ensures.memory c.see_kept.ensures.kept) c.requires.intended c.in-Ok.ensures.made
     (ap (λ (s : SessionState g.row.D.Denot). s.trace) entered) (ap (λ (s : SessionState g.row.D.Denot). s.acks) entered) c.commit-committed.ensures.devices)

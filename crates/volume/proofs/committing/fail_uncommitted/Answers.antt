@@ -4,4 +4,4 @@ use Rattle.volume.proofs.committing.fail_uncommitted.Goals as goal
 pub returns-in-NoMemory-clause-unserved : goal.returns-in-NoMemory-clause-unserved
 returns-in-NoMemory-clause-unserved g c =
     let state = g.D.Devices.state in
-    moved_unserved state c.args.client c.args.session.now c.end.new.session (stepped_moves state c.args.client c.args.session.now c.end.new.session c.end.ensures.stepped) c.end.ensures.rest
+    moved_unserved g.O.Opening.found state c.args.client c.args.session.now c.end.new.session (stepped_moves g.O.Opening.found state c.args.client c.args.session.now c.end.new.session c.end.ensures.stepped) c.end.ensures.rest

@@ -27,6 +27,6 @@ returns-then-not-intend-clause-served g c =
     let mid = c.intend.new.session in
     let op = c.args.plan.op in
     let short = c.nothing_short.result in
-    served_later state client c.lack.result op op old mid c.lack.new.session (stepped_moves state client old mid c.intend.ensures.stepped) refl
-    (lack_result state client c.lack.result op short mid c.lack.new.session
-    (entry_is_full client c.args.plan old.core.memory mid.core.memory short c.intend.ensures.stepped.volume c.requires.commits c.requires.now c.nothing_short.ensures (c.intend.ensures.unfit c.if-not-intend.true)) c.lack.ensures.entered c.lack.ensures.reply)
+    served_later g.O.Opening.found state client c.lack.result op op old mid c.lack.new.session (stepped_moves g.O.Opening.found state client old mid c.intend.ensures.stepped) refl
+    (lack_result g.O.Opening.found state client c.lack.result op short mid c.lack.new.session
+    (entry_is_full g.O.Opening.found client c.args.plan old.core.memory mid.core.memory short c.intend.ensures.stepped.volume c.requires.commits c.requires.now c.nothing_short.ensures (c.intend.ensures.unfit c.if-not-intend.true)) c.lack.ensures.entered c.lack.ensures.reply)

@@ -43,26 +43,26 @@ returns-in-RingFull-clause-served g c =
     let memory = c.args.session.now.core.memory in
     let refused = subst (λ (refusal : Refusal). IsRefused memory.volume (intended_by memory c.args.client) true refusal) c.in-RingFull.is c.requires.refused in
     let helpless = subst (λ (refusal : Refusal). IsHelpless memory.volume (lacks_room refusal)) c.in-RingFull.is c.requires.helpless in
-    lack_result g.D.Devices.state c.args.client c.lack-in-RingFull.result c.args.op c.nothing_short-in-RingFull.result c.args.session.now c.lack-in-RingFull.new.session
-    (ring_is_full memory c.args.client c.args.op c.requires.intended c.in-RingFull.field-0 c.nothing_short-in-RingFull.result c.nothing_short-in-RingFull.ensures helpless refused) c.lack-in-RingFull.ensures.entered c.lack-in-RingFull.ensures.reply
+    lack_result g.O.Opening.found g.D.Devices.state c.args.client c.lack-in-RingFull.result c.args.op c.nothing_short-in-RingFull.result c.args.session.now c.lack-in-RingFull.new.session
+    (ring_is_full g.O.Opening.found memory c.args.client c.args.op c.requires.intended c.memory.ensures.rested c.in-RingFull.field-0 c.nothing_short-in-RingFull.result c.nothing_short-in-RingFull.ensures helpless refused) c.lack-in-RingFull.ensures.entered c.lack-in-RingFull.ensures.reply
 
 pub returns-in-NoSpace-clause-served : goal.returns-in-NoSpace-clause-served
 returns-in-NoSpace-clause-served g c =
     let memory = c.args.session.now.core.memory in
     let refused = subst (λ (refusal : Refusal). IsRefused memory.volume (intended_by memory c.args.client) true refusal) c.in-NoSpace.is c.requires.refused in
     let helpless = subst (λ (refusal : Refusal). IsHelpless memory.volume (lacks_room refusal)) c.in-NoSpace.is c.requires.helpless in
-    lack_result g.D.Devices.state c.args.client c.lack-in-NoSpace.result c.args.op c.in-NoSpace.none.short c.args.session.now c.lack-in-NoSpace.new.session
-    (buckets_are_full memory c.args.client c.args.op c.requires.intended c.in-NoSpace.none helpless refused) c.lack-in-NoSpace.ensures.entered c.lack-in-NoSpace.ensures.reply
+    lack_result g.O.Opening.found g.D.Devices.state c.args.client c.lack-in-NoSpace.result c.args.op c.in-NoSpace.none.short c.args.session.now c.lack-in-NoSpace.new.session
+    (buckets_are_full g.O.Opening.found memory c.args.client c.args.op c.requires.intended c.memory.ensures.rested c.in-NoSpace.none helpless refused) c.lack-in-NoSpace.ensures.entered c.lack-in-NoSpace.ensures.reply
 
 pub returns-in-NeedSplit-clause-served : goal.returns-in-NeedSplit-clause-served
 returns-in-NeedSplit-clause-served g c =
     let memory = c.args.session.now.core.memory in
     let refused = subst (λ (refusal : Refusal). IsRefused memory.volume (intended_by memory c.args.client) true refusal) c.in-NeedSplit.is c.requires.refused in
-    lack_result g.D.Devices.state c.args.client c.lack.result c.args.op c.nothing_short.result c.args.session.now c.lack.new.session
-    (leaf_is_full memory c.args.client c.args.op c.requires.intended c.in-NeedSplit.field-0 c.nothing_short.result c.nothing_short.ensures refused) c.lack.ensures.entered c.lack.ensures.reply
+    lack_result g.O.Opening.found g.D.Devices.state c.args.client c.lack.result c.args.op c.nothing_short.result c.args.session.now c.lack.new.session
+    (leaf_is_full g.O.Opening.found memory c.args.client c.args.op c.requires.intended c.in-NeedSplit.field-0 c.nothing_short.result c.nothing_short.ensures refused) c.lack.ensures.entered c.lack.ensures.reply
 
 pub returns-in-Spent-clause-served : goal.returns-in-Spent-clause-served
 returns-in-Spent-clause-served g c =
     let memory = c.args.session.now.core.memory in
     let refused = subst (λ (refusal : Refusal). IsRefused memory.volume (intended_by memory c.args.client) true refusal) c.in-Spent.is c.requires.refused in
-    spent_served g.D.Devices.state c.args.client c.args.op c.fail_spent.result c.args.session.now c.fail_spent.new.session c.fail_spent.ensures.reply (commit_is_spent memory c.args.client c.args.op c.requires.intended refused) c.fail_spent.ensures.entered
+    spent_served g.O.Opening.found g.D.Devices.state c.args.client c.args.op c.fail_spent.result c.args.session.now c.fail_spent.new.session c.fail_spent.ensures.reply (commit_is_spent g.O.Opening.found memory c.args.client c.args.op c.requires.intended refused) c.fail_spent.ensures.entered

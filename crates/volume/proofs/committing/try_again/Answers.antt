@@ -31,8 +31,8 @@ returns-in-Ok-clause-served g c =
     let done = c.checkpoint.ensures in
     let halted = subst (λ (r : Result (Unit {0}) WritebackEnd). StopsWith r (state old.core.devices).moment (state mid.core.devices).moment old.core.memory.volume mid.core.memory.volume) c.in-Ok.is done.stops in
     let unfailed = subst (λ (r : Result (Unit {0}) WritebackEnd). (state mid.core.devices).faults ≡ after_writes (stopped_by r) (state old.core.devices).faults) c.in-Ok.is done.cause in
-    let moved : IsMoved state old mid = works_move state c.args.client old mid done.worked halted unfailed done.goes_on in
-    served_later state c.args.client c.commit_at_rest.result c.args.op c.args.op old mid c.commit_at_rest.new.session moved refl c.commit_at_rest.ensures.served
+    let moved : IsMoved state old mid = works_move g.O.Opening.found state c.args.client old mid done.worked halted unfailed done.goes_on in
+    served_later g.O.Opening.found state c.args.client c.commit_at_rest.result c.args.op c.args.op old mid c.commit_at_rest.new.session moved refl c.commit_at_rest.ensures.served
 
 pub returns-in-Ok-clause-unserved : goal.returns-in-Ok-clause-unserved
 returns-in-Ok-clause-unserved g c =
@@ -42,8 +42,8 @@ returns-in-Ok-clause-unserved g c =
     let done = c.checkpoint.ensures in
     let halted = subst (λ (r : Result (Unit {0}) WritebackEnd). StopsWith r (state old.core.devices).moment (state mid.core.devices).moment old.core.memory.volume mid.core.memory.volume) c.in-Ok.is done.stops in
     let unfailed = subst (λ (r : Result (Unit {0}) WritebackEnd). (state mid.core.devices).faults ≡ after_writes (stopped_by r) (state old.core.devices).faults) c.in-Ok.is done.cause in
-    let moved : IsMoved state old mid = works_move state c.args.client old mid done.worked halted unfailed done.goes_on in
-    unserved_later state c.args.client c.commit_at_rest.result old mid c.commit_at_rest.new.session moved c.commit_at_rest.ensures.unserved
+    let moved : IsMoved state old mid = works_move g.O.Opening.found state c.args.client old mid done.worked halted unfailed done.goes_on in
+    unserved_later g.O.Opening.found state c.args.client c.commit_at_rest.result old mid c.commit_at_rest.new.session moved c.commit_at_rest.ensures.unserved
 
 pub returns-in-Err-clause-served : goal.returns-in-Err-clause-served
 returns-in-Err-clause-served g c =
@@ -51,14 +51,14 @@ returns-in-Err-clause-served g c =
     let old = c.args.session.now in
     let mid = c.checkpoint.new.session in
     let done = c.checkpoint.ensures in
-    let stopped : HasStopped state c.args.client c.in-Err.stop old mid = record {
+    let stopped : HasStopped g.O.Opening.found state c.args.client c.in-Err.stop old mid = record {
       worked = done.worked;
       stops = subst (λ (r : Result (Unit {0}) WritebackEnd). StopsWith r (state old.core.devices).moment (state mid.core.devices).moment old.core.memory.volume mid.core.memory.volume) c.in-Err.is done.stops;
       cause = subst (λ (r : Result (Unit {0}) WritebackEnd). (state mid.core.devices).faults ≡ after_writes (stopped_by r) (state old.core.devices).faults) c.in-Err.is done.cause;
       device = subst (λ (r : Result (Unit {0}) WritebackEnd). IfSome (stopped_by r) (λ dev. dev < length (state old.core.devices).sizes)) c.in-Err.is done.device;
       goes_on = done.goes_on;
     } in
-    stopped_result state c.args.client c.give_up.result c.args.op c.in-Err.stop old mid c.give_up.new.session stopped c.give_up.ensures.tells c.give_up.ensures.entered
+    stopped_result g.O.Opening.found state c.args.client c.give_up.result c.args.op c.in-Err.stop old mid c.give_up.new.session stopped c.give_up.ensures.tells c.give_up.ensures.entered
 
 pub returns-in-Err-clause-unserved : goal.returns-in-Err-clause-unserved
 returns-in-Err-clause-unserved g c =
@@ -66,11 +66,11 @@ returns-in-Err-clause-unserved g c =
     let old = c.args.session.now in
     let mid = c.checkpoint.new.session in
     let done = c.checkpoint.ensures in
-    let stopped : HasStopped state c.args.client c.in-Err.stop old mid = record {
+    let stopped : HasStopped g.O.Opening.found state c.args.client c.in-Err.stop old mid = record {
       worked = done.worked;
       stops = subst (λ (r : Result (Unit {0}) WritebackEnd). StopsWith r (state old.core.devices).moment (state mid.core.devices).moment old.core.memory.volume mid.core.memory.volume) c.in-Err.is done.stops;
       cause = subst (λ (r : Result (Unit {0}) WritebackEnd). (state mid.core.devices).faults ≡ after_writes (stopped_by r) (state old.core.devices).faults) c.in-Err.is done.cause;
       device = subst (λ (r : Result (Unit {0}) WritebackEnd). IfSome (stopped_by r) (λ dev. dev < length (state old.core.devices).sizes)) c.in-Err.is done.device;
       goes_on = done.goes_on;
     } in
-    unstopped_result state c.args.client c.give_up.result c.in-Err.stop old mid c.give_up.new.session stopped c.give_up.ensures.unfailed c.give_up.ensures.stepped c.give_up.ensures.rest
+    unstopped_result g.O.Opening.found state c.args.client c.give_up.result c.in-Err.stop old mid c.give_up.new.session stopped c.give_up.ensures.unfailed c.give_up.ensures.stepped c.give_up.ensures.rest

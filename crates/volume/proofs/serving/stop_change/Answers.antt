@@ -12,5 +12,5 @@ fail_halted-requires-clause-done g c =
 
 pub returns : goal.returns
 returns g c =
-    halted_served g.D.Devices.state c.args.client c.args.plan.op c.fail_halted.result c.args.halt c.args.session.now c.fail_halted.new.session c.fail_halted.ensures.reply
+    halted_served g.O.Opening.found g.D.Devices.state c.args.client c.args.plan.op c.fail_halted.result c.args.halt c.args.session.now c.fail_halted.new.session c.fail_halted.ensures.reply
     (told_halts c.args.plan.op c.args.plan.reply c.args.session.now.core.memory.volume.halted c.args.halt c.requires.told).halted_so c.fail_halted.ensures.entered

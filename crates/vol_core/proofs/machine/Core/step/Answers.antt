@@ -17,15 +17,14 @@ invariant_of-self g c = record {
   safe = λ tells begins.
       stepped c.open_volumes_have_laws.ensures g.O.Opening.found g.O.Opening.start g.D.Devices.tells tells g.D.Devices.state
       (record { memory = c.self.inside.memory; devices = c.self.inside.devices }) (record { memory = c.make.new.memory; devices = c.make.new.devices }) c.see_kept.ensures.kept c.see_kept.ensures.parts
-      (c.self.invariant.ring tells begins) (c.self.invariant.safe tells begins) (g.met.D.Devices.sound tells c.make.new.devices) (g.met.D.Devices.steady tells c.make.new.devices) c.args.actor c.args.event c.make.result c.make.ensures.gives;
-  ring = λ tells begins.
+      (c.self.invariant.ring (c.self.invariant.may.ring tells begins)) (c.self.invariant.safe tells begins) (g.met.D.Devices.sound tells c.make.new.devices) (g.met.D.Devices.steady tells c.make.new.devices) c.args.actor c.args.event c.make.result c.make.ensures.gives;
+  may = c.self.invariant.may;
+  ring = λ may.
       ring_stepped g.D.Devices.tells g.D.Devices.state (record { memory = c.self.inside.memory; devices = c.self.inside.devices }) (record { memory = c.make.new.memory; devices = c.make.new.devices })
-      c.open_volumes_have_laws.ensures.places g.O.Opening.found g.O.Opening.start c.see_kept.ensures.kept
-      (c.self.invariant.safe tells begins) (c.self.invariant.ring tells begins) c.args.actor c.args.event c.make.result c.make.ensures.gives;
-  room = λ tells begins leaves.
+      c.open_volumes_have_laws.ensures.places c.open_volumes_have_laws.ensures.exchanges c.see_kept.ensures.kept (c.self.invariant.ring may) c.args.actor c.args.event c.make.result c.make.ensures.gives;
+  room = λ may.
       room_stepped g.D.Devices.tells g.D.Devices.state (record { memory = c.self.inside.memory; devices = c.self.inside.devices }) (record { memory = c.make.new.memory; devices = c.make.new.devices })
-      c.open_volumes_have_laws.ensures.places g.O.Opening.found g.O.Opening.start c.see_kept.ensures.kept c.see_kept.ensures.parts
-      (c.self.invariant.safe tells begins) (c.self.invariant.ring tells begins) (c.self.invariant.room tells begins leaves) c.args.actor c.args.event c.make.result c.make.ensures.gives;
+      c.open_volumes_have_laws.ensures.places c.see_kept.ensures.kept c.see_kept.ensures.parts (c.self.invariant.ring may.ring) (c.self.invariant.room may) c.args.actor c.args.event c.make.result c.make.ensures.gives;
   files = λ tells begins sound.
       files_stepped c.open_volumes_have_laws.ensures g.O.Opening.found g.O.Opening.start g.D.Devices.tells tells g.D.Devices.state
       (record { memory = c.self.inside.memory; devices = c.self.inside.devices }) (record { memory = c.make.new.memory; devices = c.make.new.devices }) c.see_kept.ensures.kept c.see_kept.ensures.parts
@@ -44,7 +43,8 @@ returns-clause-left g c = λ tells begins.
     subst (λ self. KeepsLeft g.O.Opening.found g.O.Opening.start (g.D.Devices.state self.devices) (g.D.Devices.state c.make.new.devices) self.memory.volume) c.self.view_is
     (left_stepped c.open_volumes_have_laws.ensures g.O.Opening.found g.O.Opening.start g.D.Devices.tells tells g.D.Devices.state
     (record { memory = c.self.inside.memory; devices = c.self.inside.devices }) (record { memory = c.make.new.memory; devices = c.make.new.devices }) c.see_kept.ensures.kept c.see_kept.ensures.parts
-    (c.self.invariant.safe tells begins) (g.met.D.Devices.sound tells c.make.new.devices) (g.met.D.Devices.steady tells c.make.new.devices) begins (c.self.invariant.ring tells begins) (c.self.invariant.room tells begins) (c.self.invariant.files tells begins)
+    (c.self.invariant.safe tells begins) (g.met.D.Devices.sound tells c.make.new.devices) (g.met.D.Devices.steady tells c.make.new.devices) begins (c.self.invariant.ring (c.self.invariant.may.ring tells begins))
+    (λ leaves. c.self.invariant.room (c.self.invariant.may.room tells begins leaves)) (c.self.invariant.files tells begins)
     c.args.actor c.args.event c.make.result c.make.ensures.gives)
 
 pub returns-clause-goes_on : goal.returns-clause-goes_on

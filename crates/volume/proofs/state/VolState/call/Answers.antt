@@ -16,7 +16,7 @@ returns-clause-synced g c =
     subst (λ (volume : VolumeState g.row.D.Denot). IfOk c.answer-result.result (AcknowledgesAll (commit_count forest volume.trace))) c.self.view_is
     (of_ok c.answer-result.result
     (λ reply served.
-    synced_all g.D.Devices.state c.args.client reply c.args.op (commit_count forest c.self.inside.session.trace) c.self.inside.session c.reserve.new.self c.answer-result.new.session c.see_history.ensures.counted.counted c.reserve.ensures.rest served)
+    synced_all g.O.Opening.found g.D.Devices.state c.args.client reply c.args.op (commit_count forest c.self.inside.session.trace) c.self.inside.session c.reserve.new.self c.answer-result.new.session c.see_history.ensures.counted.counted c.reserve.ensures.rest served)
     c.answer-result.ensures.served)
 
 pub returns-clause-writes : goal.returns-clause-writes
@@ -34,4 +34,5 @@ invariant_of-self-2 g c =
       counts = g.met.D.Devices.counted c.self.inside.session.core.devices;
       few = subst (λ (devices : g.row.D.Denot). length (state devices).sizes ≤ 8) c.devices.ensures (subst (λ (count : ℕ). count ≤ 8) c.count-count.ensures.count c.count-count.ensures.range.1);
     } in
-    keeps_call g.D.Devices.tells g.O.Opening.found g.O.Opening.start state c.answer-result.result c.args.client c.args.op c.self.inside.session c.reserve.new.self c.answer-result.new.session c.reserve.ensures.rest c.see_numbers.ensures c.see_room.ensures counting c.self.invariant c.answer-result.ensures.served c.answer-result.ensures.unserved
+    keeps_call g.D.Devices.tells g.O.Opening.found g.O.Opening.start state c.answer-result.result c.args.client c.args.op c.self.inside.session c.reserve.new.self c.answer-result.new.session c.reserve.ensures.rest c.see_numbers.ensures
+    c.see_room.ensures.may c.see_room-2.ensures.room counting c.self.invariant c.answer-result.ensures.served c.answer-result.ensures.unserved
