@@ -18,5 +18,6 @@ pub mod Opened
 mod LoadedFront
 pub mod RootsRead
 pub mod ShownSets
+pub mod MendedSets
 pub mod MendedRoots
 pub mod OpenedVolume

@@ -56,7 +56,7 @@ pub record ShowsBlock (id : List ℕ) (birth : ℕ) (copies : Copies) (n : ℕ) 
   pub of_node : IsOfNode id birth block.head
 
 -- What is found first is found on a member.
-first_in : {A B : Type 0} (give : A → Option B) (xs : List A) (y : B) → first_of give xs ≡ Some y → (x : A) × Contains xs x × (give x ≡ Some y)
+pub first_in : {A B : Type 0} (give : A → Option B) (xs : List A) (y : B) → first_of give xs ≡ Some y → (x : A) × Contains xs x × (give x ≡ Some y)
 first_in give [] y is = cc
 first_in {A} {B} give (x ∷ xs) y is = by (give x) refl is (first_in give xs y)
   where
@@ -64,40 +64,45 @@ first_in {A} {B} give (x ∷ xs) y is = by (give x) refl is (first_in give xs y)
     by None at rest further = let there = further rest in (there.0, (suc there.1.0, (let l = there.1.1 in omega (arith, l)), there.1.2), there.2)
     by (Some z) at rest further = (x, (0, omega arith, refl), at ∙ rest)
 
-map_some : {A B : Type 0} (f : A → B) (o : Option A) (y : B) → option_map f o ≡ Some y → (x : A) × (o ≡ Some x) × (f x ≡ y)
+pub map_some : {A B : Type 0} (f : A → B) (o : Option A) (y : B) → option_map f o ≡ Some y → (x : A) × (o ≡ Some x) × (f x ≡ y)
 map_some f None y is = cc
 map_some f (Some x) y is = (x, refl, cc)
 
+-- The head of a set is that of a block of the node,
+pub head_of_node : (id : List ℕ) (birth n : ℕ) (head : Head) → is_set_head id birth n head ≡ true → IsOfNode id birth head
+head_of_node id birth n head is =
+    let t1 = head.kind == 3 in
+    let t2 = t1 && head.version == 1 in
+    let t3 = t2 && head.part == 0 in
+    let t4 = t3 && bytes_eq head.id id in
+    let t5 = t4 && head.owner == birth in
+    let a = and_parts t5 (head.number == n) is in
+    let b = and_parts t4 (head.owner == birth) a.0 in
+    let c = and_parts t3 (bytes_eq head.id id) b.0 in
+    let d = and_parts t2 (head.part == 0) c.0 in
+    let e = and_parts t1 (head.version == 1) d.0 in
+    record { kind = eqb-true head.kind 3 e.0; volume = (bytes_eq-Decides head.id id).0 c.1; owner = eqb-true head.owner birth b.1 }
+
+pub begun_of_node : (id : List ℕ) (birth n : ℕ) (head : Head) → begins id birth n head ≡ true → IsOfNode id birth head
+begun_of_node id birth n head is =
+    let x = and_parts (is_set_head id birth n head && continues head 0 head && nat_lt n (n + head.parts)) (nat_le (n + head.parts) 16) is in
+    let y = and_parts (is_set_head id birth n head && continues head 0 head) (nat_lt n (n + head.parts)) x.0 in
+    head_of_node id birth n head (and_parts (is_set_head id birth n head) (continues head 0 head) y.0).0
+
+-- and so is that of a part of it.
+pub part_of_node : (id : List ℕ) (birth : ℕ) (first : Head) (p : ℕ) (head : Head) → IsOfNode id birth first → continues first p head ≡ true → IsOfNode id birth head
+part_of_node id birth first p head of is =
+    let part = continues-is first p head is in
+    record { kind = part.record_is.kind ∙ of.kind; volume = part.record_is.id ∙ of.volume; owner = part.record_is.owner ∙ of.owner }
+
 module _ (copies : Copies) (id : List ℕ) (birth : ℕ) where
-  begun_of_node : (n : ℕ) (head : Head) → begins id birth n head ≡ true → IsOfNode id birth head
-  begun_of_node n head is =
-      let t1 = head.kind == 3 in
-      let t2 = t1 && head.version == 1 in
-      let t3 = t2 && head.part == 0 in
-      let t4 = t3 && bytes_eq head.id id in
-      let t5 = t4 && head.owner == birth in
-      let x = and_parts (is_set_head id birth n head && continues head 0 head && nat_lt n (n + head.parts)) (nat_le (n + head.parts) 16) is in
-      let y = and_parts (is_set_head id birth n head && continues head 0 head) (nat_lt n (n + head.parts)) x.0 in
-      let z = and_parts (is_set_head id birth n head) (continues head 0 head) y.0 in
-      let a = and_parts t5 (head.number == n) z.0 in
-      let b = and_parts t4 (head.owner == birth) a.0 in
-      let c = and_parts t3 (bytes_eq head.id id) b.0 in
-      let d = and_parts t2 (head.part == 0) c.0 in
-      let e = and_parts t1 (head.version == 1) d.0 in
-      record { kind = eqb-true head.kind 3 e.0; volume = (bytes_eq-Decides head.id id).0 c.1; owner = eqb-true head.owner birth b.1 }
-
-  part_of_node : (first : Head) (p : ℕ) (head : Head) → IsOfNode id birth first → continues first p head ≡ true → IsOfNode id birth head
-  part_of_node first p head of is =
-      let part = continues-is first p head is in
-      record { kind = part.record_is.kind ∙ of.kind; volume = part.record_is.id ∙ of.volume; owner = part.record_is.owner ∙ of.owner }
-
   -- A part that is there is shown.
   part_shown : (first : Head) (n p : ℕ) (block : OpenBlock) → IsOfNode id birth first → part_of copies first n p ≡ Some block → ShowsBlock id birth copies (n + p)
   part_shown first n p block of is =
       let found = first_in (part_in first n p) copies block is in
       let there = and_then_some (part_if first p) (block_in found.0 (n + p)) block found.2 in
       let passed = cond_some (continues first p there.0.head) (Some there.0) block there.2 in
-      record { copy = found.0; one = found.1; block = there.0; at = there.1; of_node = part_of_node first p there.0.head of passed.0 }
+      record { copy = found.0; one = found.1; block = there.0; at = there.1; of_node = part_of_node id birth first p there.0.head of passed.0 }
 
   parts_shown : (first : Head) (n more p : ℕ) (rest : List ℕ) → IsOfNode id birth first → parts_from copies first n more p ≡ Some rest → (k : ℕ) → p ≤ k → k < p + more → ShowsBlock id birth copies (n + k)
   parts_shown first n zero p rest of is k from to = absurd (omega (arith, from, to))
@@ -115,7 +120,7 @@ module _ (copies : Copies) (id : List ℕ) (birth : ℕ) where
       let found = first_in (set_from copies id birth n) copies set is in
       let begun = set_from_is copies id birth n found.0 set found.2 in
       let passed = cond_some (begins id birth n begun.0.head) (option_and_then (λ rest. set_with n begun.0.head (begun.0.payload ++ rest)) (parts_from copies begun.0.head n (begun.0.head.parts - 1) 1)) set begun.2 in
-      record { copy = found.0; one = found.1; block = begun.0; at = ap (block_in found.0) (let e : n + 0 ≡ n = omega arith in e) ∙ begun.1; of_node = begun_of_node n begun.0.head passed.0 }
+      record { copy = found.0; one = found.1; block = begun.0; at = ap (block_in found.0) (let e : n + 0 ≡ n = omega arith in e) ∙ begun.1; of_node = begun_of_node id birth n begun.0.head passed.0 }
   set_shown n set is (suc k) lower =
       let found = first_in (set_from copies id birth n) copies set is in
       let begun = set_from_is copies id birth n found.0 set found.2 in
@@ -123,7 +128,7 @@ module _ (copies : Copies) (id : List ℕ) (birth : ℕ) where
       let passed = cond_some (begins id birth n begun.0.head) (option_and_then (λ rest. set_with n begun.0.head (begun.0.payload ++ rest)) (parts_from copies begun.0.head n (begun.0.head.parts - 1) 1)) set begun.2 in
       let rest = and_then_some (λ rest. set_with n begun.0.head (begun.0.payload ++ rest)) (parts_from copies begun.0.head n (begun.0.head.parts - 1) 1) set passed.1 in
       let parts = fields.blocks in
-      parts_shown begun.0.head n (begun.0.head.parts - 1) 1 rest.0 (begun_of_node n begun.0.head passed.0) rest.1 (suc k) (omega arith) (omega (arith, lower, parts))
+      parts_shown begun.0.head n (begun.0.head.parts - 1) 1 rest.0 (begun_of_node id birth n begun.0.head passed.0) rest.1 (suc k) (omega arith) (omega (arith, lower, parts))
 
   sets_shown : (more n : ℕ) (found : StoredSets) → sets_from copies id birth more n ≡ found → (k : ℕ) → n ≤ k → k < found.end → ShowsBlock id birth copies k
   sets_shown zero n found is k from to = let end : n ≡ found.end = ap (λ (f : StoredSets). f.end) is in absurd (omega (arith, from, to, end))

@@ -1,13 +1,14 @@
 -- What it is that the roots of a volume are mended: each block of such a node that one of its places shows stands on the others too, and
 -- nothing else is written.
-use Rattle.std.specs.Prelude.{◌≡◌, ℕ, ◌<◌, List, [], All, Contains, length, Ok, slice_index_or}
+use Rattle.std.specs.Prelude.{◌≡◌, ◌↔◌, ℕ, ◌<◌, List, [], All, Contains, Option, Some, length, Ok, slice_index_or}
 use Rattle.dev_model.specs.Disk.{Image, block_at}
 use Rattle.image_view.specs.Found.{Found, IsAlike}
-use Rattle.node_store.specs.Answers.{AreAlike}
-use Rattle.node_store.specs.Copies.{copies_at}
+use Rattle.node_store.specs.Answers.{AreAlike, IsOfNode}
+use Rattle.node_store.specs.Copies.{block_in, copies_at}
 use Rattle.node_store.specs.Mending.{CanBeMended, IsLacking, IsWanted, IsWholeNode}
-use Rattle.node_store.specs.StoredSets.{sets_of}
+use Rattle.node_store.specs.StoredSets.{Copies, sets_of}
 use Rattle.node_store.specs.Writes.{IsCopyOf}
+use Rattle.node_store.specs.declared.opening.OpenBlock.{OpenBlock}
 use Rattle.node_store.specs.declared.sets.StoredSets.{StoredSets}
 use Rattle.vol_types.specs.Limits.{bucket_blocks}
 use Rattle.vol_types.specs.declared.layout.Layout.{Layout}
@@ -72,3 +73,13 @@ IsMendedIn layout births sizes one other node =
 -- The roots that the newest entry of what was found names have the same sets on every metadata device in this image.
 abbrev pub AreRootsAlike : Found → Image → Type 0
 AreRootsAlike f image = All (IsAlike f image) f.last.entry.roots
+
+-- ---- copies of which blocks are mended
+
+-- Some copy shows this block there.
+abbrev pub Shows : Copies → ℕ → OpenBlock → Type 0
+Shows copies n block = (copy : List (Option OpenBlock)) × Contains copies copy × (block_in copy n ≡ Some block)
+
+-- The same blocks of a node are shown at each block number, on whichever copies: so it is before a node is mended, meanwhile, and then.
+abbrev pub ShowTheSame : List ℕ → ℕ → Copies → Copies → Type 0
+ShowTheSame id birth one other = (n : ℕ) (block : OpenBlock) → IsOfNode id birth block.head → Shows one n block ↔ Shows other n block

@@ -1,10 +1,13 @@
-ghost use Rattle.std.specs.Prelude.{◌≡◌, ◌↔◌, ◌<◌, All, Ok, length};
+ghost use Rattle.std.specs.Prelude.{◌≡◌, ◌↔◌, ◌<◌, ℕ, All, List, Ok, length};
 ghost use Rattle.birth_index.specs.Births.{BirthsDiffer};
 ghost use Rattle.btree_map.specs.Trees.{IsTrees, keys_in};
 ghost use Rattle.dev_model.specs.Disk.{Image};
 ghost use Rattle.image_view.specs.Found.{Found, IsInOrder, found};
+ghost use Rattle.node_store.specs.Answers.{AgreeOn};
+ghost use Rattle.node_store.specs.StoredSets.{Copies, sets_in};
 ghost use Rattle.record_codec.specs.Entries.{IsEntry};
 ghost use Rattle.replay.specs.NodeUpdates.{ChangesNode, EachUpdate, HaveRisen, IsBelowRoot};
+ghost use Rattle.replay.specs.Roots.{ShowTheSame};
 ghost use Rattle.replay.specs.Volumes.{trees_read};
 
 use journal_ring::{leading_entries_are_needed, whole_entries_are_made_of_blocks};
@@ -47,3 +50,10 @@ pub fn updates_change_nodes()
     sets_are_exact();
     opened_blocks_are_sealed();
 }
+
+/// Copies of a node's bucket that show the same blocks of the node, on whichever places, hold the same sets of it, where its places
+/// agree on it. So while a node is mended, and then, its sets are those that it had.
+pub fn mended_copies_hold_the_same_sets()
+    ensures { (id : List ℕ) (birth : ℕ) (one other : Copies) → AgreeOn id birth one
+        → ShowTheSame id birth one other → sets_in other id birth ≡ sets_in one id birth }
+{}
