@@ -54,7 +54,6 @@ use Rattle.vol_types.specs.MapLaws.{IsMap-put_at, IsMap-with_value, IsMap-withou
 use Rattle.vol_types.specs.Maps.{IsMap, value_at, without}
 use Rattle.vol_types.specs.Positions.{greatest_pos, pos_cmp}
 use Rattle.vol_types.specs.declared.keys.Update.{Update}
-use Rattle.vol_types.specs.declared.layout.Layout.{Layout}
 use Rattle.vol_types.specs.declared.pointers.NodePtr.{NodePtr}
 use Rattle.vol_types.specs.declared.pointers.Place.{Place}
 use Rattle.vol_types.specs.declared.positions.Btree.{Btree}

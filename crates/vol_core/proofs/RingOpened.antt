@@ -37,7 +37,6 @@ use Rattle.vol_types.specs.Maps.{value_at}
 use Rattle.vol_types.specs.declared.layout.Layout.{Layout}
 use Rattle.vol_types.specs.declared.pointers.NodePtr.{NodePtr}
 use Rattle.vol_types.specs.declared.pointers.Place.{Place}
-use Rattle.vol_types.specs.declared.positions.Btree.{Btree}
 use Rattle.vol_core.specs.Rested.{IsOnMirrors, KeepsRing, LieOnMirrors, MayKeepRing, last_start}
 use Rattle.vol_core.specs.Safety.{IsCoreSafe, MayBegin}
 use Rattle.vol_core.specs.CoreLaws.{FoundLaws}

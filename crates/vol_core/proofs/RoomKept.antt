@@ -2,7 +2,7 @@
 use Rattle.std.proofs.Common.{◌≡◌, ◌≢◌, ◌≤◌, ◌<◌, ◌+◌, ◌-◌, ◌⊎◌, ⊎_elim, inl, inr, ℕ, zero, suc, Bool, true, false, cond, not, List, [], ◌∷◌, ◌++◌, drop, get_or, length, min, Option, Some, None, refl, sym, ap, subst, ◌∙◌, arith}
 use Rattle.std.proofs.lemmas.Bool.{and_from, and_parts, cases_lt, eq-eqb, eqb-true, le-leb, leb-true, ltb-true, true≢false}
 use Rattle.std.proofs.lemmas.Cmp.{nat_cmp_total}
-use Rattle.std.proofs.lemmas.List.{append-nil, length-append, length-map}
+use Rattle.std.proofs.lemmas.List.{length-append, length-map}
 use Rattle.std.proofs.lemmas.List.Elements.{All-append, All-cons, All-contains, All-head, All-nil, All-tail, All-weaker}
 use Rattle.std.proofs.lemmas.Option.{same_Some}
 use Rattle.std.specs.BTreeMap.{is_at}
@@ -37,14 +37,12 @@ use Rattle.node_writeback.specs.Due.{is_due, is_frozen, is_pinned_up_to, leaf_du
 use Rattle.node_writeback.specs.Durable.{undurable}
 use Rattle.node_writeback.specs.Freezing.{fresh_leaf}
 use Rattle.node_writeback.specs.Placing.{IsFrozenLeaf, moved_pins}
-use Rattle.node_writeback.specs.NodeWork.{NodeWork, first_left, frozen_nodes, left_nodes, with_part_of}
+use Rattle.node_writeback.specs.NodeWork.{NodeWork, first_left, frozen_nodes}
 use Rattle.node_writeback.specs.declared.node.FrozenNode.{FrozenNode}
-use Rattle.node_writeback.specs.declared.node.UnfinishedNode.{UnfinishedNode}
 use Rattle.pin_list.proofs.Least.{some_oldest}
 use Rattle.pin_list.specs.Pins.{IsOldest, least_pin, smaller, with_pin}
 use Rattle.tree_nodes.specs.Levels.{Levels}
 use Rattle.vol_types.specs.LayoutLaws.{layout_found}
-use Rattle.vol_types.specs.Limits.{bucket_blocks}
 use Rattle.vol_types.specs.MapLaws.{value_at-put_at, value_at-with_value}
 use Rattle.vol_types.specs.Maps.{IsMap, put_at, value_at}
 use Rattle.vol_types.specs.declared.keys.Update.{Update}
