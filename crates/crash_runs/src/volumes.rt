@@ -66,8 +66,9 @@ pub const FORMAT_THREE: Trial<'static> = Trial {
 
 /// How many calls a run on a fresh volume of one device makes before its first line. 2 superblock copies, 2 sessions, 256 blocks of
 /// the journal and 16 of each of nine roots are read; the next session is written and flushed; and the only entry is read once
-/// more, as the journal is mended. On two devices with two replicas of everything it makes twice as many.
-pub const MOUNTING: u64 = 407;
+/// more, as the journal is mended, and so is the block of each root's set, as the roots are. On two devices with two replicas of everything it
+/// makes twice as many.
+pub const MOUNTING: u64 = 416;
 
 /// Restarts the devices, with what this pick leaves.
 pub fn restart(alloc: Global, devices: &mut MemDevices, pick: Pick) -> Result<(), AllocError> {

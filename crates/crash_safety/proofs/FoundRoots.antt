@@ -7,7 +7,7 @@ use Rattle.std.specs.Prelude.{All, Contains, IfSome, slice_get}
 use Rattle.dev_model.specs.Devices.{DevicesState, now}
 use Rattle.dev_model.specs.Disk.{Image, as_read, block_at}
 use Rattle.image_view.specs.BaseLaws.{found-mirrored, found-trees}
-use Rattle.image_view.specs.Found.{Found, IsAlike, IsMirrored, found, sets_in, updates_of}
+use Rattle.image_view.specs.Found.{Found, IsAlike, IsMirrored, PlacesAgree, found, sets_in, updates_of}
 use Rattle.image_view.specs.NewNodes.{AreLeafRoots, leaf_trees, root_end, wanted_root}
 use Rattle.image_view.specs.Trees.{SetsOf, TreesRead, nodes_of, with_roots}
 use Rattle.image_view.specs.UpdatedTrees.{IsOfLeaf, with_key_updates}
@@ -20,6 +20,7 @@ use Rattle.node_store.specs.NodeContents.{NodeContent}
 use Rattle.record_codec.specs.Entries.{IsEntry}
 use Rattle.replay.specs.Mending.{HasMended, IsInOrderOn}
 use Rattle.replay.specs.NodeUpdates.{EachUpdate, IsBelowRoot}
+use Rattle.replay.specs.Roots.{AreRootsAlike}
 use Rattle.vol_types.specs.Btrees.{btree_code}
 use Rattle.vol_types.specs.KeyMaps.{IsKeyMap}
 use Rattle.vol_types.specs.declared.keys.Update.{Update}
@@ -78,7 +79,7 @@ updates_of_leaves roots nine leaves (e ∷ es) are below =
 
 -- ---- what was found
 
-module _ (laws : FoundLaws) (f : Found) (state : DevicesState) (mended : HasMended f (length f.needed) (now state)) (leaves : All (λ (root : NodePtr). root.level ≡ 0) f.last.entry.roots) (below : EachUpdate f (IsBelowRoot f.last.entry.roots)) where
+module _ (laws : FoundLaws) (f : Found) (state : DevicesState) (mended : HasMended f (length f.needed) (now state)) (alike : AreRootsAlike f (as_read (now state))) (leaves : All (λ (root : NodePtr). root.level ≡ 0) f.last.entry.roots) (below : EachUpdate f (IsBelowRoot f.last.entry.roots)) where
   abbrev image : Image
   image = as_read (now state)
 
@@ -115,8 +116,8 @@ module _ (laws : FoundLaws) (f : Found) (state : DevicesState) (mended : HasMend
 
   -- The end of a root's sets is one that was found.
   has_end : (btree : Btree) (root : NodePtr) → slice_get roots (btree_code btree) ≡ Some root → IsAlike f image root → AreAlike (content btree).end (copies_at (block_at image) root.places)
-  has_end btree root at alike =
-      alike (root_end content (btree, root))
+  has_end btree root at same =
+      same (root_end content (btree, root))
       (subst (λ (t : TreesRead). Contains t.ends (root_end content (btree, root))) (sym trees_are)
       (contained_map (root_end content) (with_roots roots) (btree, root) (contained_at (with_roots roots) (btree_code btree) (btree, root) (with_root roots nine btree root at))))
       refl
@@ -128,7 +129,8 @@ module _ (laws : FoundLaws) (f : Found) (state : DevicesState) (mended : HasMend
       leaf = leaf_at btree root at;
       reads = leaf_roots.each btree root at;
       mirrored = all_at (IsMirrored f.layout) roots (subst (All (IsMirrored f.layout)) nodes_are (found-mirrored image f on.on.finds)) (btree_code btree) root at;
-      alike = has_end btree root at (all_at (IsAlike f image) roots (subst (All (IsAlike f image)) nodes_are on.order.copies) (btree_code btree) root at);
+      alike = has_end btree root at (all_at (IsAlike f image) roots alike (btree_code btree) root at);
+      agree = all_at (PlacesAgree f.layout.id image) roots (subst (All (PlacesAgree f.layout.id image)) nodes_are on.order.agree.each) (btree_code btree) root at;
       born = all_at (λ (r : NodePtr). r.birth < (f.session + 1) * 2 ^ 32) roots (subst (All (λ (r : NodePtr). r.birth < (f.session + 1) * 2 ^ 32)) nodes_are on.order.births) (btree_code btree) root at;
       placed = each_places (IsNodePlaced f.layout) roots (subst (λ (ns : List NodePtr). All (IsNodePlaced f.layout) (flat_map (λ (r : NodePtr). r.places) ns)) nodes_are on.on.placed.each) (btree_code btree) root at;
       left = λ other may k d lower n few. ap (λ (i : Image). block_at i (get_or root.places k d).dev ((get_or root.places k d).block + n)) (sym (on.on.quiet other may));

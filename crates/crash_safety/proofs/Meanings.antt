@@ -1,12 +1,13 @@
 -- What an image means that a crash left while the next entry is written: what was found, or that with the entry, in order.
-use Rattle.std.proofs.Common.{◌≡◌, ◌⊎◌, inl, inr, ⊎_elim, ℕ, ◌+◌, ◌<◌, ◌≤◌, List, [], ◌∷◌, ◌++◌, length, drop, get_or, Option, Some, None, Ok, sym, subst, ◌∙◌, arith}
-use Rattle.std.specs.Prelude.{All, IfSome}
+use Rattle.std.proofs.Common.{◌≡◌, ◌⊎◌, inl, inr, ⊎_elim, ℕ, ◌+◌, ◌<◌, ◌≤◌, List, [], ◌∷◌, ◌++◌, length, drop, get_or, Option, Some, None, Ok, sym, ◌∙◌, arith}
+use Rattle.std.specs.Prelude.{IfSome}
 use Rattle.dev_model.specs.Crashes.{SameBut}
 use Rattle.dev_model.specs.Disk.{Disk, Image}
-use Rattle.image_view.specs.BaseLaws.{copies-same, found-newest, found-same}
+use Rattle.image_view.specs.BaseLaws.{found-newest, found-same}
 use Rattle.image_view.specs.Bases.{AgreeOnBase, AgreeOnNodes}
 use Rattle.image_view.specs.CrashEntries.{OnlyHeldEntriesOpen}
-use Rattle.image_view.specs.Found.{Found, IsAlike, IsInOrder, found, node_places, sets_in, updates_of}
+use Rattle.image_view.specs.CopyLaws.{agree-same}
+use Rattle.image_view.specs.Found.{Found, IsInOrder, found, node_places, sets_in, updates_of}
 use Rattle.image_view.specs.Mends.{IsPlaceOf}
 use Rattle.image_view.specs.NewNodes.{AreNodesInOrder}
 use Rattle.image_view.specs.NextEntries.{AreNumberedBelow, HoldOldOrNext, IsNext, IsToldApart, IsWritten, with_entry}
@@ -17,7 +18,6 @@ use Rattle.journal_ring.specs.EntryBlocks.{AreEntryBlocks, parts_of, ring_block}
 use Rattle.journal_ring.specs.Parts.{Area, AreSame, area_of}
 use Rattle.journal_ring.specs.declared.found.FoundEntry.{FoundEntry}
 use Rattle.key_meaning.specs.Checks.{AreNodesPlaced}
-use Rattle.node_store.specs.Answers.{AreAlike}
 use Rattle.vol_types.specs.declared.layout.Layout.{Layout}
 use Rattle.crash_safety.specs.Standing.{AgreeOnWriting, AgreesBut, HoldKnown}
 use Rattle.crash_safety.specs.Writings.{IsAsked, IsWriting, Writing, after}
@@ -55,11 +55,6 @@ abbrev pub IsMeantBy : Found → Option Writing → Image → Type 0
 IsMeantBy f None image = IsMeant f image
 IsMeantBy f (Some w) image = IsMeant f image ⊎ IsMeant (after w f) image
 
--- The copies of nodes that stand as they did are alike.
-alike_again : (f : Found) (one other : Image) → AgreeOnBase f one other → All (IsAlike f one) (nodes_of f.trees.nodes) → All (IsAlike f other) (nodes_of f.trees.nodes)
-alike_again f one other agree alike = λ k d lower end is birth.
-    subst (λ copies. AreAlike end.block copies) (sym (copies-same one other (get_or (nodes_of f.trees.nodes) k d).places (agree.nodes k d lower))) (alike k d lower end is birth)
-
 -- While no entry is written, an image that agrees on the base and on the journal areas means the same.
 module _ (laws : ImageLaws) (f : Found) (image : Image) (finds : found image ≡ Ok f) (order : IsInOrder f image) (other : Image) (agrees : AgreesBut f (IsAsked f.layout None 0) image other) where
   pub same_area : AreSame f.layout (area_of image) (area_of other)
@@ -82,7 +77,7 @@ module _ (laws : ImageLaws) (f : Found) (image : Image) (finds : found image ≡
           others = λ x parts made. order.others x parts (laws.same_made f.layout (area_of other) (area_of image) x parts some (λ dev place mirror within. sym (same_area dev place mirror within)) made);
           owners = λ dev place bytes head mirror within stands. order.owners dev place bytes head mirror within (same_area dev place mirror within ∙ stands);
           levels = order.levels;
-          copies = alike_again f image other agrees.base order.copies;
+          agree = record { each = agree-same f.layout.id image other (nodes_of f.trees.nodes) agrees.base.nodes order.agree.each };
           births = order.births;
         };
       }

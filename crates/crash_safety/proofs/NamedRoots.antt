@@ -1,15 +1,14 @@
 -- An entry that names nine leaves may be put in flight.
 use Rattle.std.proofs.Common.{◌≡◌, ℕ, ◌*◌, ◌+◌, ◌<◌, ◌^◌, List, [], ◌∷◌, ◌++◌, length, map, take, drop, None, Some, Ok, sym, ap, subst, ◌∙◌}
 use Rattle.std.proofs.lemmas.List.{append-nil, take-append-drop}
-use Rattle.std.proofs.lemmas.List.Elements.{All-append, All-contains, All-from_recursion, All-map}
-use Rattle.std.proofs.lemmas.Option.{same_Some}
+use Rattle.std.proofs.lemmas.List.Elements.{All-append}
 use Rattle.std.specs.List.{flat_map}
-use Rattle.std.specs.Prelude.{All, slice_get}
+use Rattle.std.specs.Prelude.{All}
 use Rattle.dev_model.specs.Devices.{DevicesState, now}
-use Rattle.dev_model.specs.Disk.{Image, as_read, block_at}
+use Rattle.dev_model.specs.Disk.{Image, as_read}
 use Rattle.image_view.specs.Bases.{AgreeOnNode}
 use Rattle.image_view.specs.EntryUpdates.{updates_of-append}
-use Rattle.image_view.specs.Found.{Found, IsAlike, IsMirrored, sets_in, updates_of}
+use Rattle.image_view.specs.Found.{Found, IsMirrored, PlacesAgree, sets_in, updates_of}
 use Rattle.image_view.specs.NewNodes.{AreLeafRoots, AreNodesInOrder, leaf_trees, root_end}
 use Rattle.image_view.specs.NextEntries.{IsNext}
 use Rattle.image_view.specs.Trees.{TreesRead, trees_of, with_roots}
@@ -21,20 +20,16 @@ use Rattle.crash_safety.specs.Safety.{IsJournalSafe}
 use Rattle.crash_safety.specs.Standing.{AreNodesLeft}
 use Rattle.crash_safety.specs.Writings.{IsWriting, Writing, after}
 use Rattle.key_meaning.specs.Checks.{AreNodesPlaced}
-use Rattle.node_store.specs.Answers.{AreAlike}
-use Rattle.node_store.specs.Copies.{copies_at}
 use Rattle.node_store.specs.NodeContents.{NodeContent}
-use Rattle.vol_types.specs.Btrees.{btree_code}
 use Rattle.vol_types.specs.KeyMapLaws.{same_key_maps, with_updates-append}
 use Rattle.vol_types.specs.KeyMaps.{KeyMap, entries_of, with_updates}
 use Rattle.vol_types.specs.declared.keys.Update.{Update}
 use Rattle.vol_types.specs.declared.layout.Layout.{Layout}
-use Rattle.vol_types.specs.declared.pointers.NodeEnd.{NodeEnd}
 use Rattle.vol_types.specs.declared.pointers.NodePtr.{NodePtr}
 use Rattle.vol_types.specs.declared.positions.Btree.{Btree}
 use Rattle.crash_safety.specs.Leaves.{StandAsLeaves, leaf_keys, leaf_nodes}
 use Rattle.crash_safety.specs.Naming.{leaf_writing}
-use Rattle.crash_safety.proofs.NineRoots.{all_right, each_pair, each_root, root_nodes}
+use Rattle.crash_safety.proofs.NineRoots.{all_right, each_root, root_nodes}
 
 -- What is known of trees of leaves.
 pub record LeafTreeLaws : Type 0 where
@@ -83,22 +78,10 @@ module _ (f : Found) (state : DevicesState) (roots : List NodePtr) (content : Bt
       ∙ laws.joined f.layout image [] updates roots (leaf_trees roots content) (laws.leaves f.layout image roots content (leaf_roots f.layout f.session roots content state stand)) stand.nine (next_of_leaves passed f.needed next leaves more)
       ∙ ap (λ (ks : KeyMap). Ok (record { keys = ks; nodes = leaf_nodes roots; ends = map (root_end content) (with_roots roots) })) keys
 
-  -- The copies of each root are alike up to the end of its sets.
-  alike_up_to : (root : NodePtr) (place : ℕ) → slice_get roots place ≡ Some root → IsAlike (after w f) image root
-  alike_up_to root place at end is_end birth = All-contains (λ (e : NodeEnd). e.birth ≡ root.birth → AreAlike e.block (copies_at (block_at image) root.places)) (map (root_end content) (with_roots roots)) end
-      (All-map (λ (e : NodeEnd). e.birth ≡ root.birth → AreAlike e.block (copies_at (block_at image) root.places)) (root_end content) (with_roots roots)
-      (All-from_recursion (λ (pair : Btree × NodePtr). pair.1.birth ≡ root.birth → AreAlike (content pair.0).end (copies_at (block_at image) root.places)) (with_roots roots)
-      (each_pair (λ (pair : Btree × NodePtr). pair.1.birth ≡ root.birth → AreAlike (content pair.0).end (copies_at (block_at image) root.places)) roots stand.nine
-      (λ btree other there born.
-      let same : btree_code btree ≡ place = stand.births (btree_code btree) place other root there at born in
-      let one : other ≡ root = same_Some other root (sym there ∙ ap (slice_get roots) same ∙ at) in
-      subst (λ (r : NodePtr). AreAlike (content btree).end (copies_at (block_at image) r.places)) one (stand.each btree other there).alike))))
-      is_end birth
-
   in_order : AreNodesInOrder (after w f) image
   in_order = record {
     places = subst (All (IsMirrored f.layout)) (sym (root_nodes roots)) (each_root (IsMirrored f.layout) roots stand.nine (λ btree root at. (stand.each btree root at).mirrored));
-    copies = subst (All (IsAlike (after w f) image)) (sym (root_nodes roots)) (each_root (IsAlike (after w f) image) roots stand.nine (λ btree root at. alike_up_to root (btree_code btree) at));
+    agree = record { each = subst (All (PlacesAgree f.layout.id image)) (sym (root_nodes roots)) (each_root (PlacesAgree f.layout.id image) roots stand.nine (λ btree root at. (stand.each btree root at).agree)) };
     births = subst (All (λ (root : NodePtr). root.birth < (f.session + 1) * 2 ^ 32)) (sym (root_nodes roots))
         (each_root (λ (root : NodePtr). root.birth < (f.session + 1) * 2 ^ 32) roots stand.nine (λ btree root at. (stand.each btree root at).born));
   }

@@ -1,21 +1,19 @@
 -- The blocks of a new node that stand while one more is written, and the leaf that stands once all do.
-use Rattle.std.proofs.Common.{◌≡◌, ⊎_elim, ℕ, zero, suc, ◌+◌, ◌<◌, ◌≤◌, List, [], ◌∷◌, ◌++◌, Option, None, Some, refl, sym, ap, subst, ◌∙◌, arith}
+use Rattle.std.proofs.Common.{◌≡◌, ⊎_elim, ℕ, ◌+◌, ◌<◌, ◌≤◌, List, Option, None, Some, refl, sym, ap, subst, ◌∙◌, arith}
 use Rattle.std.proofs.lemmas.Bool.{cases_lt}
-use Rattle.std.proofs.lemmas.List.Elements.{All-contains, All-contains_itself, All-map, All-weaker}
-use Rattle.std.specs.Prelude.{Contains, option_and_then, slice_index}
+use Rattle.std.proofs.lemmas.List.Elements.{All-weaker}
+use Rattle.std.specs.Prelude.{Contains, slice_index}
 use Rattle.dev_model.specs.Devices.{DevicesState, now}
 use Rattle.dev_model.specs.Disk.{Image, as_read, block_at}
 use Rattle.image_view.specs.BaseLaws.{mirrored-passes, sets_in-comes}
+use Rattle.image_view.specs.CopyLaws.{copies_agree, copies_alike}
 use Rattle.image_view.specs.Found.{IsMirrored}
 use Rattle.image_view.specs.NewNodes.{HoldSame, wanted_root}
 use Rattle.crash_safety.specs.Flushes.{AreSettled}
 use Rattle.key_meaning.specs.Checks.{IsNodePlaced}
-use Rattle.node_store.specs.Answers.{AreAlike}
-use Rattle.node_store.specs.Copies.{block_in, copies_at, copy_at, shown_at, shown_below, shown_in}
 use Rattle.node_store.specs.NodeContents.{content_of}
 use Rattle.node_store.specs.Plans.{HoldBlocks, part_bytes}
 use Rattle.node_store.specs.Writes.{HoldCopies, IsCopyBlock, IsCopyOf}
-use Rattle.node_store.specs.declared.opening.OpenBlock.{OpenBlock}
 use Rattle.node_store.specs.declared.planning.Blocked.{Blocked}
 use Rattle.record_codec.specs.declared.sets.SetRecord.{SetRecord}
 use Rattle.vol_types.specs.Limits.{bucket_blocks}
@@ -55,33 +53,6 @@ module _ (layout : Layout) (fresh : NodePtr) (blocked : Blocked) (part : ℕ) (m
       subst (λ m. HoldCopies blocked.places (blocked.block + m) (part_bytes blocked m) (as_read (now new))) e (is.held refl))
       (cases_lt n part)
 
--- ---- the copies of a node
-
--- Buckets that hold the same show the same.
-below_same : (image : Image) (one other : Place) (count : ℕ) → count ≤ bucket_blocks → ((n : ℕ) → n < bucket_blocks → block_at image one.dev (one.block + n) ≡ block_at image other.dev (other.block + n))
-    → shown_below (block_at image) one count ≡ shown_below (block_at image) other count
-below_same image one other zero few same = refl
-below_same image one other (suc n) few same =
-    ap (λ shown. shown ++ shown_at (block_at image) one n ∷ []) (below_same image one other n (omega (arith, few)) same)
-    ∙ ap (λ bytes. shown_below (block_at image) other n ++ option_and_then shown_in bytes ∷ []) (same n (omega (arith, few)))
-
-copy_same : (image : Image) (one other : Place) → ((n : ℕ) → n < bucket_blocks → block_at image one.dev (one.block + n) ≡ block_at image other.dev (other.block + n)) → copy_at (block_at image) one ≡ copy_at (block_at image) other
-unfolding copy_at
-copy_same image one other same = below_same image one other bucket_blocks (omega arith) same
-
--- The copies of a node whose places hold the same are one.
-copies_same : (image : Image) (node : NodePtr) → HoldSame image node → (one other : List (Option OpenBlock)) → Contains (copies_at (block_at image) node.places) one → Contains (copies_at (block_at image) node.places) other → one ≡ other
-copies_same image node same one other is_one is_other = All-contains (λ copy. copy ≡ other) (copies_at (block_at image) node.places) one
-    (All-map (λ copy. copy ≡ other) (copy_at (block_at image)) node.places (All-weaker (Contains node.places) (λ (p : Place). copy_at (block_at image) p ≡ other)
-    (λ p there. All-contains (λ copy. copy_at (block_at image) p ≡ copy) (copies_at (block_at image) node.places) other
-    (All-map (λ copy. copy_at (block_at image) p ≡ copy) (copy_at (block_at image)) node.places
-    (All-weaker (Contains node.places) (λ (q : Place). copy_at (block_at image) p ≡ copy_at (block_at image) q) (λ q here. copy_same image p q (same p q there here)) node.places (All-contains_itself node.places)))
-    is_other) node.places (All-contains_itself node.places)))
-    is_one
-
-copies_alike : (image : Image) (node : NodePtr) → HoldSame image node → (end : ℕ) → AreAlike end (copies_at (block_at image) node.places)
-copies_alike image node same end one other is_one is_other n lower = ap (λ copy. block_in copy n) (copies_same image node same one other is_one is_other)
-
 -- ---- all blocks
 
 module _ (layout : Layout) (session : ℕ) (btree : Btree) (fresh : NodePtr) (set : SetRecord) (blocked : Blocked) (state : DevicesState) (plan : IsLeafPlanned layout session btree fresh set blocked) (stand : StandParts blocked bucket_blocks state) where
@@ -97,6 +68,9 @@ module _ (layout : Layout) (session : ℕ) (btree : Btree) (fresh : NodePtr) (se
       let at : place.block + (blocked.block + n) ≡ place.block + n = omega (arith, first) in
       subst (λ b. block_at image place.dev b ≡ Some (part_bytes blocked n)) at (stand n few place (subst (λ (ps : List Place). Contains ps place) (sym plan.places) there))
 
+  hold_same : HoldSame image fresh
+  hold_same one other is_one is_other n few = held_at one is_one n few ∙ sym (held_at other is_other n few)
+
   pub leaf_written : AreSettled layout.metadata_replicas (now state) → StandsAsLeaf layout session btree fresh (leaf_content set) state
   leaf_written settled = record {
     leaf = plan.leaf;
@@ -104,7 +78,8 @@ module _ (layout : Layout) (session : ℕ) (btree : Btree) (fresh : NodePtr) (se
         (mirrored-passes layout fresh plan.mirrored (All-weaker (IsNodePlaced layout) (λ (place : Place). place.block + bucket_blocks ≤ slice_index layout.blocks place.dev) (λ place placed. placed.on_device) fresh.places plan.placed))
         ((λ i. content_of (block_at image) layout.id (sym plan.of_btree i) (sym plan.least i) (sym plan.greatest i) fresh) ∙ plan.holds (block_at image) hold);
     mirrored = plan.mirrored;
-    alike = copies_alike image fresh (λ one other is_one is_other n few. held_at one is_one n few ∙ sym (held_at other is_other n few)) (leaf_content set).end;
+    alike = copies_alike image fresh hold_same (leaf_content set).end;
+    agree = copies_agree layout.id image fresh hold_same;
     born = plan.born;
     placed = plan.placed;
     left = λ other may k d lower n few. sym (settled _ (on_mirrors layout fresh plan.mirrored k d lower) other may _);

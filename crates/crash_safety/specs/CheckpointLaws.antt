@@ -13,6 +13,7 @@ use Rattle.journal_ring.specs.Rings.{RingState}
 use Rattle.journal_ring.specs.declared.found.FoundEntry.{FoundEntry}
 use Rattle.replay.specs.Mending.{HasMended}
 use Rattle.replay.specs.NodeUpdates.{EachUpdate, IsBelowRoot}
+use Rattle.replay.specs.Roots.{AreRootsAlike}
 use Rattle.vol_types.specs.KeyMaps.{entries_of, with_updates}
 use Rattle.vol_types.specs.Layouts.{is_layout}
 use Rattle.vol_types.specs.Limits.{bucket_blocks}
@@ -27,12 +28,12 @@ use Rattle.crash_safety.specs.Parts.{IsPartWritten, IsRingOf, standing_by}
 use Rattle.crash_safety.specs.Safety.{IsJournalSafe}
 use Rattle.crash_safety.specs.Writings.{Writing, after}
 
--- What is kept of leaves is so at the opening, where each root that was found is a leaf, and its bucket holds a node (`begins`). It stays so
+-- What is kept of leaves is so at the opening, where each root that was found is a leaf with the same sets on every metadata device, and its bucket holds a node (`begins`). It stays so
 -- where commits pin more (`pins`), where an entry is put in flight that names the roots as they are, which has the durable keys, with its
 -- updates (`seals`), while its parts are written and devices are flushed and read, and where it becomes the last durable one: the buckets are
 -- free then that waited for it (`settles`).
 pub record EntryLaws : Type 0 where
-  pub begins : (f : Found) (state : DevicesState) (l : Leaves) → HasMended f (length f.needed) (now state) → All (λ root. root.level ≡ 0) f.last.entry.roots → EachUpdate f (IsBelowRoot f.last.entry.roots) → f.last.entry.roots ≡ map l.root all_btrees → l.fresh ≡ []
+  pub begins : (f : Found) (state : DevicesState) (l : Leaves) → HasMended f (length f.needed) (now state) → AreRootsAlike f (as_read (now state)) → All (λ root. root.level ≡ 0) f.last.entry.roots → EachUpdate f (IsBelowRoot f.last.entry.roots) → f.last.entry.roots ≡ map l.root all_btrees → l.fresh ≡ []
       → is_layout f.layout ≡ true → AreFixed f.layout l.space → ((btree : Btree) → HoldsOwn l.space (l.root btree)) → ((btree : Btree) → All (MayHoldNode f.layout) (l.root btree).places)
       → ((btree : Btree) (found : FoundEntry) → Contains f.needed found → ChangesBtree btree found.entry.updates → IsPinnedUpTo (l.pin btree) f.last.entry.oldest) → KeepsLeaves f None state l
   pub same : (f : Found) (writing : Option Writing) (state : DevicesState) (one other : Leaves) → KeepsLeaves f writing state one → AreSameLeaves one other → KeepsLeaves f writing state other

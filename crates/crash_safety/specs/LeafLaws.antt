@@ -7,7 +7,7 @@ use Rattle.dev_model.specs.Disk.{Image, IsCrashImage, as_read}
 use Rattle.image_view.specs.BaseLaws.{copies-same, node-same}
 use Rattle.image_view.specs.Bases.{AgreeOnNode}
 use Rattle.crash_safety.specs.Parts.{AsksAt}
-use Rattle.node_store.specs.Answers.{AreAlike}
+use Rattle.node_store.specs.Answers.{AgreeOn, AreAlike}
 use Rattle.node_store.specs.NodeContents.{NodeContent}
 use Rattle.node_store.specs.declared.planning.Blocked.{Blocked}
 use Rattle.vol_types.specs.Limits.{bucket_blocks}
@@ -32,6 +32,7 @@ module _ (layout : Layout) (session : ℕ) (btree : Btree) (root : NodePtr) (con
     reads = node-same layout (as_read (now old)) (as_read (now new)) root same btree least_pos greatest_pos ∙ stands.reads;
     mirrored = stands.mirrored;
     alike = subst (AreAlike content.end) (sym (copies-same (as_read (now old)) (as_read (now new)) root.places same)) stands.alike;
+    agree = subst (AgreeOn layout.id root.birth) (sym (copies-same (as_read (now old)) (as_read (now new)) root.places same)) stands.agree;
     born = stands.born;
     placed = stands.placed;
     left = λ image may k d lower n few. sym (same k d lower n few) ∙ left image may k d lower n few;

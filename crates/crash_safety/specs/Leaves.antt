@@ -4,7 +4,7 @@ use Rattle.std.specs.List.{flat_map}
 use Rattle.dev_model.specs.Devices.{DevicesState, now}
 use Rattle.dev_model.specs.Disk.{Image, IsCrashImage, as_read, block_at}
 use Rattle.image_view.specs.Bases.{AgreeOnNode}
-use Rattle.image_view.specs.Found.{IsMirrored, sets_in}
+use Rattle.image_view.specs.Found.{IsMirrored, PlacesAgree, sets_in}
 use Rattle.image_view.specs.NewNodes.{wanted_root}
 use Rattle.key_meaning.specs.Checks.{AreNodesPlaced, IsNodePlaced}
 use Rattle.node_store.specs.Answers.{AreAlike}
@@ -42,13 +42,14 @@ pub record AreNodesApart (one other : NodePtr) : Type 0 where
   pub second : All IsFirstBlock other.places
   pub apart : All (λ place. All (AreInOwnBuckets place) other.places) one.places
 
--- The root is a leaf that stands on every metadata device: there its sets come to this content, and its copies are alike up to their end;
--- it was born in a session up to this one, and lies where nodes may; and a crash leaves its buckets as they are read.
+-- The root is a leaf that stands on every metadata device: there its sets come to this content, and its copies are alike up to their end and
+-- agree behind it; it was born in a session up to this one, and lies where nodes may; and a crash leaves its buckets as they are read.
 pub record StandsAsLeaf (layout : Layout) (session : ℕ) (btree : Btree) (root : NodePtr) (content : NodeContent) (state : DevicesState) : Type 0 where
   pub leaf : root.level ≡ 0
   pub reads : sets_in layout (as_read (now state)) (wanted_root btree root) ≡ Ok content
   pub mirrored : IsMirrored layout root
   pub alike : AreAlike content.end (copies_at (block_at (as_read (now state))) root.places)
+  pub agree : PlacesAgree layout.id (as_read (now state)) root
   pub born : root.birth < (session + 1) * 2 ^ 32
   pub placed : All (IsNodePlaced layout) root.places
   pub left : (image : Image) → IsCrashImage (now state) image → AgreeOnNode (as_read (now state)) image root

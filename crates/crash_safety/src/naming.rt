@@ -11,6 +11,7 @@ ghost use Rattle.crash_safety.specs.Writings.{after};
 ghost use Rattle.node_store.specs.NodeContents.{NodeContent};
 ghost use Rattle.replay.specs.Mending.{HasMended};
 ghost use Rattle.replay.specs.NodeUpdates.{EachUpdate, IsBelowRoot};
+ghost use Rattle.replay.specs.Roots.{AreRootsAlike};
 ghost use Rattle.vol_types.specs.KeyMaps.{entries_of, with_updates};
 ghost use Rattle.vol_types.specs.declared.pointers.NodePtr.{NodePtr as ANode};
 ghost use Rattle.vol_types.specs.declared.positions.Btree.{Btree as ABtree};
@@ -21,10 +22,11 @@ use crate::entries_are_written_safely;
 use image_view::{new_nodes_hold_the_keys, updates_of_leaves_join_the_keys};
 use replay::found_btrees_are_a_key_map;
 
-/// A volume that was opened and mended, whose roots are leaves, stands on nine leaves: its keys are what the updates of the needed entries
-/// make of theirs, where none of these is above its root.
+/// A volume that was opened and mended, whose roots are leaves with the same sets on every metadata device, stands on nine leaves: its keys are
+/// what the updates of the needed entries make of theirs, where none of these is above its root.
 pub fn found_roots_are_leaves()
     ensures { (f : Found) (state : DevicesState) → HasMended f (length f.needed) (now state)
+        → AreRootsAlike f (as_read (now state))
         → All (λ root. root.level ≡ 0) f.last.entry.roots
         → EachUpdate f (IsBelowRoot f.last.entry.roots) → LeadsToLeaves f state }
 {

@@ -25,12 +25,13 @@ fn layout_before(alloc: Global) -> Result<Layout, AllocError> {
 }
 
 // Two sets of two and of three blocks, of which each place lost some, a bit for each; up to which block they are mended, which
-// call of that fails, and what it answers; and whether both sets stand then on the first place, and on the second one.
+// calls of that fail, and what it answers; and whether both sets stand then on the first place, and on the second one.
 #[derive(Clone, Copy)]
 struct Case {
     lost: (u8, u8),
     end: u8,
     fails: Option<u64>,
+    fails_too: Option<u64>,
     answer: Result<(), DiskFault>,
     stand: (bool, bool),
 }
@@ -39,13 +40,12 @@ const MENDED: Case = Case {
     lost: (0b00001, 0b00000),
     end: 5,
     fails: None,
+    fails_too: None,
     answer: Ok(()),
     stand: (true, true),
 };
 
-// The calls of mending a first block that the first place lacks: it is read on both places, read again, written and flushed on the
-// first one, and read again on the second one.
-static CASES: [Case; 17] = [
+static LOST: [Case; 10] = [
     MENDED,
     Case {
         lost: (0b00000, 0b00000),
@@ -90,23 +90,66 @@ static CASES: [Case; 17] = [
         stand: (false, true),
         ..MENDED
     },
-    // Reads that fail end nothing: another place has the block, or it is left.
+];
+
+// The calls of mending a first block that the first place lacks: it is read on both places, and read again, written and flushed on
+// the first one. Of one that the second place lacks: it is read on both places, and written and flushed on the second one. A block
+// that both have is read once on each.
+static FAILING: [Case; 14] = [
+    // Where a read fails another place has the block, and it is written where it can't be read.
     Case {
         fails: Some(0),
         ..MENDED
     },
     Case {
-        fails: Some(1),
-        stand: (false, true),
+        fails: Some(2),
         ..MENDED
     },
     Case {
-        fails: Some(2),
-        stand: (false, true),
+        fails: Some(0),
+        fails_too: Some(2),
         ..MENDED
     },
     Case {
         fails: Some(5),
+        fails_too: Some(7),
+        ..MENDED
+    },
+    Case {
+        fails: Some(6),
+        ..MENDED
+    },
+    Case {
+        lost: (0b00000, 0b00001),
+        fails: Some(1),
+        ..MENDED
+    },
+    // A block that no place shows, while one of them can't be read, ends it.
+    Case {
+        fails: Some(1),
+        answer: Err(DiskFault::DeviceFault(1)),
+        stand: (false, true),
+        ..MENDED
+    },
+    Case {
+        lost: (0b00000, 0b00001),
+        fails: Some(0),
+        answer: Err(DiskFault::DeviceFault(0)),
+        stand: (true, false),
+        ..MENDED
+    },
+    Case {
+        lost: (0b00010, 0b00010),
+        fails: Some(2),
+        answer: Err(DiskFault::DeviceFault(0)),
+        stand: (false, false),
+        ..MENDED
+    },
+    Case {
+        lost: (0b00010, 0b00010),
+        fails: Some(3),
+        answer: Err(DiskFault::DeviceFault(1)),
+        stand: (false, false),
         ..MENDED
     },
     // Writes and flushes that fail end it.
@@ -123,7 +166,14 @@ static CASES: [Case; 17] = [
     },
     Case {
         lost: (0b00000, 0b00001),
-        fails: Some(4),
+        fails: Some(2),
+        answer: Err(DiskFault::DeviceFault(1)),
+        stand: (true, false),
+        ..MENDED
+    },
+    Case {
+        lost: (0b00000, 0b00001),
+        fails: Some(3),
         answer: Err(DiskFault::DeviceFault(1)),
         ..MENDED
     },
@@ -135,9 +185,9 @@ fn mend(alloc: Global, devices: &mut MemDevices, end: u8) -> Result<Result<(), D
     Ok(mend_node(alloc, devices, &layout, &node, end))
 }
 
-fn fail(devices: &mut MemDevices, call: Option<u64>) -> Result<(), Fail> {
+fn fail(devices: &mut MemDevices, first: u64, call: Option<u64>) -> Result<(), Fail> {
     if let Some(call) = call {
-        let number = devices.calls().saturating_add(call);
+        let number = first.saturating_add(call);
         devices.fail_at(&[number])?;
     }
     Ok(())
@@ -154,7 +204,9 @@ fn without(
     put_two_sets(alloc, devices)?;
     lose(devices, FIRST, case.lost.0, &zeros)?;
     lose(devices, SECOND, case.lost.1, &zeros)?;
-    fail(devices, case.fails)?;
+    let first = devices.calls();
+    fail(devices, first, case.fails)?;
+    fail(devices, first, case.fails_too)?;
     let answer = mend(alloc, devices, case.end)?;
     lose(devices, wiped, 0xff, &zeros)?;
     Ok((answer, outcome(alloc, devices)? == read_of(LATER, 5, true)))
@@ -166,9 +218,9 @@ fn is_so(alloc: Global, case: &Case, wiped: Place, stands: bool) -> Result<bool,
 }
 
 // The number of the first case that ends otherwise.
-fn first_other(alloc: Global) -> Result<Option<u32>, Fail> {
+fn first_other(alloc: Global, cases: &[Case]) -> Result<Option<u32>, Fail> {
     let mut number: u32 = 0;
-    for case in CASES.iter() {
+    for case in cases.iter() {
         if !is_so(alloc, case, SECOND, case.stand.0)? || !is_so(alloc, case, FIRST, case.stand.1)? {
             return Ok(Some(number));
         }
@@ -179,6 +231,12 @@ fn first_other(alloc: Global) -> Result<Option<u32>, Fail> {
 
 #[test]
 fn places_that_lost_blocks(rt: HostRuntime) -> Result<(), Fail> {
-    assert!(rt; first_other(rt.alloc())? == None);
+    assert!(rt; first_other(rt.alloc(), &LOST)? == None);
+    Ok(())
+}
+
+#[test]
+fn calls_of_mending_that_fail(rt: HostRuntime) -> Result<(), Fail> {
+    assert!(rt; first_other(rt.alloc(), &FAILING)? == None);
     Ok(())
 }

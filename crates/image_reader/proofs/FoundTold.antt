@@ -5,7 +5,7 @@ use Rattle.std.specs.Option.{ok_or, option_map_or}
 use Rattle.dev_model.specs.Disk.{Image}
 use Rattle.geometry.specs.Sessions.{session_in}
 use Rattle.geometry.specs.Superblocks.{layout_in}
-use Rattle.image_view.specs.Found.{Found, found, sets_in, super_fault, updates_of}
+use Rattle.image_view.specs.Found.{Found, NodesAgree, PlacesAgree, found, sets_in, super_fault, updates_of}
 use Rattle.image_view.specs.Trees.{BtreeRead, SetsOf, TreesRead, btree_of, each_of, first_place, first_twin, joined, nodes_of, trees_of, with_own_births, with_roots}
 use Rattle.image_view.specs.declared.fault.MountFault.{MountFault}
 use Rattle.image_view.specs.declared.fault.MountFault.TheVariants.{NoSuper, Version, Mixed, BadLayout, NoEntry, MissingEntry, BadNode, Unsound, DeviceFault, NoMemory}
@@ -18,7 +18,7 @@ use Rattle.vol_types.specs.declared.keys.Update.{Update}
 use Rattle.vol_types.specs.declared.layout.Layout.{Layout}
 use Rattle.vol_types.specs.declared.pointers.NodePtr.{NodePtr}
 use Rattle.vol_types.specs.declared.pointers.Place.{Place}
-use Rattle.image_reader.specs.Answers.{AreSureBtrees, AreSureTrees, Finds, IsEarly, IsRead, NodesAgree, PlacesAgree, Tells}
+use Rattle.image_reader.specs.Answers.{AreSureBtrees, AreSureTrees, Finds, IsEarly, IsRead, Tells}
 use Rattle.image_reader.specs.Faults.{failed_mount_device, mount_fault, mount_fault_device}
 use Rattle.image_reader.specs.Volumes.{btree_in, entries_in, found_of, last_of, with_last}
 use Rattle.image_reader.specs.declared.fault.TreeFault.{TreeFault}

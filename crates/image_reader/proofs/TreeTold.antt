@@ -7,6 +7,7 @@ use Rattle.std.proofs.lemmas.Grind.{flat_map-append}
 use Rattle.std.proofs.lemmas.List.{map-append}
 use Rattle.std.proofs.lemmas.List.Elements.{All-cons, All-head, All-nil, All-tail}
 use Rattle.dev_model.specs.Disk.{Image}
+use Rattle.image_view.specs.Found.{PlacesAgree}
 use Rattle.image_view.specs.Trees.{BtreeRead, NodeRead, SetsOf, btree_of, children_of, each_of, ends_of, nodes_of, read_down, read_level}
 use Rattle.key_codec.specs.Combined.{bind_ok, ok_is}
 use Rattle.key_codec.specs.Formats.{◌>>=◌}
@@ -16,7 +17,7 @@ use Rattle.vol_types.specs.declared.keys.Update.{Update}
 use Rattle.vol_types.specs.declared.pointers.NodePtr.{NodePtr}
 use Rattle.vol_types.specs.declared.pointers.Place.{Place}
 use Rattle.vol_types.specs.declared.positions.Btree.{Btree}
-use Rattle.image_reader.specs.Answers.{AreSureBtrees, IsSureBtree, PlacesAgree, Tells}
+use Rattle.image_reader.specs.Answers.{AreSureBtrees, IsSureBtree, Tells}
 use Rattle.image_reader.specs.Nodes.{joined_levels, node_in}
 use Rattle.image_reader.specs.declared.nodes.FoundNode.{FoundNode}
 use Rattle.image_reader.specs.declared.fault.TreeFault.{TreeFault}

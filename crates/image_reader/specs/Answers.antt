@@ -6,7 +6,7 @@ use Rattle.std.specs.Option.{ok_or}
 use Rattle.dev_model.specs.Disk.{Image, block_at}
 use Rattle.geometry.specs.Sessions.{session_in}
 use Rattle.geometry.specs.Superblocks.{layout_in}
-use Rattle.image_view.specs.Found.{Found, found, super_fault}
+use Rattle.image_view.specs.Found.{Found, PlacesAgree, found, super_fault}
 use Rattle.image_view.specs.Trees.{BtreeRead, TreesRead, nodes_of}
 use Rattle.image_view.specs.declared.fault.MountFault.{MountFault}
 use Rattle.image_view.specs.declared.fault.MountFault.TheVariants.{NoSuper, Version, Mixed, BadLayout, NoEntry, MissingEntry, BadNode, Unsound, DeviceFault, NoMemory}
@@ -14,7 +14,7 @@ use Rattle.journal_ring.specs.declared.found.FoundEntry.{FoundEntry}
 use Rattle.journal_ring.specs.Entries.{IsWhole}
 use Rattle.journal_ring.specs.Parts.{Area, area_of}
 use Rattle.key_codec.specs.Formats.{carried}
-use Rattle.node_store.specs.Answers.{AgreeOn, AreAlike}
+use Rattle.node_store.specs.Answers.{AreAlike}
 use Rattle.node_store.specs.Copies.{copies_at}
 use Rattle.node_store.specs.StoredSets.{sets_of}
 use Rattle.node_store.specs.declared.sets.StoredSets.{StoredSets}
@@ -62,14 +62,6 @@ abbrev pub IsNotLate : MountFault → Type 0
 IsNotLate (BadNode place) = ⊥
 IsNotLate (Unsound check) = ⊥
 IsNotLate fault = ⊤
-
--- The places of a node agree on it: no two of them show different blocks of its sets at one block of the bucket.
-abbrev pub PlacesAgree : List ℕ → Image → NodePtr → Type 0
-PlacesAgree id image pointer = AgreeOn id pointer.birth (copies_at (block_at image) pointer.places)
-
--- The places of each node that was found agree on it.
-pub record NodesAgree (image : Image) (f : Found) : Type 0 where
-  pub each : All (PlacesAgree f.layout.id image) (nodes_of f.trees.nodes)
 
 -- The places of a node don't all show the same blocks up to the end of its sets.
 pub record IsRagged (id : List ℕ) (image : Image) (pointer : NodePtr) : Type 0 where

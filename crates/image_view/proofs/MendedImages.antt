@@ -27,7 +27,8 @@ use Rattle.vol_types.specs.declared.layout.Layout.{Layout}
 use Rattle.vol_types.specs.declared.pointers.NodePtr.{NodePtr}
 use Rattle.vol_types.specs.declared.pointers.Place.{Place}
 use Rattle.image_view.proofs.CrashNewest.{Again, AreWhole}
-use Rattle.image_view.proofs.OtherSession.{all_of_each, alike-same}
+use Rattle.image_view.proofs.OtherSession.{all_of_each}
+use Rattle.image_view.specs.CopyLaws.{agree-same}
 use Rattle.image_view.specs.BaseLaws.{found-again, found-layout, found-newest, found-session, greatest_session-same}
 use Rattle.image_view.specs.Bases.{AgreeAt, AgreeInBucket, AgreeOnNode, AgreeOnNodes, IsNewest}
 use Rattle.image_view.specs.Found.{FollowOn, Found, IsInOrder, PassesNone, found, node_places}
@@ -331,6 +332,6 @@ module _ (laws : JournalLaws) (one other : Image) (f : Found) (is : found one �
         order.owners part.dev part.place (get_or blocks own.0 []) head part.mirror part.within part.stands (subst (λ (x : List ℕ). opened x ≡ Some head) own.2 opens) kind id)
         (stood dev place bytes head mirror within stands opens);
     levels = order.levels;
-    copies = alike-same f one other (nodes_of f.trees.nodes) nodes_mended.nodes order.copies;
+    agree = record { each = agree-same f.layout.id one other (nodes_of f.trees.nodes) nodes_mended.nodes order.agree.each };
     births = order.births;
   }

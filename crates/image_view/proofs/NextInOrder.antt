@@ -1,7 +1,7 @@
 -- Once the next entry stands on every metadata device it is whole and the newest, and what is found with it is in order.
 use Rattle.std.proofs.Common.{◌≡◌, ◌⊎◌, inl, ⊎_elim, ℕ, ◌+◌, ◌*◌, ◌<◌, ◌≤◌, ◌^◌, List, [], ◌∷◌, ◌++◌, length, drop, get_or, Some, Ok, sym, ap, subst, ◌∙◌, arith}
 use Rattle.std.proofs.lemmas.List.Elements.{All-drop, All-from_get_or, All-push, All-weaker}
-use Rattle.std.specs.Prelude.{All, Contains}
+use Rattle.std.specs.Prelude.{All}
 use Rattle.dev_model.specs.Disk.{Image}
 use Rattle.journal_ring.specs.Entries.{IsMadeOf, IsWholeOn, entry_on}
 use Rattle.journal_ring.specs.EntryBlocks.{AreEntryBlocks, HoldBlocks, parts_of}
@@ -11,17 +11,16 @@ use Rattle.journal_ring.specs.declared.found.FoundEntry.{FoundEntry}
 use Rattle.record_codec.specs.declared.entries.EntryRecord.{EntryRecord}
 use Rattle.record_codec.specs.Entries.{IsEntry}
 use Rattle.vol_types.specs.declared.layout.Layout.{Layout}
-use Rattle.vol_types.specs.declared.pointers.NodeEnd.{NodeEnd}
 use Rattle.vol_types.specs.declared.pointers.NodePtr.{NodePtr}
 use Rattle.image_view.proofs.NeededEntries.{AreNeeded, are_needed, places_of, some_places}
 use Rattle.image_view.proofs.NextBlocks.{BlockLaws}
 use Rattle.image_view.proofs.NextBase.{ends_before, follow_kept, room_for}
 use Rattle.image_view.proofs.NextStands.{made_or_next, next_made_whole, owners_stay}
 use Rattle.image_view.proofs.NextNewest.{EachPasses, next_newest, other_sequence, still_there}
-use Rattle.image_view.proofs.OtherSession.{alike-same}
+use Rattle.image_view.specs.CopyLaws.{agree-same}
 use Rattle.image_view.specs.Bases.{AgreeOnBase, AgreeOnNode, IsNewest}
 use Rattle.image_view.specs.BaseLaws.{found-mirrored}
-use Rattle.image_view.specs.Found.{FitTogether, FollowOn, Found, IsAlike, IsBelowRoots, IsInOrder, IsMirrored, PassesNone, found}
+use Rattle.image_view.specs.Found.{FitTogether, FollowOn, Found, IsBelowRoots, IsInOrder, IsMirrored, PassesNone, PlacesAgree, found}
 use Rattle.image_view.specs.NextEntries.{AreNumberedBelow, AreOldOrNext, IsNext, IsToldApart, IsWritten, with_entry}
 use Rattle.image_view.specs.NewNodes.{AreNodesInOrder}
 use Rattle.image_view.specs.Trees.{TreesRead, nodes_of}
@@ -66,9 +65,7 @@ newest_written laws stand one other f passed next blocks trees is is_next agree 
 pub in_order_still : (one : Image) (f : Found) (passed : ℕ) (next : FoundEntry) (trees : TreesRead) → found one ≡ Ok f → IsInOrder f one → trees.nodes ≡ f.trees.nodes → trees.ends ≡ f.trees.ends → AreNodesInOrder (with_entry passed next trees f) one
 in_order_still one f passed next trees is order nodes ends = record {
   places = subst (λ ns. All (IsMirrored f.layout) (nodes_of ns)) (sym nodes) (found-mirrored one f is);
-  copies = subst (λ ns. All (IsAlike (with_entry passed next trees f) one) (nodes_of ns)) (sym nodes)
-      (All-weaker (IsAlike f one) (IsAlike (with_entry passed next trees f) one)
-      (λ node same end is_end birth. same end (subst (λ (es : List NodeEnd). Contains es end) ends is_end) birth) (nodes_of f.trees.nodes) order.copies);
+  agree = record { each = subst (λ ns. All (PlacesAgree f.layout.id one) (nodes_of ns)) (sym nodes) order.agree.each };
   births = subst (λ ns. All (λ (node : NodePtr). node.birth < (f.session + 1) * 2 ^ 32) (nodes_of ns)) (sym nodes) order.births;
 }
 
@@ -114,7 +111,7 @@ module _ (laws : BlockLaws) (one : Image) (f : Found) (is : found one ≡ Ok f) 
     others = λ x parts made. passes_with trees x (made_or_next laws f some passed next is_next blocks sealed one other old_or order told x parts made);
     owners = owners_stay laws f some passed next is_next blocks sealed one other old_or order.owners;
     levels = All-push (λ (x : FoundEntry). IsBelowRoots x.entry) (drop passed f.needed) next (All-drop (λ (x : FoundEntry). IsBelowRoots x.entry) passed f.needed order.levels) is_next.levels;
-    copies = alike-same (with_entry passed next trees f) one other (nodes_of trees.nodes) nodes are.copies;
+    agree = record { each = agree-same f.layout.id one other (nodes_of trees.nodes) nodes are.agree.each };
     births = are.births;
   }
 
@@ -131,6 +128,6 @@ module _ (laws : BlockLaws) (one : Image) (f : Found) (is : found one ≡ Ok f) 
         (made_or_next laws f some passed next is_next blocks sealed one other old_or order (inl below) x parts made);
     owners = owners_stay laws f some passed next is_next blocks sealed one other old_or order.owners;
     levels = order.levels;
-    copies = alike-same f one other (nodes_of f.trees.nodes) agree.nodes order.copies;
+    agree = record { each = agree-same f.layout.id one other (nodes_of f.trees.nodes) agree.nodes order.agree.each };
     births = order.births;
   }

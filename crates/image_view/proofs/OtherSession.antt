@@ -11,7 +11,6 @@ use Rattle.journal_ring.specs.Parts.{Area, area_of}
 use Rattle.key_codec.specs.Combined.{ok_is}
 use Rattle.key_meaning.specs.Blocks.{block_of, blocks_of, place_at}
 use Rattle.key_meaning.specs.Checks.{AreNodesPlaced, HasWellPlaced, IsNodePlaced, IsWellPlaced, kept_buckets, pointers_of}
-use Rattle.node_store.specs.Answers.{AreAlike}
 use Rattle.vol_types.specs.Limits.{bucket_blocks}
 use Rattle.vol_types.specs.declared.layout.Layout.{Layout}
 use Rattle.vol_types.specs.declared.pointers.NodePtr.{NodePtr}
@@ -22,9 +21,10 @@ use Rattle.vol_types.specs.declared.values.Extent.{Extent}
 use Rattle.vol_types.specs.declared.values.Value.{Value}
 use Rattle.vol_types.specs.declared.values.Value.TheVariants as values
 use Rattle.key_meaning.specs.ReadLaws.{forest_in-agree}
-use Rattle.image_view.specs.BaseLaws.{content-same, copies-same, found-again, found-newest}
+use Rattle.image_view.specs.BaseLaws.{content-same, found-again, found-newest}
 use Rattle.image_view.specs.Bases.{AgreeAt, AgreeInBucket, AgreeOnContent, AgreeOnEntry, AgreeOnNode, AgreeOnNodes, DifferInSessions, IsNewest}
-use Rattle.image_view.specs.Found.{AreOwned, Found, IsAlike, IsInOrder, IsUnsound, MountsAs, Volume, found, node_places, read_in, with_session}
+use Rattle.image_view.specs.CopyLaws.{agree-same}
+use Rattle.image_view.specs.Found.{AreOwned, Found, IsInOrder, IsUnsound, MountsAs, Volume, found, node_places, read_in, with_session}
 use Rattle.image_view.specs.Trees.{nodes_of}
 
 -- Each bucket but the first of each device is behind the session blocks.
@@ -96,13 +96,6 @@ module _ (one other : Image) (differ : DifferInSessions one other) where
         f.trees.keys.extents all;
   }
 
--- Nodes whose buckets are the same have alike copies where they had.
-pub alike-same : (f : Found) (one other : Image) (nodes : List NodePtr) → All (AgreeOnNode one other) nodes → All (IsAlike f one) nodes → All (IsAlike f other) nodes
-alike-same f one other [] agree alike = All-nil (IsAlike f other)
-alike-same f one other (node ∷ nodes) agree alike = All-cons (IsAlike f other) node nodes
-    (λ end is birth. subst (AreAlike end.block) (sym (copies-same one other node.places (All-head (AgreeOnNode one other) node nodes agree))) (All-head (IsAlike f one) node nodes alike end is birth))
-    (alike-same f one other nodes (All-tail (AgreeOnNode one other) node nodes agree) (All-tail (IsAlike f one) node nodes alike))
-
 -- What is found is the same, but for the session.
 pub found-named : (one other : Image) (f : Found) (session : ℕ) → found one ≡ Ok f → AreNodesPlaced (node_places f) f.layout → DifferInSessions one other → session_in f.layout other ≡ Some session → found other ≡ Ok (with_session session f)
 found-named one other f session is placed differ names = found-again one other f session is (nodes-named one other differ f placed) names (newest-named one other differ f (found-newest one f is))
@@ -142,6 +135,6 @@ in_order-named one other f session is placed differ names later order = record {
       let owned = subst (λ (area : Area). AreOwned f.layout f.session area) (area-named one other differ) order.owners dev place bytes head mirror within stands opens kind id in
       omega (arith, owned, later);
   levels = order.levels;
-  copies = alike-same f one other (nodes_of f.trees.nodes) (nodes-named one other differ f placed).nodes order.copies;
+  agree = record { each = agree-same f.layout.id one other (nodes_of f.trees.nodes) (nodes-named one other differ f placed).nodes order.agree.each };
   births = All-weaker (λ (node : NodePtr). node.birth < (f.session + 1) * 2 ^ 32) (λ (node : NodePtr). node.birth < (session + 1) * 2 ^ 32) (λ node born. omega (arith, born, later)) (nodes_of f.trees.nodes) order.births;
 }

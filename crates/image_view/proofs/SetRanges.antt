@@ -13,7 +13,7 @@ use Rattle.key_codec.specs.Formats.{FormatOf, both, checked, followed, is_above,
 use Rattle.node_mem.specs.CountLaws.{keys-put_at}
 use Rattle.node_mem.specs.Nodes.{with_keys}
 use Rattle.node_store.specs.Copies.{copies_at}
-use Rattle.node_store.specs.NodeContents.{NodeContent, content_if, content_in, content_with, entries_after, is_same_pos, is_wanted, keys_if, may_hold, wanted_of}
+use Rattle.node_store.specs.NodeContents.{NodeContent, content_if, content_with, entries_after, is_same_pos, is_wanted, keys_if, may_hold, wanted_of}
 use Rattle.node_store.specs.NodeContents.{keys_of as keys_read}
 use Rattle.node_store.specs.StoredSets.{sets_in as stored_sets}
 use Rattle.node_store.specs.declared.sets.StoredSet.{StoredSet}

@@ -16,7 +16,7 @@ use Rattle.journal_ring.specs.declared.found.FoundEntry.{FoundEntry}
 use Rattle.key_codec.specs.Formats.{◌>>=◌, carried}
 use Rattle.key_meaning.specs.Checks.{IsFirstFailed, IsSound}
 use Rattle.key_meaning.specs.Forest.{Read, forest_in}
-use Rattle.node_store.specs.Answers.{AreAlike}
+use Rattle.node_store.specs.Answers.{AgreeOn, AreAlike}
 use Rattle.node_store.specs.Copies.{copies_at}
 use Rattle.node_store.specs.NodeContents.{content_of}
 use Rattle.plain_forest.specs.Forest.{Forest}
@@ -169,18 +169,26 @@ IsBelowRoots entry = All (λ update. IfSome (slice_get entry.roots (btree_code u
 abbrev pub IsAlike : Found → Image → NodePtr → Type 0
 IsAlike f image node = (end : NodeEnd) → Contains f.trees.ends end → end.birth ≡ node.birth → AreAlike end.block (copies_at (block_at image) node.places)
 
+-- The places of a node agree on it: no two of them show different blocks of its sets at one block of the bucket.
+abbrev pub PlacesAgree : List ℕ → Image → NodePtr → Type 0
+PlacesAgree id image pointer = AgreeOn id pointer.birth (copies_at (block_at image) pointer.places)
+
+-- The places of each node that was found agree on it.
+pub record NodesAgree (image : Image) (f : Found) : Type 0 where
+  pub each : All (PlacesAgree f.layout.id image) (nodes_of f.trees.nodes)
+
 -- What was found in an image that nobody else wrote is orderly: the needed entries follow each other without a gap, and fit the
 -- journal area together; no entry passes them that its blocks make up, from whichever device each part is taken, and no block of
--- it is of a later session, and no update of them is above its root; and each node has the same sets on every metadata device, and was
--- born in a session up to its own. That no two nodes have one birth, that each lies on every metadata device, and that no set of a node
--- stands behind a gap, is part of what is found.
+-- it is of a later session, and no update of them is above its root; and the places of each node agree on it, and it was
+-- born in a session up to its own. A place may lack blocks of a node that another one shows. That no two nodes have one birth, that each lies on every
+-- metadata device, and that no set of a node stands behind a gap, is part of what is found.
 pub record IsInOrder (f : Found) (image : Image) : Type 0 where
   pub entries : FollowOn f.needed
   pub fits : FitTogether f.layout f.needed
   pub others : (entry : FoundEntry) (blocks : List (List ℕ)) → IsMadeOf f.layout (area_of image) entry blocks → PassesNone f entry
   pub owners : AreOwned f.layout f.session (area_of image)
   pub levels : All (λ found. IsBelowRoots found.entry) f.needed
-  pub copies : All (IsAlike f image) (nodes_of f.trees.nodes)
+  pub agree : NodesAgree image f
   pub births : All (λ node. node.birth < (f.session + 1) * 2 ^ 32) (nodes_of f.trees.nodes)
 
 -- An image is orderly: something is found in it, and that is in order.

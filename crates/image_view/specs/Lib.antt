@@ -9,3 +9,4 @@ pub mod UpdatedTrees
 pub mod EntryUpdates
 pub mod NextEntries
 pub mod NewNodes
+pub mod CopyLaws

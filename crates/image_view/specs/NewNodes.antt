@@ -11,14 +11,14 @@ use Rattle.vol_types.specs.declared.pointers.NodeEnd.{NodeEnd}
 use Rattle.vol_types.specs.declared.pointers.NodePtr.{NodePtr}
 use Rattle.vol_types.specs.declared.pointers.Place.{Place}
 use Rattle.vol_types.specs.declared.positions.Btree.{Btree}
-use Rattle.image_view.specs.Found.{Found, IsAlike, IsMirrored, updates_of}
+use Rattle.image_view.specs.Found.{Found, IsMirrored, NodesAgree, updates_of}
 use Rattle.image_view.specs.Trees.{SetsOf, TreesRead, Wanted, nodes_of, with_roots}
 
--- The nodes are in order in an image: each stands on every metadata device, with the same sets there, born in a session up to the one
+-- The nodes are in order in an image: each lies on every metadata device, its places agree on it, and it was born in a session up to the one
 -- that was found.
 pub record AreNodesInOrder (f : Found) (image : Image) : Type 0 where
   pub places : All (IsMirrored f.layout) (nodes_of f.trees.nodes)
-  pub copies : All (IsAlike f image) (nodes_of f.trees.nodes)
+  pub agree : NodesAgree image f
   pub births : All (λ node. node.birth < (f.session + 1) * 2 ^ 32) (nodes_of f.trees.nodes)
 
 -- The buckets at the places of a node hold the same.

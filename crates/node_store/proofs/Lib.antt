@@ -19,3 +19,5 @@ pub mod PlannedContents
 pub mod WrittenLengths
 pub mod MendedFrames
 pub mod MendedNodes
+pub mod MendedSteps
+pub mod MendedKept

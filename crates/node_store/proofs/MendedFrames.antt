@@ -1,10 +1,11 @@
--- What writing blocks where they lack leaves and asks for: nothing, a read, a write and a flush, and one after the other.
+-- What writing blocks where they are to be mended leaves and asks for: nothing, a read, a write and a flush, and one after the other.
 use Rattle.std.proofs.Common.{◌≡◌, ◌⊎◌, ℕ, zero, suc, ◌<◌, ◌≤◌, inl, inr, ⊎_elim, Bool, List, [], ◌∷◌, length, get_or, slice_get, Option, Some, None, refl, ap, ◌∙◌, sym, subst, arith, Result, Ok, Err, MatchResult, All}
 use Rattle.std.proofs.lemmas.Bool.{cases_lt}
 use Rattle.std.proofs.lemmas.List.Elements.{All-tail}
 use Rattle.std.proofs.lemmas.Option.{same_Some}
 use Rattle.std.specs.Prelude.{IfErr, IfSome, OnOk}
-use Rattle.dev_model.specs.CrashLaws.{as_read_may_be_left, goes_on_flush, goes_on_write, left_itself, started}
+use Rattle.dev_model.specs.CrashDisks.{left_by_flush}
+use Rattle.dev_model.specs.CrashLaws.{as_read_may_be_left, goes_on, goes_on_flush, goes_on_write, left_itself, started}
 use Rattle.dev_model.specs.Crashes.{EachCrash, IsAt, IsCrashImageBut, IsQuiet}
 use Rattle.dev_model.specs.Devices.{AreFaultCounts, ChangesDisks, DevicesState, FaultCounts, Is, MayBeWritten, now, risen, with_read_fault, with_write_fault}
 use Rattle.dev_model.specs.Disk.{Disk, Image, IsAtRest, IsCrashImage, IsDisk, as_read, at_rest, block_at, changed, flushed, sizes_of, written}
@@ -19,7 +20,9 @@ use Rattle.geometry.specs.declared.fault.DiskFault.{DiskFault}
 use Rattle.geometry.specs.declared.fault.DiskFault.TheVariants.{DeviceFault, NoMemory}
 use Rattle.geometry.specs.Mirrors.{AreAtRest}
 use Rattle.vol_types.specs.Faults.{RoseBy}
-use Rattle.node_store.specs.Mending.{AreWritten, KeepsRest, OnlyWriteFailed, WritesOnly}
+use Rattle.node_store.specs.Mending.{AreWritten, AtMostOneWriteFailed, KeepsRest, WritesOnly}
+use Rattle.node_store.specs.Writes.{HasLengthsOf, KeepsLengths}
+use Rattle.node_store.proofs.WrittenLengths.{lengths_go_on}
 
 -- ---- one after the other
 
@@ -52,10 +55,29 @@ crashes_then touched few old mid new more first then = record {
       (cases_lt mid.moment m);
 }
 
+-- What may be left has its own lengths,
+own_lengths : (disks : List Disk) (image : Image) → IsCrashImage disks image → HasLengthsOf disks image
+own_lengths disks image may = (image, may, refl)
+
+-- also before the first call,
+lengths_started : (state : DevicesState) → EachCrash (λ _ _ image. HasLengthsOf (now state) image) state state
+lengths_started state = started (λ _ _ image. HasLengthsOf (now state) image) state (own_lengths (now state))
+
+-- and in the end it has lengths of what was left after the first calls.
+lengths_then : (old mid new : DevicesState) → old.moment ≤ mid.moment → ((m : ℕ) → m ≤ mid.moment → new.disks m ≡ mid.disks m) → KeepsLengths old mid → KeepsLengths mid new → KeepsLengths old new
+lengths_then old mid new begun past first then m lo hi image may = ⊎_elim
+    (λ (later : mid.moment < m).
+    let since = then m (omega (arith, later)) hi image may in
+    let before = first mid.moment begun (omega arith) since.0 since.1 in
+    (before.0, before.1, before.2 ∙ since.2))
+    (λ (earlier : m ≤ mid.moment). first m lo earlier image (subst (λ (ds : List Disk). IsCrashImage ds image) (past m earlier) may))
+    (cases_lt mid.moment m)
+
 -- Nothing was written yet.
 pub writes_none : (lacking : ℕ → ℕ → Type 0) (wanted : ℕ → ℕ → List ℕ → Type 0) (state : DevicesState) → WritesOnly lacking wanted state state
 writes_none lacking wanted state = record {
   crashes = started (λ _ _ image. IsCrashImageBut lacking (now state) image) state (left_itself lacking (now state));
+  lengths = (lengths_started state).each;
   elsewhere = λ d b away. refl;
   asks = λ opens. hold_here opens wanted state;
 }
@@ -68,6 +90,7 @@ writes_read lacking wanted old new stay = record {
     past = stay.past;
     each = λ m lo hi image may. left_itself lacking (now old) image (subst (λ (ds : List Disk). IsCrashImage ds image) (stay.same m lo hi) may);
   };
+  lengths = λ m lo hi image may. own_lengths (now old) image (subst (λ (ds : List Disk). IsCrashImage ds image) (stay.same m lo hi) may);
   elsewhere = λ d b away. ap (λ (ds : List Disk). block_at (as_read ds) d b) (sym (stay_now old new stay));
   asks = λ opens m lo hi d b no_chance x is_open held. inl (subst (λ (ds : List Disk). HaveHeld ds d b x) (stay.same m lo hi) held);
 }
@@ -77,6 +100,7 @@ pub writes_then : (lacking few : ℕ → ℕ → Type 0) (wanted less : ℕ → 
     → WritesOnly lacking wanted first mid → WritesOnly few less mid new → WritesOnly lacking wanted first new
 writes_then lacking few wanted less first mid new more asked before then = record {
   crashes = crashes_then lacking few first mid new more before.crashes then.crashes;
+  lengths = lengths_then first mid new before.crashes.later then.crashes.past before.lengths then.lengths;
   elsewhere = λ d b away. before.elsewhere d b away ∙ then.elsewhere d b (λ at. away (more d b at));
   asks = λ opens. hold_then opens wanted less first mid new before.crashes.later then.crashes.past asked (before.asks opens) (then.asks opens);
 }
@@ -112,6 +136,7 @@ module _ {T E : Type 0} (result : Result T E) (dev block : ℕ) (bytes : List �
       let none = writes_none (IsAt dev block) (IsThis dev block bytes) old in
       record {
         crashes = goes_on_write (IsAt dev block) (now old) old old none.crashes are result dev block bytes new (refl, refl) changes;
+        lengths = (lengths_go_on (now old) old old (lengths_started old) are result dev block bytes new changes).each;
         elsewhere = elsewhere_more result (IsAt dev block) dev block bytes old old new (refl, refl) none.elsewhere changes;
         asks = λ opens. hold_by_write opens (IsThis dev block bytes) old old (omega arith) (none.asks opens) result dev block bytes new ((refl, refl), refl) changes;
       }
@@ -129,6 +154,9 @@ module _ {T E : Type 0} (result : Result T E) (dev block : ℕ) (bytes : List �
       let none = writes_none (IsAt dev block) (IsThis dev block bytes) old in
       record {
         crashes = goes_on_flush (IsAt dev block) (now old) old old none.crashes are result dev new changes;
+        lengths = (goes_on result (λ _ _ image. HasLengthsOf (now old) image) _ _ old old new (lengths_started old) changes
+            (λ m disks image is may. own_lengths (now old) image (subst (λ (ds : List Disk). IsCrashImage ds image) is may))
+            (λ m disks image is may. own_lengths (now old) image (left_by_flush (now old) dev are image (subst (λ (ds : List Disk). IsCrashImage ds image) is may)))).each;
         elsewhere = λ d b away. sym (reads_as_flushed changes d b);
         asks = λ opens. hold_by_flush opens (IsThis dev block bytes) old old (omega arith) (none.asks opens) result dev new changes;
       }
@@ -222,32 +250,40 @@ rose_at [] dev within = absurd (omega (arith, within))
 rose_at (count ∷ counts) zero within = omega arith
 rose_at (count ∷ counts) (suc dev) within = rose_at counts dev (omega (arith, within))
 
-pub write_failed : (dev : ℕ) (old new : FaultCounts) → dev < 8 → AreFaultCounts old → new ≡ with_write_fault dev old → OnlyWriteFailed (Some dev) old new
+pub write_failed : (dev : ℕ) (old new : FaultCounts) → dev < 8 → AreFaultCounts old → new ≡ with_write_fault dev old → AtMostOneWriteFailed (Some dev) old new
 write_failed dev old new few are is =
     let eight = are.calls in
-    (ap (λ (f : FaultCounts). f.writes) is, subst (λ (f : FaultCounts). DeviceFailed dev old f) (sym is) (rose_at old.calls dev (omega (arith, few, eight))))
+    (subst (λ (f : FaultCounts). DeviceFailed dev old f) (sym is) (rose_at old.calls dev (omega (arith, few, eight))), inr (ap (λ (f : FaultCounts). f.writes) is))
 
 pub read_failed : (dev : ℕ) (old new : FaultCounts) → dev < 8 → AreFaultCounts old → new ≡ with_read_fault dev old → DeviceFailed dev old new
 read_failed dev old new few are is =
     let eight = are.calls in
     subst (λ (f : FaultCounts). DeviceFailed dev old f) (sym is) (rose_at old.calls dev (omega (arith, few, eight)))
 
--- A read failed by this device.
-pub read_named : (fault : DiskFault) (failed dev : ℕ) (old new : FaultCounts) → fault ≡ DeviceFault failed → dev < 8 → AreFaultCounts old → new ≡ after_reads (fault_device fault) old → IfSome (fault_device fault) (λ d. d ≡ dev) → DeviceFailed dev old new
-read_named (DeviceFault d) failed dev old new same few are is names = read_failed dev old new few are (is ∙ ap (λ e. with_read_fault e old) names)
-read_named NoMemory failed dev old new same few are is names = absurd cc
+-- A read of this device failed, or it is for want of memory.
+pub read_cause : (fault : DiskFault) (dev : ℕ) (old new : FaultCounts) → dev < 8 → AreFaultCounts old → new ≡ after_reads (fault_device fault) old → IfSome (fault_device fault) (λ d. d ≡ dev) → IfSome (fault_device fault) (λ d. (d ≡ dev) × DeviceFailed d old new)
+read_cause (DeviceFault d) dev old new few are is names = (names, subst (λ e. DeviceFailed e old new) (sym names) (read_failed dev old new few are (is ∙ ap (λ e. with_read_fault e old) names)))
+read_cause NoMemory dev old new few are is names = tt
 
 -- A write or a flush failed, or didn't.
 pub call_failed : (result : Result (Unit {0}) DiskFault) (dev : ℕ) (old mid new : FaultCounts) → dev < 8 → AreFaultCounts old → mid ≡ old → MatchResult result (λ _. new ≡ mid) (λ _. new ≡ with_write_fault dev mid)
-    → IfErr result (λ fault. fault ≡ DeviceFault dev) → OnlyWriteFailed (failed_device result) old new
+    → IfErr result (λ fault. fault ≡ DeviceFault dev) → AtMostOneWriteFailed (failed_device result) old new
 call_failed (Ok x) dev old mid new few are same is names = ap (λ (f : FaultCounts). f.writes) (is ∙ same)
 call_failed (Err e) dev old mid new few are same is names =
-    subst (λ (fault : DiskFault). OnlyWriteFailed (fault_device fault) old new) (sym names) (write_failed dev old new few are (is ∙ ap (with_write_fault dev) same))
+    subst (λ (fault : DiskFault). AtMostOneWriteFailed (fault_device fault) old new) (sym names) (write_failed dev old new few are (is ∙ ap (with_write_fault dev) same))
 
--- One failed after others that didn't.
-pub failed_then : (failed : Option ℕ) (old mid new : FaultCounts) → AreNoFewer old.calls mid.calls → mid.writes ≡ old.writes → OnlyWriteFailed failed mid new → OnlyWriteFailed failed old new
+-- Something failed after no write did.
+pub failed_then : (failed : Option ℕ) (old mid new : FaultCounts) → AreNoFewer old.calls mid.calls → mid.writes ≡ old.writes → AtMostOneWriteFailed failed mid new → AtMostOneWriteFailed failed old new
 failed_then None old mid new no_fewer first then = then ∙ first
-failed_then (Some dev) old mid new no_fewer first then = (then.0 ∙ ap (changed dev risen) first, let before = no_fewer dev in let rose = then.1 in omega (arith, before, rose))
+failed_then (Some dev) old mid new no_fewer first then = (
+  let before = no_fewer dev in let rose = then.0 in omega (arith, before, rose),
+  ⊎_elim (λ (none : new.writes ≡ mid.writes). inl (none ∙ first)) (λ (one : new.writes ≡ changed dev risen mid.writes). inr (one ∙ ap (changed dev risen) first)) then.1,
+)
+
+-- Nothing but reads failed.
+pub reads_failed : (failed : Option ℕ) (old new : FaultCounts) → new.writes ≡ old.writes → IfSome failed (λ dev. DeviceFailed dev old new) → AtMostOneWriteFailed failed old new
+reads_failed None old new none is = none
+reads_failed (Some dev) old new none is = (is, inl none)
 
 -- What failed later, or earlier, failed in all.
 pub failed_later : (dev : ℕ) (old mid new : FaultCounts) → AreNoFewer old.calls mid.calls → DeviceFailed dev mid new → DeviceFailed dev old new

@@ -1,35 +1,25 @@
 -- Which blocks a node's places show before and after it is mended.
-use Rattle.std.proofs.Common.{◌≡◌, ◌⊎◌, ℕ, zero, suc, ◌+◌, ◌<◌, ◌≤◌, inl, inr, ⊎_elim, Bool, true, false, List, [], ◌∷◌, length, get_or, Option, Some, None, Result, Ok, refl, ap, ◌∙◌, sym, subst, arith}
+use Rattle.std.proofs.Common.{◌≡◌, ◌⊎◌, ℕ, zero, suc, ◌+◌, ◌<◌, ◌≤◌, inl, inr, ⊎_elim, Bool, true, false, List, [], ◌∷◌, length, get_or, Option, Some, None, refl, ap, ◌∙◌, sym, subst, arith}
 use Rattle.std.specs.Prelude.{Contains, option_and_then, option_map}
 use Rattle.std.specs.Option.{option_map_or}
 use Rattle.std.proofs.lemmas.Bool.{and_parts, eqb-true, false≢true}
 use Rattle.std.proofs.lemmas.List.{get_or-map, get_or_default, length-map}
 use Rattle.std.proofs.lemmas.Slice.Eq.{bytes_eq-Decides}
-use Rattle.dev_model.specs.Crashes.{SameBut}
 use Rattle.dev_model.specs.Disk.{Image, block_at}
 use Rattle.sealed_block.specs.Opening.{opened, payload_in}
 use Rattle.sealed_block.specs.declared.heads.Head.{Head}
 use Rattle.vol_types.specs.declared.layout.Layout.{Layout}
 use Rattle.vol_types.specs.declared.pointers.Place.{Place}
 use Rattle.node_store.specs.declared.opening.OpenBlock.{OpenBlock}
-use Rattle.node_store.specs.declared.sets.StoredSets.{StoredSets}
 use Rattle.node_store.specs.Answers.{AgreeOn, AreAlike, IsOfNode}
 use Rattle.node_store.specs.Copies.{Reading, block_in, copies_at, copy_at, shown_at, shown_in}
-use Rattle.node_store.specs.Mending.{AreWritten, IsLacking, IsShown, IsWanted, IsWholeOrNone, MayBeMended, is_node_head, is_of_node}
+use Rattle.node_store.specs.Mending.{ArePlaced, AreWritten, IsShown, IsToMend, IsWanted, IsWholeOrNone, MayBeMended, is_node_head, is_of_node}
 use Rattle.node_store.proofs.NoBlocks.{block_in-copy_at}
 
 -- a test that fails or not
 abbrev pub test_cases : (b : Bool) → (b ≡ true) ⊎ (b ≡ false)
 test_cases true = inl refl
 test_cases false = inr refl
-
--- a result
-abbrev ok_sets : StoredSets → Result StoredSets ℕ
-ok_sets sets = Ok sets
-
--- There is one result.
-pub one_result : (one other : StoredSets) → ok_sets one ≡ ok_sets other → one ≡ other
-one_result one other same = cc
 
 -- ---- places and copies
 
@@ -74,21 +64,20 @@ module _ (id : List ℕ) (birth : ℕ) where
   pub block_shown : (held : Option (List ℕ)) → is_of_node id birth held ≡ true → (x : OpenBlock) × (option_and_then shown_in held ≡ Some x) × IsOfNode id birth x.head
   block_shown held is = block_by (option_and_then shown_in held) (sym (of_shown held) ∙ is)
 
-  -- What lacks later lacked at first, where only places that lacked were written.
-  pub lacked : (lacking : ℕ → ℕ → Type 0) (first mid : Image) → ((d b : ℕ) → lacking d b → is_of_node id birth (block_at first d b) ≡ false) → SameBut lacking first mid → (d b : ℕ) → is_of_node id birth (block_at mid d b) ≡ false
-      → is_of_node id birth (block_at first d b) ≡ false
-  lacked lacking first mid lacks elsewhere d b now_lacks = ⊎_elim
-      (λ (held : is_of_node id birth (block_at first d b) ≡ true).
-      let same : block_at first d b ≡ block_at mid d b = elsewhere d b (λ at. false≢true (sym (lacks d b at) ∙ held)) in
-      absurd (false≢true (sym now_lacks ∙ ap (is_of_node id birth) (sym same) ∙ held)))
-      (λ (not : is_of_node id birth (block_at first d b) ≡ false). not)
-      (test_cases (is_of_node id birth (block_at first d b)))
+  module _ (wanted : ℕ → ℕ → List ℕ → Type 0) (one other : Image) (each_opens : (d b : ℕ) (x : List ℕ) → wanted d b x → is_of_node id birth (Some x) ≡ true) (written : AreWritten wanted one other) where
+    -- What shows a block of the node shows one still, where nothing was written but blocks of the node,
+    pub stays : (d b : ℕ) → is_of_node id birth (block_at one d b) ≡ true → is_of_node id birth (block_at other d b) ≡ true
+    stays d b held = ⊎_elim
+        (λ (same : block_at other d b ≡ block_at one d b). ap (is_of_node id birth) same ∙ held)
+        (λ (was : (x : List ℕ) × wanted d b x × (block_at other d b ≡ Some x)). ap (is_of_node id birth) was.2 ∙ each_opens d b was.0 was.1)
+        (written d b)
 
-  -- What shows a block of the node stays, where only places that lacked were written.
-  pub stays : (lacking : ℕ → ℕ → Type 0) (first mid : Image) → ((d b : ℕ) → lacking d b → is_of_node id birth (block_at first d b) ≡ false) → SameBut lacking first mid → (d b : ℕ) → is_of_node id birth (block_at first d b) ≡ true
-      → is_of_node id birth (block_at mid d b) ≡ true
-  stays lacking first mid lacks elsewhere d b held =
-      ap (is_of_node id birth) (sym (elsewhere d b (λ at. false≢true (sym (lacks d b at) ∙ held)))) ∙ held
+    -- and what shows none now showed none at first.
+    pub lacked : (d b : ℕ) → is_of_node id birth (block_at other d b) ≡ false → is_of_node id birth (block_at one d b) ≡ false
+    lacked d b lacks = ⊎_elim
+        (λ (held : is_of_node id birth (block_at one d b) ≡ true). absurd (false≢true (sym lacks ∙ stays d b held)))
+        (λ (not : is_of_node id birth (block_at one d b) ≡ false). not)
+        (test_cases (is_of_node id birth (block_at one d b)))
 
   module _ (places : List Place) where
     -- A place that shows a block of the node among those of which none does.
@@ -108,30 +97,36 @@ module _ (id : List ℕ) (birth : ℕ) where
         of_shown (read place.dev (place.block + n)) ∙ ap (λ o. option_map_or (λ (block : OpenBlock). is_node_head id birth block.head) o false) shows ∙ sym (of_shown (read shown.place.dev (shown.place.block + n)))
         ∙ ap (is_of_node id birth) shown.stands ∙ shown.opens
 
-    -- What lacks below a block lacks below a later one, and so with what is wanted.
-    pub lacking_up : (few many : ℕ) (image : Image) → few ≤ many → (d b : ℕ) → IsLacking id birth places few image d b → IsLacking id birth places many image d b
-    lacking_up few many image more d b is = record { number = is.number; below = (let l = is.below in omega (arith, l, more)); copy = is.copy; lacks = is.lacks }
+    -- What is to be mended below a block is so below a later one, and where more has failed, and so with what is wanted.
+    pub to_mend_up : (few many : ℕ) (image : Image) (failed more_failed : ℕ → Type 0) → few ≤ many → ((d : ℕ) → failed d → more_failed d) → (d b : ℕ) → IsToMend id birth places few image failed d b → IsToMend id birth places many image more_failed d b
+    to_mend_up few many image failed more_failed more later d b is = record {
+      number = is.number;
+      below = (let l = is.below in omega (arith, l, more));
+      copy = is.copy;
+      lacks = ⊎_elim (λ (lacks : is_of_node id birth (block_at image d b) ≡ false). inl lacks) (λ (fails : failed d). inr (later d fails)) is.lacks;
+    }
 
     pub wanted_up : (few many : ℕ) (image : Image) → few ≤ many → (d b : ℕ) (x : List ℕ) → IsWanted id birth places few image d b x → IsWanted id birth places many image d b x
     wanted_up few many image more d b x is = record { number = is.number; below = (let l = is.below in omega (arith, l, more)); copy = is.copy; shown = is.shown }
 
-    module _ (layout : Layout) (end : ℕ) (may : MayBeMended layout places end) where
+    module _ (layout : Layout) (placed : ArePlaced layout places) where
       index_is : (p : Place) (there : Contains places p) → p.dev ≡ there.0
-      index_is p there = subst (λ (q : Place). q.dev ≡ there.0) there.2 (may.placed there.0 p there.1).device
+      index_is p there = subst (λ (q : Place). q.dev ≡ there.0) there.2 (placed there.0 p there.1).device
 
       -- Places on one device are one place.
-      one_place : (p q : Place) → Contains places p → Contains places q → p.dev ≡ q.dev → p ≡ q
+      pub one_place : (p q : Place) → Contains places p → Contains places q → p.dev ≡ q.dev → p ≡ q
       one_place p q one other same =
           let indexes : one.0 ≡ other.0 = sym (index_is p one) ∙ same ∙ index_is q other in
           sym one.2 ∙ ap (λ k. get_or places k p) indexes ∙ get_or_default places other.0 p q other.1 ∙ other.2
 
+    module _ (layout : Layout) (end : ℕ) (may : MayBeMended layout places end) where
       -- Where other blocks of the bucket were written, this one is as it was.
       pub untouched : (first mid : Image) (n : ℕ) → AreWritten (IsWanted id birth places n first) first mid → (place : Place) → Contains places place → block_at mid place.dev (place.block + n) ≡ block_at first place.dev (place.block + n)
       untouched first mid n written place there = ⊎_elim
           (λ (same : block_at mid place.dev (place.block + n) ≡ block_at first place.dev (place.block + n)). same)
           (λ (was : (x : List ℕ) × IsWanted id birth places n first place.dev (place.block + n) x × (block_at mid place.dev (place.block + n) ≡ Some x)).
           let wanted = was.1 in
-          let same : place ≡ wanted.copy.0 = one_place place wanted.copy.0 there wanted.copy.1 wanted.copy.2 in
+          let same : place ≡ wanted.copy.0 = one_place layout may.placed place wanted.copy.0 there wanted.copy.1 wanted.copy.2 in
           let blocks : place.block + n ≡ wanted.copy.0.block + wanted.number = wanted.copy.3 in
           let block : place.block ≡ wanted.copy.0.block = ap (λ (p : Place). p.block) same in
           let below = wanted.below in
@@ -162,7 +157,7 @@ module _ (id : List ℕ) (birth : ℕ) where
           (λ (same : block_at last place.dev (place.block + n) ≡ block_at first place.dev (place.block + n)). (place, there, same))
           (λ (was : (x : List ℕ) × IsWanted id birth places upto first place.dev (place.block + n) x × (block_at last place.dev (place.block + n) ≡ Some x)).
           let wanted = was.1 in
-          let same : place ≡ wanted.copy.0 = one_place place wanted.copy.0 there wanted.copy.1 wanted.copy.2 in
+          let same : place ≡ wanted.copy.0 = one_place layout may.placed place wanted.copy.0 there wanted.copy.1 wanted.copy.2 in
           let blocks : place.block + n ≡ wanted.copy.0.block + wanted.number = wanted.copy.3 in
           let block : place.block ≡ wanted.copy.0.block = ap (λ (p : Place). p.block) same in
           let number : wanted.number ≡ n = omega (arith, blocks, block) in

@@ -1,5 +1,5 @@
 -- Mending a node: what some place of it shows of a block is written on each place that lacks it.
-use Rattle.std.specs.Prelude.{◌≡◌, ◌⊎◌, ℕ, ◌+◌, ◌<◌, ◌≤◌, Bool, true, false, ◌&&◌, ◌==◌, List, Contains, length, Option, Some, None, Ok, option_and_then, slice_index_or}
+use Rattle.std.specs.Prelude.{◌≡◌, ◌⊎◌, ℕ, ◌+◌, ◌<◌, ◌≤◌, Bool, true, false, ◌&&◌, ◌==◌, List, Contains, length, Option, Some, None, option_and_then, slice_index_or}
 use Rattle.std.specs.Option.{option_map_or}
 use Rattle.std.specs.Str.{bytes_eq}
 use Rattle.dev_model.specs.Crashes.{EachCrash, IsCrashImageBut, IsQuiet, SameBut}
@@ -13,12 +13,9 @@ use Rattle.sealed_block.specs.declared.heads.Head.{Head}
 use Rattle.vol_types.specs.Limits.{bucket_blocks}
 use Rattle.vol_types.specs.declared.layout.Layout.{Layout}
 use Rattle.vol_types.specs.declared.pointers.Place.{Place}
-use Rattle.vol_types.specs.declared.pointers.NodePtr.{NodePtr}
-use Rattle.node_store.specs.Answers.{AgreeOn, AreAlike}
-use Rattle.node_store.specs.StoredSets.{Copies, sets_in, sets_of}
-use Rattle.node_store.specs.declared.sets.StoredSets.{StoredSets}
+use Rattle.node_store.specs.Answers.{AgreeOn}
 use Rattle.node_store.specs.Copies.{copies_at}
-use Rattle.node_store.specs.Writes.{HaveCopies, IsCopyOf}
+use Rattle.node_store.specs.Writes.{HaveCopies, IsCopyOf, KeepsLengths}
 
 -- ---- what is mended
 
@@ -46,12 +43,13 @@ abbrev pub IsWholeOrNone : List ℕ → ℕ → List Place → ℕ → Image →
 IsWholeOrNone id birth places n image =
     (bytes : List ℕ) → IsShown id birth places image n bytes → (place : Place) → Contains places place → is_of_node id birth (block_at image place.dev (place.block + n)) ≡ true
 
--- It is one of the first so many blocks of a node's bucket, on one of its places, and shows no block of the node.
-pub record IsLacking (id : List ℕ) (birth : ℕ) (places : List Place) (end : ℕ) (image : Image) (dev block : ℕ) : Type 0 where
+-- It is one of the first so many blocks of a node's bucket, on one of its places; and it shows no block of the node, or a call of its
+-- device failed.
+pub record IsToMend (id : List ℕ) (birth : ℕ) (places : List Place) (end : ℕ) (image : Image) (failed : ℕ → Type 0) (dev block : ℕ) : Type 0 where
   pub number : ℕ
   pub below : number < end
   pub copy : IsCopyOf places number dev block
-  pub lacks : is_of_node id birth (block_at image dev block) ≡ false
+  pub lacks : (is_of_node id birth (block_at image dev block) ≡ false) ⊎ failed dev
 
 -- It is one of these places, and these bytes are what some place shows of that block.
 pub record IsWanted (id : List ℕ) (birth : ℕ) (places : List Place) (end : ℕ) (image : Image) (dev block : ℕ) (bytes : List ℕ) : Type 0 where
@@ -59,14 +57,6 @@ pub record IsWanted (id : List ℕ) (birth : ℕ) (places : List Place) (end : �
   pub below : number < end
   pub copy : IsCopyOf places number dev block
   pub shown : IsShown id birth places image number bytes
-
--- The sets of a node that copies hold end at this block.
-abbrev pub IsEndOf : List ℕ → ℕ → Copies → ℕ → Type 0
-IsEndOf id birth copies end = (found : StoredSets) × (sets_in copies id birth ≡ Ok found) × (end ≡ found.end)
-
--- The places of a node show the same up to where its sets end, if it has some.
-abbrev pub IsWholeNode : List ℕ → NodePtr → Image → Type 0
-IsWholeNode id ptr image = (found : StoredSets) → sets_of (block_at image) id ptr ≡ Ok found → AreAlike found.end (copies_at (block_at image) ptr.places)
 
 -- The place is on this metadata device, behind its superblocks and its journal.
 pub record IsPlaced (layout : Layout) (dev : ℕ) (place : Place) : Type 0 where
@@ -92,11 +82,23 @@ pub record CanBeMended (layout : Layout) (birth : ℕ) (places : List Place) (en
 
 -- ---- what mending does
 
--- From one state of devices to a later one, only at places that lacked something that was wanted there was written.
-pub record WritesOnly (lacking : ℕ → ℕ → Type 0) (wanted : ℕ → ℕ → List ℕ → Type 0) (old new : DevicesState) : Type 0 where
-  pub crashes : EachCrash (λ _ _ image. IsCrashImageBut lacking (now old) image) old new
-  pub elsewhere : SameBut lacking (as_read (now old)) (as_read (now new))
+-- From one state of devices to a later one, only these blocks were written, with what was wanted there.
+pub record WritesOnly (written : ℕ → ℕ → Type 0) (wanted : ℕ → ℕ → List ℕ → Type 0) (old new : DevicesState) : Type 0 where
+  pub crashes : EachCrash (λ _ _ image. IsCrashImageBut written (now old) image) old new
+  pub lengths : KeepsLengths old new
+  pub elsewhere : SameBut written (as_read (now old)) (as_read (now new))
   pub asks : (opens : List ℕ → Bool) → HoldOnly opens wanted old new
+
+-- A place that showed block n of a node in the first image holds in the second one what it held.
+pub record IsStillShown (id : List ℕ) (birth : ℕ) (places : List Place) (n : ℕ) (one other : Image) : Type 0 where
+  pub place : Place
+  pub of_node : Contains places place
+  pub opens : is_of_node id birth (block_at one place.dev (place.block + n)) ≡ true
+  pub stays : block_at other place.dev (place.block + n) ≡ block_at one place.dev (place.block + n)
+
+-- Each of the first so many blocks of a node's bucket that some place shows is still shown: it isn't overwritten everywhere at once.
+abbrev pub StayShown : List ℕ → ℕ → List Place → ℕ → Image → Image → Type 0
+StayShown id birth places end one other = (n : ℕ) (bytes : List ℕ) → n < end → IsShown id birth places one n bytes → IsStillShown id birth places n one other
 
 -- Each block is as it was, or what was wanted there.
 abbrev pub AreWritten : (ℕ → ℕ → List ℕ → Type 0) → Image → Image → Type 0
@@ -108,10 +110,11 @@ pub record KeepsRest (old new : DevicesState) : Type 0 where
   pub quiet : IsQuiet (now old) → IsQuiet (now new)
   pub rest : (count : ℕ) → AreAtRest count (now old) → AreAtRest count (now new)
 
--- Reads may have failed, and then the last write or flush, of this device, or no write and no flush.
-abbrev pub OnlyWriteFailed : Option ℕ → FaultCounts → FaultCounts → Type 0
-OnlyWriteFailed None old new = new.writes ≡ old.writes
-OnlyWriteFailed (Some dev) old new = (new.writes ≡ changed dev risen old.writes) × DeviceFailed dev old new
+-- Where a device is named, a call of it failed, and of all writes and flushes none did, or the last one, which was of this device. Where none
+-- is named no write and no flush failed. Reads may have failed in both cases.
+abbrev pub AtMostOneWriteFailed : Option ℕ → FaultCounts → FaultCounts → Type 0
+AtMostOneWriteFailed None old new = new.writes ≡ old.writes
+AtMostOneWriteFailed (Some dev) old new = DeviceFailed dev old new × ((new.writes ≡ old.writes) ⊎ (new.writes ≡ changed dev risen old.writes))
 
 -- One of these places is on the device.
 abbrev pub IsDeviceOf : List Place → ℕ → Type 0

@@ -28,7 +28,7 @@ mod writing;
 
 pub use fault::{NodeFault, SetFault};
 pub use laws::failed_reads_are_made_up;
-pub use mending::{mend_node, mend_sets};
+pub use mending::mend_node;
 pub use opening::OpenBlock;
 pub use planning::{Blocked, plan_set};
 pub use reading::{ReadNode, read_node};

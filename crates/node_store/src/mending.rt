@@ -1,5 +1,5 @@
-ghost use Rattle.std.specs.Prelude.{◌≡◌, ◌↔◌, ◌⊎◌, ◌+◌, ◌<◌, ◌≤◌, ℕ, Contains, List, length, true, false, None, Some, Ok, IsTrue, IfOk, IfSome, OnOk};
-ghost use Rattle.dev_model.specs.Crashes.{IsAt};
+ghost use Rattle.std.specs.Prelude.{◌≡◌, ◌≢◌, ◌↔◌, ◌⊎◌, ◌+◌, ◌<◌, ℕ, Contains, List, length, true, false, None, Some, IsTrue, IfOk, IfSome, OnOk};
+ghost use Rattle.dev_model.specs.Crashes.{EachCrash, IsAt, IsQuiet};
 ghost use Rattle.dev_model.specs.Devices.{IsPlace, now};
 ghost use Rattle.dev_model.specs.Disk.{as_read, block_at};
 ghost use Rattle.dev_model.specs.Frames.{AreOnlyRead, GoOn};
@@ -7,12 +7,9 @@ ghost use Rattle.vol_types.specs.declared.pointers.Place.{Place as APlace};
 ghost use Rattle.geometry.specs.Faults.{DeviceFailed, SomeFailed, failed_device};
 ghost use Rattle.node_store.specs.Answers.{AreAlike};
 ghost use Rattle.node_store.specs.Copies.{copies_at};
-ghost use Rattle.node_store.specs.Mending.{ArePlaced, AreWritten, CanBeMended, IsLacking, IsCopyShown, IsDeviceOf, IsPlaced, IsShown, IsWanted, IsWholeNode, IsWholeOrNone, KeepsRest, MayBeMended, OnlyWriteFailed, WritesOnly, is_node_head, is_of_node};
-ghost use Rattle.node_store.specs.StoredSets.{sets_of};
-ghost use Rattle.node_store.specs.declared.sets.StoredSets.{StoredSets as ASets};
+ghost use Rattle.node_store.specs.Mending.{ArePlaced, AreWritten, AtMostOneWriteFailed, CanBeMended, IsCopyShown, IsDeviceOf, IsPlaced, IsShown, IsStillShown, IsToMend, IsWanted, IsWholeOrNone, KeepsRest, MayBeMended, StayShown, WritesOnly, is_node_head, is_of_node};
 ghost use Rattle.node_store.specs.Writes.{HaveCopies, IsCopyBlock, IsCopyOf};
 
-use crate::reading::read_end;
 use crate::sets::BUCKET;
 use crate::writing::block_of;
 use dev_model::Devices;
@@ -49,36 +46,21 @@ fn has_block<D: Devices>(devices: &D, place: &Place, n: u8) -> bool
     u64::from(place.block) + u64::from(n) < u64::from(devices.blocks(place.dev))
 }
 
-// Block n of the bucket at a place, if the devices have it and it can be read.
-fn read_copy<D: Devices>(
-    alloc: Global,
-    devices: &mut D,
-    place: &Place,
-    n: u8,
-) -> Result<Option<Bytes>, AllocError>
-    ensures bytes { D.tells → IfOk result (λ read. IfSome read (λ bytes. block_at
-        (as_read (now (D.state devices.old))) place.now.dev (place.now.block + n) ≡ Some bytes)) }
-    ensures size { IfOk result (λ read. IfSome read (λ bytes. length bytes ≡ 4096)) }
-    ensures place { IfOk result (λ read. IfSome read (λ _. IsPlace (D.state devices.old).sizes
-        place.now.dev (place.now.block + n))) }
-    ensures device { IfOk result (λ read. IfSome read (λ _. place.now.dev < 8)) }
-    ensures failed { IfOk result (λ read. read ≡ None → IsPlace (D.state devices.old).sizes
-        place.now.dev (place.now.block + n) → DeviceFailed place.now.dev
-        (D.state devices.old).faults (D.state devices.new).faults) }
-    ensures read { AreOnlyRead D.tells (D.state devices.old) (D.state devices.new) }
-{
-    if !has_block(devices, place, n) {
-        return Ok(None);
-    }
-    let block = block_of(devices, place, n);
-    match read_block(alloc, devices, place.dev, block) {
-        Ok(bytes) => Ok(Some(bytes)),
-        Err(DiskFault::DeviceFault(_)) => Ok(None),
-        Err(DiskFault::NoMemory) => Err(AllocError),
-    }
+// A block of a node as it was read, and the device of the place that shows it.
+#[derive(Drop)]
+struct Shown {
+    dev: u8,
+    bytes: Bytes,
 }
 
-// The same, if it opens as a block of the node.
+// What came of a look at a place: a block of the node, and a device whose read has failed so far.
+#[derive(Drop)]
+struct Look {
+    shown: Option<Shown>,
+    failed: Option<u8>,
+}
+
+// Block n of the bucket at a place, if the devices have it and it opens as a block of the node.
 fn shown_copy<D: Devices>(
     alloc: Global,
     devices: &mut D,
@@ -86,28 +68,75 @@ fn shown_copy<D: Devices>(
     birth: u64,
     place: &Place,
     n: u8,
-) -> Result<Option<Bytes>, AllocError>
+) -> Result<Option<Bytes>, DiskFault>
     ensures bytes { D.tells → IfOk result (λ shown. IfSome shown (λ bytes. block_at
         (as_read (now (D.state devices.old))) place.now.dev (place.now.block + n) ≡ Some bytes)) }
     ensures size { IfOk result (λ shown. IfSome shown (λ bytes. length bytes ≡ 4096)) }
     ensures opens { IfOk result (λ shown. IfSome shown (λ bytes. is_of_node layout.now.id birth
         (Some bytes) ≡ true)) }
-    ensures none { D.tells → IfOk result (λ shown. shown ≡ None → (is_of_node layout.now.id birth
+    ensures none { D.tells → IfOk result (λ shown. shown ≡ None → is_of_node layout.now.id birth
         (block_at (as_read (now (D.state devices.old))) place.now.dev (place.now.block + n))
-        ≡ false) ⊎ DeviceFailed place.now.dev (D.state devices.old).faults
-        (D.state devices.new).faults) }
+        ≡ false) }
     ensures read { AreOnlyRead D.tells (D.state devices.old) (D.state devices.new) }
+    ensures cause { IfSome (failed_device result) (λ dev. (dev ≡ place.now.dev)
+        × DeviceFailed dev (D.state devices.old).faults (D.state devices.new).faults) }
 {
-    let Some(bytes) = read_copy(alloc, devices, place, n)? else {
+    if !has_block(devices, place, n) {
         return Ok(None);
-    };
+    }
+    let block = block_of(devices, place, n);
+    let bytes = read_block(alloc, devices, place.dev, block)?;
     if !is_of_node(&layout.id, birth, bytes.as_slice()) {
         return Ok(None);
     }
     Ok(Some(bytes))
 }
 
-// Block n of the node, from the first place that shows it.
+// Looks at one place more for block n of the node. A read that fails ends nothing.
+fn look_at<D: Devices>(
+    alloc: Global,
+    devices: &mut D,
+    layout: &Layout,
+    birth: u64,
+    place: &Place,
+    n: u8,
+    failed: Option<u8>,
+) -> Result<Look, AllocError>
+    ensures bytes { D.tells → IfOk result (λ look. IfSome look.shown (λ shown. (block_at
+        (as_read (now (D.state devices.old))) place.now.dev (place.now.block + n)
+        ≡ Some shown.bytes) × (place.now.dev ≡ shown.dev))) }
+    ensures size { IfOk result (λ look. IfSome look.shown (λ shown. length shown.bytes ≡ 4096)) }
+    ensures opens { IfOk result (λ look. IfSome look.shown (λ shown. is_of_node layout.now.id birth
+        (Some shown.bytes) ≡ true)) }
+    ensures lacks { D.tells → IfOk result (λ look. look.shown ≡ None → look.failed ≡ None
+        → is_of_node layout.now.id birth (block_at (as_read (now (D.state devices.old)))
+        place.now.dev (place.now.block + n)) ≡ false) }
+    ensures failed { IfOk result (λ look. (look.failed ≡ failed) ⊎ ((look.failed
+        ≡ Some place.now.dev) × DeviceFailed place.now.dev (D.state devices.old).faults
+        (D.state devices.new).faults)) }
+    ensures read { AreOnlyRead D.tells (D.state devices.old) (D.state devices.new) }
+{
+    match shown_copy(alloc, devices, layout, birth, place, n) {
+        Ok(Some(bytes)) => Ok(Look {
+            shown: Some(Shown {
+                dev: place.dev,
+                bytes,
+            }),
+            failed,
+        }),
+        Ok(None) => Ok(Look {
+            shown: None,
+            failed,
+        }),
+        Err(DiskFault::DeviceFault(dev)) => Ok(Look {
+            shown: None,
+            failed: Some(dev),
+        }),
+        Err(DiskFault::NoMemory) => Err(AllocError),
+    }
+}
+
+// Block n of the node, from the first place that shows it. Where none does, and a place can't be read, that device is at fault.
 fn shown_block<D: Devices>(
     alloc: Global,
     devices: &mut D,
@@ -115,23 +144,32 @@ fn shown_block<D: Devices>(
     birth: u64,
     places: &[Place],
     n: u8,
-) -> Result<Option<Bytes>, AllocError>
-    ensures shown { D.tells → IfOk result (λ shown. IfSome shown (IsShown layout.now.id birth places.now
-        (as_read (now (D.state devices.old))) n)) }
-    ensures size { IfOk result (λ shown. IfSome shown (λ bytes. length bytes ≡ 4096)) }
-    ensures opens { IfOk result (λ shown. IfSome shown (λ bytes. is_of_node layout.now.id birth
-        (Some bytes) ≡ true)) }
-    ensures none { D.tells → ¬ SomeFailed (D.state devices.old).faults (D.state devices.new).faults
-        → IfOk result (λ shown. shown ≡ None → (bytes : List ℕ) → ¬ IsShown layout.now.id birth places.now
-        (as_read (now (D.state devices.old))) n bytes) }
+) -> Result<Option<Shown>, DiskFault>
+    ensures shown { D.tells → IfOk result (λ found. IfSome found (λ shown. (is : IsShown layout.now.id
+        birth places.now (as_read (now (D.state devices.old))) n shown.bytes)
+        × (is.place.dev ≡ shown.dev))) }
+    ensures size { IfOk result (λ found. IfSome found (λ shown. length shown.bytes ≡ 4096)) }
+    ensures opens { IfOk result (λ found. IfSome found (λ shown. is_of_node layout.now.id birth
+        (Some shown.bytes) ≡ true)) }
+    ensures none { D.tells → IfOk result (λ found. found ≡ None → (bytes : List ℕ)
+        → ¬ IsShown layout.now.id birth places.now (as_read (now (D.state devices.old))) n
+        bytes) }
     ensures read { AreOnlyRead D.tells (D.state devices.old) (D.state devices.new) }
+    ensures cause { IfSome (failed_device result) (λ dev. IsDeviceOf places.now dev
+        × DeviceFailed dev (D.state devices.old).faults (D.state devices.new).faults) }
 {
+    let mut failed = None;
     for place in places {
-        if let Some(bytes) = shown_copy(alloc, devices, layout, birth, place, n)? {
-            return Ok(Some(bytes));
+        let look = look_at(alloc, devices, layout, birth, place, n, failed)?;
+        failed = look.failed;
+        if look.shown.is_some() {
+            return Ok(look.shown);
         }
     }
-    Ok(None)
+    match failed {
+        None => Ok(None),
+        Some(dev) => Err(DiskFault::DeviceFault(dev)),
+    }
 }
 
 // Writes a block of a device, and flushes that.
@@ -150,7 +188,7 @@ fn settle_block<D: Devices>(
         block ≡ Some bytes.now) }
     ensures rest { D.tells → OnOk result (KeepsRest (D.state devices.old) (D.state devices.new)) }
     ensures goes_on { GoOn (D.state devices.old) (D.state devices.new) }
-    ensures cause { OnlyWriteFailed (failed_device result) (D.state devices.old).faults
+    ensures cause { AtMostOneWriteFailed (failed_device result) (D.state devices.old).faults
         (D.state devices.new).faults }
     ensures device { IfSome (failed_device result) (λ failed. failed ≡ dev) }
 {
@@ -158,8 +196,44 @@ fn settle_block<D: Devices>(
     flush_device(devices, dev)
 }
 
-// Writes block n of the node at a place that shows none of its blocks there, and flushes the device. A place that can't be read
-// is left.
+// Whether block n of the node is to be written at a place: the devices have it, and it shows no block of the node there or can't be
+// read.
+fn is_to_mend<D: Devices>(
+    alloc: Global,
+    devices: &mut D,
+    layout: &Layout,
+    birth: u64,
+    place: &Place,
+    n: u8,
+) -> Result<bool, AllocError>
+    ensures place { IfOk result (λ lacks. IsTrue lacks → IsPlace (D.state devices.old).sizes
+        place.now.dev (place.now.block + n)) }
+    ensures device { IfOk result (λ lacks. IsTrue lacks → place.now.dev < 8) }
+    ensures lacks { D.tells → IfOk result (λ lacks. IsTrue lacks → (is_of_node layout.now.id birth
+        (block_at (as_read (now (D.state devices.old))) place.now.dev (place.now.block + n))
+        ≡ false) ⊎ DeviceFailed place.now.dev (D.state devices.old).faults
+        (D.state devices.new).faults) }
+    ensures stands { D.tells → IfOk result (λ lacks. lacks ≡ false → IsPlace
+        (D.state devices.old).sizes place.now.dev (place.now.block + n)
+        → is_of_node layout.now.id birth (block_at (as_read (now (D.state devices.old)))
+        place.now.dev (place.now.block + n)) ≡ true) }
+    ensures read { AreOnlyRead D.tells (D.state devices.old) (D.state devices.new) }
+{
+    if !has_block(devices, place, n) {
+        return Ok(false);
+    }
+    match shown_copy(alloc, devices, layout, birth, place, n) {
+        Ok(shown) => {
+            let lacks = shown.is_none();
+            drop(shown);
+            Ok(lacks)
+        }
+        Err(DiskFault::DeviceFault(_)) => Ok(true),
+        Err(DiskFault::NoMemory) => Err(AllocError),
+    }
+}
+
+// Writes block n of the node at a place that is to be mended, and flushes the device. The device that the block was read from is left.
 fn mend_copy<D: Devices>(
     alloc: Global,
     devices: &mut D,
@@ -167,43 +241,46 @@ fn mend_copy<D: Devices>(
     birth: u64,
     place: &Place,
     n: u8,
-    bytes: &[u8],
+    shown: &Shown,
 ) -> Result<(), DiskFault>
-    requires size { length bytes.now ≡ 4096 }
+    requires size { length shown.now.bytes ≡ 4096 }
+    requires opens { is_of_node layout.now.id birth (Some shown.now.bytes) ≡ true }
     ensures writes { D.tells → WritesOnly (λ d b. IsAt place.now.dev (place.now.block + n) d b
-        × (is_of_node layout.now.id birth (block_at (as_read (now (D.state devices.old))) d b)
-        ≡ false)) (λ d b x. IsAt place.now.dev (place.now.block + n) d b × (x ≡ bytes.now))
+        × (d ≢ shown.now.dev) × ((is_of_node layout.now.id birth
+        (block_at (as_read (now (D.state devices.old))) d b) ≡ false)
+        ⊎ DeviceFailed d (D.state devices.old).faults (D.state devices.new).faults))
+        (λ d b x. IsAt place.now.dev (place.now.block + n) d b × (x ≡ shown.now.bytes))
         (D.state devices.old) (D.state devices.new) }
-    // What doesn't lack is left.
-    ensures idle { D.tells → is_of_node layout.now.id birth
+    // What can be read and doesn't lack is left.
+    ensures idle { D.tells → ¬ SomeFailed (D.state devices.old).faults
+        (D.state devices.new).faults → is_of_node layout.now.id birth
         (block_at (as_read (now (D.state devices.old))) place.now.dev (place.now.block + n)) ≡ true
         → AreOnlyRead D.tells (D.state devices.old) (D.state devices.new) }
     ensures mended { D.tells → OnOk result (IsPlace (D.state devices.old).sizes place.now.dev
-        (place.now.block + n) → ¬ DeviceFailed place.now.dev (D.state devices.old).faults
-        (D.state devices.new).faults → (is_of_node layout.now.id birth
+        (place.now.block + n) → (place.now.dev ≡ shown.now.dev → is_of_node layout.now.id birth
         (block_at (as_read (now (D.state devices.old))) place.now.dev (place.now.block + n))
-        ≡ true) ⊎ (block_at (as_read (now (D.state devices.new))) place.now.dev
-        (place.now.block + n) ≡ Some bytes.now)) }
+        ≡ true) → is_of_node layout.now.id birth (block_at (as_read (now (D.state devices.new)))
+        place.now.dev (place.now.block + n)) ≡ true) }
     ensures written { D.tells → OnOk result (AreWritten (λ d b x. IsAt place.now.dev
-        (place.now.block + n) d b × (x ≡ bytes.now)) (as_read (now (D.state devices.old)))
+        (place.now.block + n) d b × (x ≡ shown.now.bytes)) (as_read (now (D.state devices.old)))
         (as_read (now (D.state devices.new)))) }
     ensures rest { D.tells → OnOk result (KeepsRest (D.state devices.old) (D.state devices.new)) }
     ensures goes_on { GoOn (D.state devices.old) (D.state devices.new) }
-    ensures cause { OnlyWriteFailed (failed_device result) (D.state devices.old).faults
+    ensures cause { AtMostOneWriteFailed (failed_device result) (D.state devices.old).faults
         (D.state devices.new).faults }
     ensures device { IfSome (failed_device result) (λ failed. failed ≡ place.now.dev) }
 {
-    let Some(held) = read_copy(alloc, devices, place, n)? else {
+    if place.dev == shown.dev {
         return Ok(());
-    };
-    if is_of_node(&layout.id, birth, held.as_slice()) {
+    }
+    if !is_to_mend(alloc, devices, layout, birth, place, n)? {
         return Ok(());
     }
     let block = block_of(devices, place, n);
-    settle_block(devices, place.dev, block, bytes)
+    settle_block(devices, place.dev, block, shown.bytes.as_slice())
 }
 
-// Writes block n of the node at each of its places that shows none of its blocks there.
+// Does so at each of its places.
 fn mend_copies<D: Devices>(
     alloc: Global,
     devices: &mut D,
@@ -211,38 +288,41 @@ fn mend_copies<D: Devices>(
     birth: u64,
     places: &[Place],
     n: u8,
-    bytes: &[u8],
+    shown: &Shown,
 ) -> Result<(), DiskFault>
-    requires size { length bytes.now ≡ 4096 }
-    requires opens { is_of_node layout.now.id birth (Some bytes.now) ≡ true }
-    ensures writes { D.tells → WritesOnly (λ d b. IsCopyOf places.now n d b
-        × (is_of_node layout.now.id birth (block_at (as_read (now (D.state devices.old)))
-        d b) ≡ false)) (IsCopyBlock places.now n bytes.now) (D.state devices.old)
-        (D.state devices.new) }
-    ensures idle { D.tells → ((place : APlace) → Contains places.now place
+    requires size { length shown.now.bytes ≡ 4096 }
+    requires opens { is_of_node layout.now.id birth (Some shown.now.bytes) ≡ true }
+    ensures writes { D.tells → WritesOnly (λ d b. IsCopyOf places.now n d b × (d ≢ shown.now.dev)
+        × ((is_of_node layout.now.id birth (block_at (as_read (now (D.state devices.old))) d b)
+        ≡ false) ⊎ DeviceFailed d (D.state devices.old).faults (D.state devices.new).faults))
+        (IsCopyBlock places.now n shown.now.bytes) (D.state devices.old) (D.state devices.new) }
+    ensures idle { D.tells → ¬ SomeFailed (D.state devices.old).faults
+        (D.state devices.new).faults → ((place : APlace) → Contains places.now place
         → is_of_node layout.now.id birth (block_at (as_read (now (D.state devices.old)))
         place.dev (place.block + n)) ≡ true) → AreOnlyRead D.tells (D.state devices.old)
         (D.state devices.new) }
-    ensures mended { D.tells → ¬ SomeFailed (D.state devices.old).faults
-        (D.state devices.new).faults → HaveCopies (D.state devices.old).sizes places.now n
+    ensures mended { D.tells → HaveCopies (D.state devices.old).sizes places.now n
+        → ((place : APlace) → Contains places.now place → place.dev ≡ shown.now.dev
+        → is_of_node layout.now.id birth (block_at (as_read (now (D.state devices.old)))
+        place.dev (place.block + n)) ≡ true)
         → OnOk result ((place : APlace) → Contains places.now place
         → is_of_node layout.now.id birth (block_at (as_read (now (D.state devices.new)))
         place.dev (place.block + n)) ≡ true) }
-    ensures written { D.tells → OnOk result (AreWritten (IsCopyBlock places.now n bytes.now)
+    ensures written { D.tells → OnOk result (AreWritten (IsCopyBlock places.now n shown.now.bytes)
         (as_read (now (D.state devices.old))) (as_read (now (D.state devices.new)))) }
     ensures rest { D.tells → OnOk result (KeepsRest (D.state devices.old) (D.state devices.new)) }
     ensures goes_on { GoOn (D.state devices.old) (D.state devices.new) }
-    ensures cause { OnlyWriteFailed (failed_device result) (D.state devices.old).faults
+    ensures cause { AtMostOneWriteFailed (failed_device result) (D.state devices.old).faults
         (D.state devices.new).faults }
     ensures device { IfSome (failed_device result) (IsDeviceOf places.now) }
 {
     for place in places {
-        mend_copy(alloc, devices, layout, birth, place, n, bytes)?;
+        mend_copy(alloc, devices, layout, birth, place, n, shown)?;
     }
     Ok(())
 }
 
-// Writes block n of the node, from the first place that shows it, at each place that shows none of its blocks there.
+// Writes block n of the node, from the first place that shows it, at each other place that is to be mended.
 fn mend_block<D: Devices>(
     alloc: Global,
     devices: &mut D,
@@ -251,31 +331,43 @@ fn mend_block<D: Devices>(
     places: &[Place],
     n: u8,
 ) -> Result<(), DiskFault>
+    requires { ArePlaced layout.now places.now }
     ensures writes { D.tells → WritesOnly (λ d b. IsCopyOf places.now n d b
-        × (is_of_node layout.now.id birth (block_at (as_read (now (D.state devices.old)))
-        d b) ≡ false)) (IsCopyShown layout.now.id birth places.now n (as_read (now (D.state devices.old))))
+        × ((is_of_node layout.now.id birth (block_at (as_read (now (D.state devices.old))) d b)
+        ≡ false) ⊎ DeviceFailed d (D.state devices.old).faults (D.state devices.new).faults))
+        (IsCopyShown layout.now.id birth places.now n (as_read (now (D.state devices.old))))
         (D.state devices.old) (D.state devices.new) }
-    ensures idle { D.tells → IsWholeOrNone layout.now.id birth places.now n
+    ensures kept { D.tells → IsQuiet (now (D.state devices.old)) → EachCrash (λ _ _ image.
+        (bytes : List ℕ) → IsShown layout.now.id birth places.now
+        (as_read (now (D.state devices.old))) n bytes → IsStillShown layout.now.id birth
+        places.now n (as_read (now (D.state devices.old))) image) (D.state devices.old)
+        (D.state devices.new) }
+    ensures idle { D.tells → ¬ SomeFailed (D.state devices.old).faults
+        (D.state devices.new).faults → IsWholeOrNone layout.now.id birth places.now n
         (as_read (now (D.state devices.old))) → AreOnlyRead D.tells (D.state devices.old)
         (D.state devices.new) }
-    ensures mended { D.tells → ¬ SomeFailed (D.state devices.old).faults
-        (D.state devices.new).faults → HaveCopies (D.state devices.old).sizes places.now n
-        → (bytes : List ℕ) → IsShown layout.now.id birth places.now (as_read (now (D.state devices.old))) n bytes
+    ensures mended { D.tells → HaveCopies (D.state devices.old).sizes places.now n
+        → (bytes : List ℕ) → IsShown layout.now.id birth places.now
+        (as_read (now (D.state devices.old))) n bytes
         → OnOk result ((place : APlace) → Contains places.now place
         → is_of_node layout.now.id birth (block_at (as_read (now (D.state devices.new)))
         place.dev (place.block + n)) ≡ true) }
-    ensures written { D.tells → OnOk result (AreWritten (IsCopyShown layout.now.id birth places.now n
-        (as_read (now (D.state devices.old)))) (as_read (now (D.state devices.old)))
-        (as_read (now (D.state devices.new)))) }
+    ensures written { D.tells → OnOk result (AreWritten (IsCopyShown layout.now.id birth
+        places.now n (as_read (now (D.state devices.old))))
+        (as_read (now (D.state devices.old))) (as_read (now (D.state devices.new)))) }
     ensures rest { D.tells → OnOk result (KeepsRest (D.state devices.old) (D.state devices.new)) }
     ensures goes_on { GoOn (D.state devices.old) (D.state devices.new) }
-    ensures cause { OnlyWriteFailed (failed_device result) (D.state devices.old).faults
+    ensures cause { AtMostOneWriteFailed (failed_device result) (D.state devices.old).faults
         (D.state devices.new).faults }
     ensures device { IfSome (failed_device result) (IsDeviceOf places.now) }
 {
     match shown_block(alloc, devices, layout, birth, places, n)? {
         None => Ok(()),
-        Some(bytes) => mend_copies(alloc, devices, layout, birth, places, n, bytes.as_slice()),
+        Some(shown) => {
+            let mended = mend_copies(alloc, devices, layout, birth, places, n, &shown);
+            drop(shown);
+            mended
+        }
     }
 }
 
@@ -289,13 +381,19 @@ fn mend_blocks<D: Devices>(
     end: u8,
 ) -> Result<(), DiskFault>
     requires { MayBeMended layout.now places.now end }
-    ensures writes { D.tells → WritesOnly (IsLacking layout.now.id birth places.now end
-        (as_read (now (D.state devices.old)))) (IsWanted layout.now.id birth places.now end
-        (as_read (now (D.state devices.old)))) (D.state devices.old) (D.state devices.new) }
-    ensures idle { D.tells → AreAlike end (copies_at (block_at (as_read (now (D.state devices.old))))
-        places.now) → AreOnlyRead D.tells (D.state devices.old) (D.state devices.new) }
-    ensures mended { D.tells → ¬ SomeFailed (D.state devices.old).faults
-        (D.state devices.new).faults → CanBeMended layout.now birth places.now end
+    ensures writes { D.tells → WritesOnly (IsToMend layout.now.id birth places.now end
+        (as_read (now (D.state devices.old))) (λ dev. DeviceFailed dev
+        (D.state devices.old).faults (D.state devices.new).faults))
+        (IsWanted layout.now.id birth places.now end (as_read (now (D.state devices.old))))
+        (D.state devices.old) (D.state devices.new) }
+    ensures kept { D.tells → IsQuiet (now (D.state devices.old)) → EachCrash (λ _ _ image.
+        StayShown layout.now.id birth places.now end (as_read (now (D.state devices.old))) image)
+        (D.state devices.old) (D.state devices.new) }
+    ensures idle { D.tells → ¬ SomeFailed (D.state devices.old).faults
+        (D.state devices.new).faults
+        → AreAlike end (copies_at (block_at (as_read (now (D.state devices.old)))) places.now)
+        → AreOnlyRead D.tells (D.state devices.old) (D.state devices.new) }
+    ensures mended { D.tells → CanBeMended layout.now birth places.now end
         (D.state devices.old).sizes (as_read (now (D.state devices.old))) → OnOk result (AreAlike end
         (copies_at (block_at (as_read (now (D.state devices.new)))) places.now)) }
     ensures written { D.tells → OnOk result (AreWritten (IsWanted layout.now.id birth places.now end
@@ -303,7 +401,7 @@ fn mend_blocks<D: Devices>(
         (as_read (now (D.state devices.new)))) }
     ensures rest { D.tells → OnOk result (KeepsRest (D.state devices.old) (D.state devices.new)) }
     ensures goes_on { GoOn (D.state devices.old) (D.state devices.new) }
-    ensures cause { OnlyWriteFailed (failed_device result) (D.state devices.old).faults
+    ensures cause { AtMostOneWriteFailed (failed_device result) (D.state devices.old).faults
         (D.state devices.new).faults }
     ensures device { IfSome (failed_device result) (IsDeviceOf places.now) }
 {
@@ -337,14 +435,15 @@ fn may_be_mended(layout: &Layout, places: &[Place], end: u8) -> bool
     end <= BUCKET && are_placed(layout, places)
 }
 
-/// Mends a node whose sets end at this block of its bucket: each block before it that some place of the node shows is written on each
-/// place that shows no block of the node there, and flushed. So no block of the node is overwritten, also where its places
-/// disagree. A place that can't be read is left alone: it ends nothing, for a bad sector of one mirror must not keep a volume
-/// from being opened.
+/// Mends a node whose sets end at this block of its bucket: each block before it that some place of the node shows is written on each other
+/// place that shows no block of the node there, or that can't be read, and flushed. The place that it is read from isn't written, so
+/// that a crash meanwhile leaves one that shows it; and no block that can be read and is the node's is overwritten, also where its places
+/// disagree.
 ///
 /// Where a place lies on another device than its number in the list, or among superblocks or in a journal, nothing is written.
 ///
-/// It reads each of these blocks at most twice at each place, and takes memory for two blocks.
+/// It reads each of these blocks at most twice at each place, and takes memory for two blocks. Where no place shows a block and one of
+/// them can't be read, it ends with the fault of that device: the block may stand there alone.
 pub fn mend_node<D: Devices>(
     alloc: Global,
     devices: &mut D,
@@ -352,20 +451,25 @@ pub fn mend_node<D: Devices>(
     ptr: &NodePtr,
     end: u8,
 ) -> Result<(), DiskFault>
-    // Whatever a crash leaves meanwhile is the same but at places that lacked a block of the node, and there nothing opens but
-    // what a place of the node showed, as far as no torn block opens by chance.
-    ensures writes { D.tells → WritesOnly (IsLacking layout.now.id ptr.now.birth ptr.now.places end
-        (as_read (now (D.state devices.old)))) (IsWanted layout.now.id ptr.now.birth ptr.now.places end
+    // Whatever a crash leaves meanwhile is the same but at places that lacked a block of the node or couldn't be read, and there
+    // nothing opens but what a place of the node showed, as far as no torn block opens by chance.
+    ensures writes { D.tells → WritesOnly (IsToMend layout.now.id ptr.now.birth ptr.now.places end
+        (as_read (now (D.state devices.old))) (λ dev. DeviceFailed dev (D.state devices.old).faults
+        (D.state devices.new).faults)) (IsWanted layout.now.id ptr.now.birth ptr.now.places end
         (as_read (now (D.state devices.old)))) (D.state devices.old) (D.state devices.new) }
-    // A node that stands everywhere costs no write, whichever reads fail,
-    ensures idle { D.tells → AreAlike end (copies_at (block_at (as_read (now (D.state devices.old))))
-        ptr.now.places) → AreOnlyRead D.tells (D.state devices.old) (D.state devices.new) }
+    // What was shown somewhere is shown somewhere still.
+    ensures kept { D.tells → IsQuiet (now (D.state devices.old)) → EachCrash (λ _ _ image. StayShown
+        layout.now.id ptr.now.birth ptr.now.places end (as_read (now (D.state devices.old))) image)
+        (D.state devices.old) (D.state devices.new) }
+    // A node that stands everywhere costs no write, where no read fails,
+    ensures idle { D.tells → ¬ SomeFailed (D.state devices.old).faults (D.state devices.new).faults
+        → AreAlike end (copies_at (block_at (as_read (now (D.state devices.old)))) ptr.now.places)
+        → AreOnlyRead D.tells (D.state devices.old) (D.state devices.new) }
     // and one that isn't where nodes may be.
     ensures unplaced { ¬ MayBeMended layout.now ptr.now.places end → AreOnlyRead D.tells
         (D.state devices.old) (D.state devices.new) }
-    // Where no call failed it stands everywhere then.
-    ensures mended { D.tells → ¬ SomeFailed (D.state devices.old).faults
-        (D.state devices.new).faults → CanBeMended layout.now ptr.now.birth ptr.now.places end
+    // It stands everywhere then, whichever reads failed.
+    ensures mended { D.tells → CanBeMended layout.now ptr.now.birth ptr.now.places end
         (D.state devices.old).sizes (as_read (now (D.state devices.old))) → OnOk result (AreAlike end
         (copies_at (block_at (as_read (now (D.state devices.new)))) ptr.now.places)) }
     ensures written { D.tells → OnOk result (AreWritten (IsWanted layout.now.id ptr.now.birth ptr.now.places end
@@ -373,7 +477,7 @@ pub fn mend_node<D: Devices>(
         (as_read (now (D.state devices.new)))) }
     ensures rest { D.tells → OnOk result (KeepsRest (D.state devices.old) (D.state devices.new)) }
     ensures goes_on { GoOn (D.state devices.old) (D.state devices.new) }
-    ensures cause { OnlyWriteFailed (failed_device result) (D.state devices.old).faults
+    ensures cause { AtMostOneWriteFailed (failed_device result) (D.state devices.old).faults
         (D.state devices.new).faults }
     ensures device { IfSome (failed_device result) (IsDeviceOf ptr.now.places) }
 {
@@ -383,40 +487,4 @@ pub fn mend_node<D: Devices>(
         return Ok(());
     }
     mend_blocks(alloc, devices, layout, ptr.birth, places, end)
-}
-
-/// Mends a node up to where its sets end, as `mend_node` does, where its whole bucket can be read at each place. Where a block of it
-/// can't, or there are no sets, nothing is written: it isn't sure then where they end.
-///
-/// It reads the bucket once at each place besides, and takes memory for what it holds.
-pub fn mend_sets<D: Devices>(
-    alloc: Global,
-    devices: &mut D,
-    layout: &Layout,
-    ptr: &NodePtr,
-) -> Result<(), DiskFault>
-    ensures writes { D.tells → WritesOnly (IsLacking layout.now.id ptr.now.birth ptr.now.places 16
-        (as_read (now (D.state devices.old)))) (IsWanted layout.now.id ptr.now.birth
-        ptr.now.places 16 (as_read (now (D.state devices.old)))) (D.state devices.old)
-        (D.state devices.new) }
-    // A node that stands everywhere costs no write, whichever reads fail.
-    ensures idle { D.tells → IsWholeNode layout.now.id ptr.now (as_read (now (D.state devices.old)))
-        → AreOnlyRead D.tells (D.state devices.old) (D.state devices.new) }
-    ensures mended { D.tells → ¬ SomeFailed (D.state devices.old).faults
-        (D.state devices.new).faults → (found : ASets)
-        → sets_of (block_at (as_read (now (D.state devices.old)))) layout.now.id ptr.now ≡ Ok found
-        → CanBeMended layout.now ptr.now.birth ptr.now.places found.end
-        (D.state devices.old).sizes (as_read (now (D.state devices.old)))
-        → OnOk result (AreAlike found.end (copies_at
-        (block_at (as_read (now (D.state devices.new)))) ptr.now.places)) }
-    ensures rest { D.tells → OnOk result (KeepsRest (D.state devices.old) (D.state devices.new)) }
-    ensures goes_on { GoOn (D.state devices.old) (D.state devices.new) }
-    ensures cause { OnlyWriteFailed (failed_device result) (D.state devices.old).faults
-        (D.state devices.new).faults }
-    ensures device { IfSome (failed_device result) (IsDeviceOf ptr.now.places) }
-{
-    match read_end(alloc, devices, &layout.id, ptr)? {
-        None => Ok(()),
-        Some(end) => mend_node(alloc, devices, layout, ptr, end),
-    }
 }

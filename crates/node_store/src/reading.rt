@@ -6,20 +6,17 @@ ghost use Rattle.node_store.specs.declared.reading.Unread.{Unread as AnUnread};
 ghost use Rattle.dev_model.specs.Devices.{now};
 ghost use Rattle.dev_model.specs.Disk.{as_read, block_at};
 ghost use Rattle.dev_model.specs.Frames.{AreOnlyRead, after_reads};
-ghost use Rattle.geometry.specs.Faults.{DeviceFailed, SomeFailed, failed_device};
+ghost use Rattle.geometry.specs.Faults.{DeviceFailed, failed_device};
 ghost use Rattle.node_store.specs.Answers.{AreAlike, AreCauses, AreSeenFrom, IsNodeAnswer, IsSeenFrom, LackNoMore, first_place};
 ghost use Rattle.node_store.specs.Copies.{copies_at, copy_at, shown_at};
 ghost use Rattle.node_store.specs.FailedReads.{IsFarthest, IsUnreadAt, farthest, lacking, read_from, unread_device};
 ghost use Rattle.node_store.specs.Faults.{failed_node_device};
-ghost use Rattle.node_store.specs.Mending.{IsEndOf};
 ghost use Rattle.node_store.specs.NodeContents.{wanted_of};
-ghost use Rattle.node_store.specs.StoredSets.{sets_in, sets_of};
-ghost use Rattle.node_store.specs.declared.sets.StoredSets.{StoredSets as ASets};
 
 use crate::alike::are_alike;
 use crate::contents::{Content, content_in};
 use crate::opening::{Copied, OpenBlock, open_block};
-use crate::sets::{BUCKET, sets_in};
+use crate::sets::BUCKET;
 use crate::{NodeFault, SetFault};
 use dev_model::Devices;
 use geometry::{DiskFault, read_block};
@@ -194,51 +191,6 @@ fn see_copies<D: Devices>(
         copies.push(seen.copy)?;
     }
     Ok(SeenCopies { copies, unread })
-}
-
-// Where the sets of a node end, by its copies as they were seen; none where a block of these couldn't be read, or there are no sets.
-fn sure_end(
-    alloc: Global,
-    seen: &SeenCopies,
-    id: &[u8; 16],
-    birth: u64,
-) -> Result<Option<u8>, AllocError>
-    ensures whole { IfOk result (λ end. IfSome end (λ _. seen.now.unread ≡ None)) }
-    ensures sets { IfOk result (λ end. IfSome end (IsEndOf id.now birth seen.now.copies)) }
-    ensures none { IfOk result (λ end. end ≡ None → seen.now.unread ≡ None → (found : ASets)
-        → ¬ (sets_in seen.now.copies id.now birth ≡ Ok found)) }
-{
-    if seen.unread.is_some() {
-        return Ok(None);
-    }
-    match sets_in(alloc, seen.copies.as_slice(), id, birth) {
-        Ok(found) => {
-            let end = found.end;
-            drop(found);
-            Ok(Some(end))
-        }
-        Err(SetFault::BadBlock(_)) => Ok(None),
-        Err(SetFault::NoMemory) => Err(AllocError),
-    }
-}
-
-/// Where the sets of a node end; none where a block of its bucket can't be read at some place, or there are no sets.
-pub(crate) fn read_end<D: Devices>(
-    alloc: Global,
-    devices: &mut D,
-    id: &[u8; 16],
-    ptr: &NodePtr,
-) -> Result<Option<u8>, AllocError>
-    ensures sets { D.tells → IfOk result (λ end. IfSome end (IsEndOf id.now ptr.now.birth
-        (copies_at (block_at (as_read (now (D.state devices.old)))) ptr.now.places))) }
-    ensures none { D.tells → ¬ SomeFailed (D.state devices.old).faults (D.state devices.new).faults
-        → IfOk result (λ end. end ≡ None → (found : ASets)
-        → ¬ (sets_of (block_at (as_read (now (D.state devices.old)))) id.now ptr.now ≡ Ok found)) }
-    ensures read { AreOnlyRead D.tells (D.state devices.old) (D.state devices.new) }
-{
-    let places = ptr.places.as_slice();
-    let seen = see_copies(alloc, devices, places)?;
-    sure_end(alloc, &seen, id, ptr.birth)
 }
 
 // The block that couldn't be read, if it is this one or one behind it.

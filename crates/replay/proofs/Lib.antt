@@ -19,5 +19,9 @@ mod LoadedFront
 pub mod RootsRead
 pub mod ShownSets
 pub mod MendedSets
+pub mod RootPlaces
 pub mod MendedRoots
+pub mod SameRoots
+pub mod RootsShown
+pub mod OpenedRoots
 pub mod OpenedVolume

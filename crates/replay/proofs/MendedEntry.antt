@@ -10,12 +10,11 @@ use Rattle.dev_model.specs.Crashes.{IsQuiet, SameBut}
 use Rattle.dev_model.specs.Devices.{DevicesState, now}
 use Rattle.dev_model.specs.Disk.{Asked, Disk, Image, IsAtRest, IsCrashImage, IsDisk, as_read, block_at}
 use Rattle.dev_model.specs.HeldBlocks.{HasHeld, HaveHeld}
-use Rattle.dev_model.specs.HeldLaws.{no_chance_before}
 use Rattle.geometry.specs.LayoutFacts.{HasPlaces, has_places}
 use Rattle.geometry.specs.Mirrors.{AreAtRest}
 use Rattle.geometry.specs.SuperLaws.{layout_fits}
 use Rattle.image_view.specs.BaseLaws.{found-layout}
-use Rattle.image_view.specs.CrashEntries.{OnlyHeldEntriesOpen, opens}
+use Rattle.image_view.specs.CrashEntries.{opens}
 use Rattle.image_view.specs.Found.{Found, IsInOrder, found, node_places}
 use Rattle.image_view.specs.Mends.{HasNoEqualDigest, IsMending, IsPlaceOf, StandsIn}
 use Rattle.key_meaning.specs.Checks.{AreNodesPlaced}
@@ -31,6 +30,7 @@ use Rattle.vol_types.specs.declared.layout.Layout.{Layout}
 use Rattle.replay.proofs.Images.{as_many_left, as_many_read, same_sizes}
 use Rattle.replay.proofs.Sessions.{long_devices}
 use Rattle.replay.specs.Mending.{BringsNoBlock, IsInOrderOn, IsMendedTo, IsUntorn, KeepsFound, StandsOnAll}
+use Rattle.replay.specs.Untorn.{untorn_before, untorn_since}
 
 tail_of : List ℕ → List ℕ
 tail_of [] = []
@@ -302,14 +302,8 @@ module _ (laws : MendLaws) (f : Found) (mid : DevicesState) (on : IsInOrderOn f 
 
 pub keeps_then : (f : Found) (first mid new : DevicesState) → first.moment ≤ mid.moment → ((m : ℕ) → m ≤ mid.moment → new.disks m ≡ mid.disks m) → KeepsFound f first mid → KeepsFound f mid new → KeepsFound f first new
 keeps_then f first mid new begun past before after m lo hi image may untorn = ⊎_elim
-    (λ (later : mid.moment < m). after m (omega (arith, later)) hi image may (record {
-      reads = λ dev place mirror within n from to. untorn.reads dev place mirror within n (omega (arith, begun, from)) to;
-      left = untorn.left;
-    }))
-    (λ (earlier : m ≤ mid.moment). before m lo earlier image (subst (λ (ds : List Disk). IsCrashImage ds image) (past m earlier) may) (record {
-      reads = λ dev place mirror within. no_chance_before opens dev (16 + place) first.moment m mid new past m (omega arith) earlier (untorn.reads dev place mirror within);
-      left = subst (λ (ds : List Disk). OnlyHeldEntriesOpen f.layout ds image) (past m earlier) untorn.left;
-    }))
+    (λ (later : mid.moment < m). after m (omega (arith, later)) hi image may (untorn_since f.layout first.moment mid.moment m new image begun untorn))
+    (λ (earlier : m ≤ mid.moment). before m lo earlier image (subst (λ (ds : List Disk). IsCrashImage ds image) (past m earlier) may) (untorn_before f.layout first.moment m mid new image past earlier untorn))
     (cases_lt mid.moment m)
 
 -- ---- one entry more

@@ -108,28 +108,32 @@ module _ (f : Found) (one other : Image) (whole : f.layout.journal % bucket_bloc
 
 -- ---- what it means
 
--- An image in which the same is found in order, and that differs in the journal areas alone, means the same.
+-- An image in which the same is found, in order where it was, and whose files have the same blocks where it is sound, means the same.
+pub means_by_content : (f : Found) (one other : Image) → found one ≡ Ok f → found other ≡ Ok f → (IsInOrder f one → IsInOrder f other) → (IsSound f.trees.keys (node_places f) f.layout → AgreeOnContent f one other) → MeansTheSame f one other
+means_by_content f one other is again order content = record {
+  session = f.session;
+  later = omega arith;
+  finds = again;
+  in_order = order;
+  mounts = λ volume mounts.
+      let e : f ≡ mounts.f = ok_is f mounts.f (sym is ∙ mounts.finds) in
+      let sound : IsSound f.trees.keys (node_places f) f.layout = subst (λ (g : Found). IsSound g.trees.keys (node_places g) g.layout) (sym e) mounts.sound in
+      record {
+        f = f;
+        finds = again;
+        sound = sound;
+        volume_is = mounts.volume_is ∙ ap (volume_of one) (sym e)
+            ∙ ap (λ forest. record { layout = f.layout; commits = f.last.entry.commits; forest = forest })
+            (forest_in-agree f.trees.keys (read_in one) (read_in other) (content-same f one other (content sound)));
+      };
+  unsound = λ check unsound. record { f = unsound.f; finds = again ∙ ap (λ (g : Found). Ok g) (ok_is f unsound.f (sym is ∙ unsound.finds)); fails = unsound.fails };
+}
+
+-- So does one in which the same is found in order, and that differs in the journal areas alone.
 pub means_the_same : (f : Found) (one other : Image) → found one ≡ Ok f → found other ≡ Ok f → IsInOrder f other → SameBut (IsJournalBlock f.layout) one other → MeansTheSame f one other
 means_the_same f one other is again order same =
     let whole = (has_places (map (λ blocks. length blocks) one) f.layout (layout_fits one f.layout (found-layout one f is))).journal_whole in
-    record {
-      session = f.session;
-      later = omega arith;
-      finds = again;
-      in_order = λ before. order;
-      mounts = λ volume mounts.
-          let e : f ≡ mounts.f = ok_is f mounts.f (sym is ∙ mounts.finds) in
-          let sound : IsSound f.trees.keys (node_places f) f.layout = subst (λ (g : Found). IsSound g.trees.keys (node_places g) g.layout) (sym e) mounts.sound in
-          record {
-            f = f;
-            finds = again;
-            sound = sound;
-            volume_is = mounts.volume_is ∙ ap (volume_of one) (sym e)
-                ∙ ap (λ forest. record { layout = f.layout; commits = f.last.entry.commits; forest = forest })
-                (forest_in-agree f.trees.keys (read_in one) (read_in other) (content-same f one other (content_same f one other whole same (node_places f) sound.blocks.placed)));
-          };
-      unsound = λ check unsound. record { f = unsound.f; finds = again ∙ ap (λ (g : Found). Ok g) (ok_is f unsound.f (sym is ∙ unsound.finds)); fails = unsound.fails };
-    }
+    means_by_content f one other is again (λ before. order) (λ sound. content_same f one other whole same (node_places f) sound.blocks.placed)
 
 -- Whatever a crash leaves while the journal is mended means the same.
 pub keeps_meaning : (f : Found) (layout : Layout) (old new : DevicesState) → f.layout ≡ layout → IsInOrderOn f (now old) → KeepsFound f old new → ChangesJournal layout old new → KeepsMeaning f old new
@@ -137,7 +141,7 @@ keeps_meaning f layout old new layouts on keeps changes =
     let here : ChangesJournal f.layout old new = subst (λ (l : Layout). ChangesJournal l old new) (sym layouts) changes in
     record {
       means = λ m lo hi image may untorn.
-          let kept = keeps m lo hi image may untorn in
+          let kept = keeps m lo hi image may untorn.journal in
           means_the_same f (as_read (now old)) image on.on.finds kept.0 kept.1 (here.each m lo hi image may);
       session = λ m lo hi image may untorn session named.
           let same : session ≡ f.session = journal_session f (as_read (now old)) image on.on.finds (here.each m lo hi image may) session named in

@@ -136,7 +136,7 @@ module _ (id : List ℕ) (birth : ℕ) (one other : Copies) (agree : AgreeOn id 
 -- ---- both ways
 
 module _ (id : List ℕ) (birth : ℕ) (one other : Copies) (agree : AgreeOn id birth one) (same : ShowTheSame id birth one other) where
-  agree_too : AgreeOn id birth other
+  pub agree_too : AgreeOn id birth other
   agree_too n c d in_c in_d x y at_x at_y of_x of_y =
       let first = (same n x of_x).1 (c, in_c, at_x) in
       let second = (same n y of_y).1 (d, in_d, at_y) in

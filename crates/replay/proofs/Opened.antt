@@ -1,5 +1,5 @@
 -- What a session's beginning and the mending of the journal come to together.
-use Rattle.std.proofs.Common.{◌≡◌, ℕ, ◌+◌, ◌<◌, ◌≤◌, ⊎_elim, List, length, ap, ◌∙◌, sym, subst, arith, All}
+use Rattle.std.proofs.Common.{◌≡◌, ℕ, ◌+◌, ◌<◌, ◌≤◌, ⊎_elim, List, ap, ◌∙◌, sym, subst, arith, All}
 use Rattle.std.proofs.lemmas.Bool.{cases_lt}
 use Rattle.std.proofs.lemmas.List.Elements.{All-weaker}
 use Rattle.dev_model.specs.CrashLaws.{as_read_may_be_left}
@@ -13,11 +13,12 @@ use Rattle.image_view.specs.Found.{AreOwned, Found, IsInOrder, with_session}
 use Rattle.image_view.specs.Mends.{HasNoEqualDigest, StandsIn}
 use Rattle.image_view.specs.NextEntries.{AreNumberedBelow}
 use Rattle.journal_ring.specs.Parts.{area_of}
-use Rattle.journal_ring.specs.declared.found.FoundEntry.{FoundEntry}
 use Rattle.key_codec.specs.Combined.{ok_is}
 use Rattle.vol_types.specs.declared.layout.Layout.{Layout}
 use Rattle.replay.specs.Beginning.{IsFoundOn, MeansTheSame}
-use Rattle.replay.specs.Mending.{BringsNoBlock, ChangesJournal, HasMended, IsInOrderOn, IsJournalBlock, IsReady, KeepsMeaning, KeepsPast, KeepsSession}
+use Rattle.replay.specs.Mending.{BringsNoBlock, ChangesJournal, IsInOrderOn, IsJournalBlock, KeepsMeaning, KeepsPast, KeepsSession}
+use Rattle.replay.specs.Untorn.{volume_untorn_in_session, volume_untorn_since}
+use Rattle.replay.proofs.MendedMeaning.{means_the_same}
 use Rattle.replay.proofs.NextSession.{journal_session, sessions_before}
 
 -- ---- one meaning after another
@@ -73,12 +74,18 @@ module _ (f : Found) (layout : Layout) (session : ℕ) (layouts : f.layout ≡ l
 
     -- ---- and the journal is mended
 
+    -- What is read then means the same, where it is in order.
+    pub means_both : (new : DevicesState) → ChangesJournal layout mid new → All IsDisk (now new) → IsInOrderOn (with_session (session + 1) f) (now new) → MeansTheSame f (as_read (now old)) (as_read (now new))
+    means_both new changes are_new on_new = means_then f (as_read (now old)) (as_read (now mid)) (as_read (now new)) (session + 1) means session_is
+        (means_the_same (with_session (session + 1) f) (as_read (now mid)) (as_read (now new)) begun.finds on_new.on.finds on_new.order
+        (subst (λ (l : Layout). SameBut (IsJournalBlock l) (as_read (now mid)) (as_read (now new))) (sym layouts) (changes.each new.moment changes.later (omega arith) (as_read (now new)) (as_read_may_be_left (now new) are_new))))
+
     -- Whatever a crash leaves from the beginning on means the same.
     pub keeps_both : (new : DevicesState) → ChangesJournal layout mid new → KeepsSession f old mid → KeepsMeaning (with_session (session + 1) f) mid new → KeepsMeaning f old new
     keeps_both new changes kept keeps = record {
       means = λ m lo hi image may untorn. ⊎_elim
           (λ (after : mid.moment < m). means_then f (as_read (now old)) (as_read (now mid)) image (session + 1) means session_is
-          (keeps.means m (omega (arith, after)) hi image may (record { reads = λ dev place mirror within n from to. untorn.reads dev place mirror within n (omega (arith, from, crashes.later)) to; left = untorn.left })))
+          (keeps.means m (omega (arith, after)) hi image may (volume_untorn_in_session f (session + 1) mid.moment m new image (volume_untorn_since f old.moment mid.moment m new image crashes.later untorn))))
           (λ (earlier : m ≤ mid.moment). crashes.each m lo earlier image (subst (λ (ds : List Disk). IsCrashImage ds image) (changes.past m earlier) may))
           (cases_lt mid.moment m);
       session = λ m lo hi image may untorn s named. ⊎_elim
@@ -106,13 +113,3 @@ unwritten f session sessions old mid new owned elsewhere brings number dev place
     let there = brings bytes (record { dev = dev; place = place; mirror = mirror; within = within; stands = stands }) in
     let most = owned there.dev there.place bytes head there.mirror there.within (sym (area_same f.layout (session + 1) old mid elsewhere there.dev there.place) ∙ there.stands) opens kind id in
     absurd (omega (arith, most, owner, sessions))
-
--- So the volume is ready where its journal was mended then.
-pub is_ready : (f : Found) (layout : Layout) (session : ℕ) (needed : List FoundEntry) → f.layout ≡ layout → f.session ≡ session → f.needed ≡ needed → (old mid new : List Disk) → AreOwned f.layout f.session (area_of (as_read old))
-    → SameBut (IsSessionPlace layout (session + 1)) (as_read old) (as_read mid) → BringsNoBlock layout (as_read mid) (as_read new) → HasMended (with_session (session + 1) f) (length needed) new → IsReady (with_session (session + 1) f) new
-is_ready f layout session needed layouts sessions needs old mid new owned elsewhere brings mended = record {
-  mended = subst (λ (es : List FoundEntry). HasMended (with_session (session + 1) f) (length es) new) (sym needs) mended;
-  unwritten = unwritten f session sessions (as_read old) (as_read mid) (as_read new) owned
-      (subst (λ (l : Layout). SameBut (IsSessionPlace l (session + 1)) (as_read old) (as_read mid)) (sym layouts) elsewhere)
-      (subst (λ (l : Layout). BringsNoBlock l (as_read mid) (as_read new)) (sym layouts) brings);
-}

@@ -1,11 +1,11 @@
 -- What a volume's loading and its beginning come to together.
-use Rattle.std.proofs.Common.{◌≡◌, ℕ, zero, suc, ◌+◌, ◌<◌, ◌≤◌, inr, ⊎_elim, Bool, true, false, nat_lt, if◌then◌else◌, List, [], ◌∷◌, length, Option, Some, None, Result, Ok, Err, refl, ap, ◌∙◌, sym, subst, arith}
+use Rattle.std.proofs.Common.{◌≡◌, ℕ, zero, suc, ◌+◌, ◌<◌, ◌≤◌, inl, inr, ⊎_elim, Bool, true, false, nat_lt, if◌then◌else◌, List, [], ◌∷◌, length, Option, Some, None, Result, Ok, Err, refl, ap, ◌∙◌, sym, subst, arith}
 use Rattle.std.proofs.lemmas.Bool.{cases_lt}
 use Rattle.std.proofs.lemmas.Bool.Decides.{nat_tests}
 use Rattle.std.specs.Prelude.{IfOk, IfSome, OnOk, slice_index_or}
-use Rattle.dev_model.specs.Devices.{AreFaultCounts, DevicesState, FaultCounts, now, risen}
+use Rattle.dev_model.specs.Devices.{AreFaultCounts, DevicesState, FaultCounts, now, risen, with_read_fault, with_write_fault}
 use Rattle.dev_model.specs.Disk.{Disk, Image, IsCrashImage, as_read, changed}
-use Rattle.dev_model.specs.FrameLaws.{stay_now}
+use Rattle.dev_model.specs.FrameLaws.{no_fewer_here, stay_now}
 use Rattle.dev_model.specs.Frames.{AreAfterCalls, AreNoFewer, DisksStay, after_writes}
 use Rattle.geometry.specs.Faults.{DeviceFailed, SomeFailed}
 use Rattle.image_view.specs.Found.{Found, found, with_session}
@@ -13,6 +13,7 @@ use Rattle.image_view.specs.declared.fault.MountFault.{MountFault}
 use Rattle.image_view.specs.declared.fault.MountFault.TheVariants.{NoSuper, Version, Mixed, BadLayout, NoEntry, MissingEntry, BadNode, Unsound, DeviceFault, NoMemory}
 use Rattle.image_reader.specs.Answers.{Finds, IsEarly}
 use Rattle.image_reader.specs.Faults.{mount_fault_device}
+use Rattle.node_store.specs.Mending.{AtMostOneWriteFailed}
 use Rattle.tree_nodes.specs.Levels.{Levels}
 use Rattle.vol_types.specs.Faults.{RoseBy}
 use Rattle.vol_types.specs.declared.layout.Layout.{Layout}
@@ -20,6 +21,7 @@ use Rattle.replay.specs.Answers.{IsLoaded}
 use Rattle.replay.specs.Beginning.{MeansTheSame, begin_fault_device}
 use Rattle.replay.proofs.NextSession.{stay_session, stay_then_session}
 use Rattle.replay.specs.Mending.{IsInOrderOn, IsReady, KeepsMeaning, KeepsPast}
+use Rattle.replay.specs.Untorn.{volume_untorn_since}
 use Rattle.replay.specs.Opening.{IsRefusal, in_next_session, opening_fault}
 use Rattle.replay.specs.Volumes.{found_in}
 use Rattle.replay.specs.declared.beginning.BeginFault.{BeginFault}
@@ -159,18 +161,27 @@ pub after_write : (device : Option ℕ) (old new : FaultCounts) → new ≡ afte
 after_write None old new is = is
 after_write (Some dev) old new is = inr is
 
+-- So at most one write failed, where no other call did.
+pub write_at_most : (device : Option ℕ) (old new : FaultCounts) (mirrors : ℕ) → AreAfterCalls device old new → AreFaultCounts old → mirrors ≤ 8 → IfSome device (λ dev. dev < mirrors) → AtMostOneWriteFailed device old new
+write_at_most None old new mirrors is are few below = ap (λ (f : FaultCounts). f.writes) is
+write_at_most (Some dev) old new mirrors is are few below = (
+  failed_by_call (Some dev) old old new mirrors (no_fewer_here old.calls) is are few below,
+  ⊎_elim (λ (read : new ≡ with_read_fault dev old). inl (ap (λ (f : FaultCounts). f.writes) read)) (λ (written : new ≡ with_write_fault dev old). inr (ap (λ (f : FaultCounts). f.writes) written)) is,
+)
+
+-- The device that a fault names has failed.
+pub device_failed : (device : Option ℕ) (old new : FaultCounts) → AtMostOneWriteFailed device old new → IfSome device (λ dev. DeviceFailed dev old new)
+device_failed None old new failed = tt
+device_failed (Some dev) old new failed = failed.0
+
 -- A device that failed after other calls has failed since these began.
 pub failed_since : (device : Option ℕ) (old mid new : FaultCounts) → AreNoFewer old.calls mid.calls → IfSome device (λ dev. DeviceFailed dev mid new) → IfSome device (λ dev. DeviceFailed dev old new)
 failed_since None old mid new more failed = tt
 failed_since (Some dev) old mid new more failed = omega (arith, more dev, failed)
 
--- What failed before has failed,
+-- What failed before has failed.
 pub none_before : (old mid new : FaultCounts) → AreNoFewer mid.calls new.calls → (SomeFailed old new → ⊥) → SomeFailed old mid → ⊥
 none_before old mid new more none failed = none (failed.0, (let f : DeviceFailed failed.0 old new = omega (arith, failed.1, more failed.0) in f))
-
--- and so has what failed later.
-pub none_since : (old mid new : FaultCounts) → AreNoFewer old.calls mid.calls → (SomeFailed old new → ⊥) → SomeFailed mid new → ⊥
-none_since old mid new more none failed = none (failed.0, (let f : DeviceFailed failed.0 old new = omega (arith, failed.1, more failed.0) in f))
 
 -- ---- crashes
 
@@ -205,7 +216,7 @@ stay_then_means f old mid new on stay past keeps = record {
   means = λ m lo hi image may untorn. ⊎_elim
       (λ (after : mid.moment < m).
       subst (λ (ds : List Disk). MeansTheSame f (as_read ds) image) (stay_now old mid stay)
-      (keeps.means m (omega (arith, after)) hi image may (record { reads = λ dev place mirror within n from to. untorn.reads dev place mirror within n (omega (arith, from, later)) to; left = untorn.left })))
+      (keeps.means m (omega (arith, after)) hi image may (volume_untorn_since f old.moment mid.moment m new image later untorn)))
       (λ (earlier : m ≤ mid.moment). left_means f (now old) on image (subst (λ (ds : List Disk). IsCrashImage ds image) (past m earlier ∙ stay.same m lo earlier) may))
       (cases_lt mid.moment m);
   session = stay_then_session f old mid new on.on stay past keeps.session;

@@ -103,7 +103,7 @@ module _ (sets : SetsOf) (updates : List Update) where
 -- ---- how often nodes lie in a bucket
 
 module _ (dev bucket : ℕ) where
-  abbrev counted : List NodePtr → ℕ
+  abbrev pub counted : List NodePtr → ℕ
   counted nodes = count_in_bucket (flat_map (λ (node : NodePtr). node.places) nodes) dev bucket
 
   abbrev one_or_none : Place → ℕ
@@ -146,7 +146,7 @@ module _ (dev bucket : ℕ) where
       omega (arith, later, more)
 
   -- of one node,
-  at_least : (nodes : List NodePtr) (k : ℕ) → k < length nodes → count_in_bucket (get_or nodes k no_node).places dev bucket ≤ counted nodes
+  pub at_least : (nodes : List NodePtr) (k : ℕ) → k < length nodes → count_in_bucket (get_or nodes k no_node).places dev bucket ≤ counted nodes
   at_least [] k lower = absurd (omega (arith, lower))
   at_least (node ∷ nodes) zero lower = let both = sum_by-append one_or_none node.places (flat_map (λ (n : NodePtr). n.places) nodes) in omega (arith, both)
   at_least (node ∷ nodes) (suc k) lower =
@@ -168,7 +168,7 @@ module _ (dev bucket : ℕ) where
       omega (arith, both, later)
 
 -- A node with a block there lies in that block's bucket.
-block_counts : (node : NodePtr) (dev block : ℕ) → All IsBucket node.places → IsBlockOf node dev block → 1 ≤ count_in_bucket node.places dev (block / bucket_blocks)
+pub block_counts : (node : NodePtr) (dev block : ℕ) → All IsBucket node.places → IsBlockOf node dev block → 1 ≤ count_in_bucket node.places dev (block / bucket_blocks)
 block_counts node dev block buckets is =
     let place = is.copy.0 in
     let first = (All-contains IsBucket node.places place buckets is.copy.1).first in

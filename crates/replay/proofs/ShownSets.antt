@@ -147,7 +147,7 @@ module _ (copies : Copies) (id : List ℕ) (birth : ℕ) where
 
 -- ---- on which place
 
-place_of_copy : (read : Reading) (places : List Place) (copy : List (Option OpenBlock)) → Contains (copies_at read places) copy → (place : Place) × Contains places place × (copy_at read place ≡ copy)
+pub place_of_copy : (read : Reading) (places : List Place) (copy : List (Option OpenBlock)) → Contains (copies_at read places) copy → (place : Place) × Contains places place × (copy_at read place ≡ copy)
 place_of_copy read [] copy is = absurd (omega (arith, is.1))
 place_of_copy read (place ∷ places) copy (zero, within, at) = (place, (0, omega arith, refl), at)
 place_of_copy read (place ∷ places) copy (suc k, within, at) =
@@ -166,7 +166,7 @@ opens_by id birth bytes block (Some head) is of =
     let same : made ≡ block = cc in
     head_passes id birth head (subst (λ (b : OpenBlock). IsOfNode id birth b.head) (sym same) of)
 
-shown_bytes : (id : List ℕ) (birth : ℕ) (held : Option (List ℕ)) (block : OpenBlock) → option_and_then shown_in held ≡ Some block → IsOfNode id birth block.head → (bytes : List ℕ) × (held ≡ Some bytes) × (is_of_node id birth (Some bytes) ≡ true)
+pub shown_bytes : (id : List ℕ) (birth : ℕ) (held : Option (List ℕ)) (block : OpenBlock) → option_and_then shown_in held ≡ Some block → IsOfNode id birth block.head → (bytes : List ℕ) × (held ≡ Some bytes) × (is_of_node id birth (Some bytes) ≡ true)
 shown_bytes id birth None block is of = absurd cc
 shown_bytes id birth (Some bytes) block is of = (bytes, refl, opens_by id birth bytes block (opened bytes) is of)
 

@@ -5,3 +5,4 @@ pub mod Mending
 pub mod Opening
 pub mod NodeUpdates
 pub mod Roots
+pub mod Untorn

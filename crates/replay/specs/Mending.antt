@@ -16,12 +16,20 @@ use Rattle.journal_ring.specs.EntryBlocks.{AreEntryBlocks, HoldBlocks}
 use Rattle.journal_ring.specs.Parts.{area_of}
 use Rattle.vol_types.specs.declared.layout.Layout.{Layout}
 use Rattle.replay.specs.Beginning.{IsFoundOn, MeansTheSame}
+use Rattle.replay.specs.Roots.{AreRootsAlike, IsRootBlock}
 
 -- No torn block of the journal areas opens by chance: neither in what was read at each moment up to this one, nor in this image
 -- that a crash left then.
 pub record IsUntorn (layout : Layout) (first moment : ℕ) (state : DevicesState) (image : Image) : Type 0 where
   pub reads : (dev place : ℕ) → dev < layout.metadata_replicas → place < layout.journal → HasNoChanceMatch opens dev (16 + place) first moment state
   pub left : OnlyHeldEntriesOpen layout (state.disks moment) image
+
+-- No torn block opens by chance, neither in the journal areas nor in the buckets of the roots that the newest entry of what was found names:
+-- neither in what was read at each moment up to this one, nor in this image that a crash left then.
+pub record IsVolumeUntorn (f : Found) (first moment : ℕ) (state : DevicesState) (image : Image) : Type 0 where
+  pub journal : IsUntorn f.layout first moment state image
+  pub root_reads : (dev block : ℕ) → IsRootBlock f dev block → HasNoChanceMatch opens dev block first moment state
+  pub roots_left : (dev block : ℕ) → IsRootBlock f dev block → OnlyHeldOpensAt opens (state.disks moment) image dev block
 
 -- It is a block in which sessions are sealed, on a metadata device.
 pub record IsOfSessions (layout : Layout) (dev block : ℕ) : Type 0 where
@@ -63,7 +71,7 @@ KeepsSession f old new =
 -- session was begun.
 pub record KeepsMeaning (f : Found) (old new : DevicesState) : Type 0 where
   pub means : (moment : ℕ) → old.moment ≤ moment → moment ≤ new.moment → (image : Image) → IsCrashImage (new.disks moment) image
-      → IsUntorn f.layout old.moment moment new image → MeansTheSame f (as_read (now old)) image
+      → IsVolumeUntorn f old.moment moment new image → MeansTheSame f (as_read (now old)) image
   pub session : KeepsSession f old new
 
 -- Each block that stands in the journal areas of the second image stands in those of the first one.
@@ -91,10 +99,12 @@ pub record HasMended (f : Found) (count : ℕ) (disks : List Disk) : Type 0 wher
   pub found_on : IsInOrderOn f disks
   pub stand : (index : ℕ) → index < count → StandsOnAll f.layout (as_read disks) (slice_index_or f.needed index f.last)
 
--- The volume is ready for a session that writes: what was found is found in order, each needed entry stands on every metadata device, and
--- no block of the session stands in the journal areas, so that those of it are numbered below any number.
+-- The volume is ready for a session that writes: what was found is found in order, each needed entry stands on every metadata device, the
+-- roots have the same sets on all of them, and no block of the session stands in the journal areas, so that those of it are numbered
+-- below any number.
 pub record IsReady (f : Found) (disks : List Disk) : Type 0 where
   pub mended : HasMended f (length f.needed) disks
+  pub roots : AreRootsAlike f (as_read disks)
   pub unwritten : (number : ℕ) → AreNumberedBelow f.layout f.session number (area_of (as_read disks))
 
 -- From one state to a later one the first so many needed entries were mended.

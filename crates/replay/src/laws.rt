@@ -2,15 +2,19 @@ ghost use Rattle.std.specs.Prelude.{◌≡◌, ◌↔◌, ◌<◌, ℕ, All, Lis
 ghost use Rattle.birth_index.specs.Births.{BirthsDiffer};
 ghost use Rattle.btree_map.specs.Trees.{IsTrees, keys_in};
 ghost use Rattle.dev_model.specs.Disk.{Image};
-ghost use Rattle.image_view.specs.Found.{Found, IsInOrder, found};
+ghost use Rattle.image_view.specs.Found.{Found, IsInOrder, NodesAgree, found, node_places};
+ghost use Rattle.key_meaning.specs.Checks.{AreNodesPlaced};
 ghost use Rattle.node_store.specs.Answers.{AgreeOn};
 ghost use Rattle.node_store.specs.StoredSets.{Copies, sets_in};
 ghost use Rattle.record_codec.specs.Entries.{IsEntry};
+ghost use Rattle.replay.specs.Beginning.{MeansTheSame};
 ghost use Rattle.replay.specs.NodeUpdates.{ChangesNode, EachUpdate, HaveRisen, IsBelowRoot};
-ghost use Rattle.replay.specs.Roots.{ShowTheSame};
+ghost use Rattle.replay.specs.Roots.{DifferInRoots, ShowTheSame};
 ghost use Rattle.replay.specs.Volumes.{trees_read};
 
-use journal_ring::{leading_entries_are_needed, whole_entries_are_made_of_blocks};
+use journal_ring::{
+    leading_entries_are_needed, same_areas_hold_one_journal, whole_entries_are_made_of_blocks,
+};
 use record_codec::{entries_are_exact, sets_are_exact};
 use sealed_block::opened_blocks_are_sealed;
 
@@ -57,3 +61,20 @@ pub fn mended_copies_hold_the_same_sets()
     ensures { (id : List ℕ) (birth : ℕ) (one other : Copies) → AgreeOn id birth one
         → ShowTheSame id birth one other → sets_in other id birth ≡ sets_in one id birth }
 {}
+
+/// An image that differs from one in which something was found in blocks of the roots alone, and shows the same blocks of each root, on
+/// whichever places, means the same: where the nodes lie where nodes may, and the places of each agree on it. So it is while roots are mended.
+pub fn roots_that_show_the_same_mean_the_same()
+    ensures found { (one other : Image) (f : Found) → found one ≡ Ok f
+        → AreNodesPlaced (node_places f) f.layout → NodesAgree one f → DifferInRoots f one other
+        → found other ≡ Ok f }
+    ensures agree { (one other : Image) (f : Found) → found one ≡ Ok f
+        → AreNodesPlaced (node_places f) f.layout → NodesAgree one f → DifferInRoots f one other
+        → NodesAgree other f }
+    ensures means { (one other : Image) (f : Found) → found one ≡ Ok f
+        → AreNodesPlaced (node_places f) f.layout → NodesAgree one f → DifferInRoots f one other
+        → MeansTheSame f one other }
+{
+    found_btrees_are_a_key_map();
+    same_areas_hold_one_journal();
+}

@@ -20,7 +20,8 @@ mod volume;
 pub use beginning::{BeginFault, begin_session};
 pub use btrees::{MadeMap, Unmade, key_map};
 pub use laws::{
-    found_btrees_are_a_key_map, mended_copies_hold_the_same_sets, updates_change_nodes,
+    found_btrees_are_a_key_map, mended_copies_hold_the_same_sets,
+    roots_that_show_the_same_mean_the_same, updates_change_nodes,
 };
 pub use mending::mend_journal;
 pub use opening::{begin_and_mend, open_volume};

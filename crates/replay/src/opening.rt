@@ -4,12 +4,13 @@ ghost use Rattle.dev_model.specs.Disk.{as_read};
 ghost use Rattle.dev_model.specs.Frames.{AreOnlyRead, GoOn};
 ghost use Rattle.geometry.specs.Faults.{DeviceFailed, SomeFailed};
 ghost use Rattle.geometry.specs.Layouts.{is_layout_of};
-ghost use Rattle.image_view.specs.Found.{Found, found, with_session};
+ghost use Rattle.image_view.specs.Found.{Found, NodesAgree, found, with_session};
 ghost use Rattle.image_view.specs.Trees.{nodes_of};
 ghost use Rattle.image_view.specs.declared.fault.MountFault.{MountFault as AFault};
-ghost use Rattle.image_reader.specs.Answers.{AreRagged, Finds, IsEarly, NodesAgree, WasWhole};
+ghost use Rattle.image_reader.specs.Answers.{AreRagged, Finds, IsEarly, WasWhole};
 ghost use Rattle.image_reader.specs.Faults.{failed_mount_device};
 ghost use Rattle.image_reader.specs.Volumes.{last_of};
+ghost use Rattle.node_store.specs.Mending.{AtMostOneWriteFailed};
 ghost use Rattle.replay.specs.Beginning.{IsFoundOn, failed_begin_device};
 ghost use Rattle.replay.specs.Mending.{IsInOrderOn, IsReady, KeepsMeaning, KeepsPast};
 ghost use Rattle.replay.specs.Opening.{IsRefusal, IsSpent, in_next_session, opening_fault};
@@ -18,20 +19,21 @@ ghost use Rattle.replay.specs.Volumes.{found_in};
 
 use crate::{
     BeginFault, Loaded, begin_session, found_btrees_are_a_key_map, load, mend_journal, mend_roots,
+    roots_that_show_the_same_mean_the_same,
 };
 use dev_model::Devices;
 use image_view::MountFault;
 use journal_ring::FoundEntry;
 use std::alloc::Global;
-use vol_types::{Layout, NodePtr};
+use vol_types::{Layout, NodeEnd, NodePtr};
 
 /// Opens the volume on devices for writing: loads it, begins its next session, and mends its journal and its roots, in this order. Where no
 /// number of a session is left it answers `NoEntry`, as where no session is named. It costs what `load` and `begin_and_mend` do.
 ///
 /// Where the devices showed an orderly volume, whatever a crash leaves meanwhile means the same volume, in the session that was
 /// found or a later one, as far as no torn block opens by chance. After `Ok` the devices hold it in the next session, nothing of
-/// the metadata devices is pending, each needed entry stands on all of them, and no block of that session in their journal areas. Both
-/// hold also where reads of nodes failed.
+/// the metadata devices is pending, each needed entry stands on all of them, the roots have the same sets on all of them, and no block of
+/// that session stands in their journal areas. Both hold also where reads of nodes failed.
 pub fn open_volume<D: Devices>(alloc: Global, devices: &mut D) -> Result<Loaded, MountFault>
     // Where no call failed, it is what the image means, in its next session.
     ensures found { D.tells → ¬ SomeFailed (D.state devices.old).faults (D.state devices.new).faults
@@ -44,10 +46,9 @@ pub fn open_volume<D: Devices>(alloc: Global, devices: &mut D) -> Result<Loaded,
         → KeepsMeaning f (D.state devices.old) (D.state devices.new) }
     ensures ready { D.tells → (f : Found) → IsInOrderOn f (now (D.state devices.old))
         → OnOk result (IsReady (with_session (f.session + 1) f) (now (D.state devices.new))) }
-    // Where no call failed, each root has the same sets on every metadata device then, if its places agreed on it: also where they
-    // didn't have the same before.
-    ensures alike { D.tells → ¬ SomeFailed (D.state devices.old).faults (D.state devices.new).faults
-        → (f : Found) → IsFoundOn f (now (D.state devices.old))
+    // Each root has the same sets on every metadata device then, if its places agreed on it: also where they didn't have the same
+    // before, and whichever reads failed.
+    ensures alike { D.tells → (f : Found) → IsFoundOn f (now (D.state devices.old))
         → NodesAgree (as_read (now (D.state devices.old))) f
         → OnOk result (AreRootsAlike f (as_read (now (D.state devices.new)))) }
     // A fault before the nodes is the image's, and comes only where no call failed, or no number of a session is left.
@@ -95,15 +96,14 @@ fn begin_loaded<D: Devices>(
         → KeepsPast (D.state devices.old) (D.state devices.new) }
     ensures crashes { D.tells → (f : Found) → IsInOrderOn f (now (D.state devices.old))
         → f.layout ≡ loaded.layout → f.session ≡ loaded.session → f.needed ≡ loaded.needed
-        → KeepsMeaning f (D.state devices.old) (D.state devices.new) }
+        → f.trees.ends ≡ loaded.ends → KeepsMeaning f (D.state devices.old) (D.state devices.new) }
     ensures ready { D.tells → (f : Found) → IsInOrderOn f (now (D.state devices.old))
         → f.layout ≡ loaded.layout → f.session ≡ loaded.session → f.needed ≡ loaded.needed
-        → OnOk result (IsReady (with_session (loaded.session + 1) f) (now (D.state devices.new))) }
-    ensures alike { D.tells → ¬ SomeFailed (D.state devices.old).faults (D.state devices.new).faults
-        → (f : Found) → IsFoundOn f (now (D.state devices.old))
+        → f.trees.ends ≡ loaded.ends → OnOk result (IsReady (with_session (loaded.session + 1) f) (now (D.state devices.new))) }
+    ensures alike { D.tells → (f : Found) → IsFoundOn f (now (D.state devices.old))
         → NodesAgree (as_read (now (D.state devices.old))) f
-        → AreRagged loaded.layout.id (as_read (now (D.state devices.old))) (nodes_of f.trees.nodes) loaded.ragged
         → f.layout ≡ loaded.layout → f.session ≡ loaded.session → f.needed ≡ loaded.needed
+        → f.trees.ends ≡ loaded.ends
         → OnOk result (AreRootsAlike f (as_read (now (D.state devices.new)))) }
     ensures refused { (fault : AFault) → result ≡ Err fault → IsRefusal fault
         → devices.new ≡ devices.old }
@@ -120,7 +120,7 @@ fn begin_loaded<D: Devices>(
         &loaded.layout,
         loaded.session,
         loaded.needed.as_slice(),
-        loaded.ragged.as_slice(),
+        loaded.ends.as_slice(),
     ) {
         Ok(session) => Ok(in_session(loaded, session)),
         Err(fault) => Err(opening_fault(fault)),
@@ -151,19 +151,20 @@ fn opening_fault(fault: BeginFault) -> MountFault
 }
 
 /// Makes a volume that was loaded ready for writing: begins its next session, whose number it gives, and then mends the journal, and the
-/// nodes that the newest entry names, of those with these births, which lack something on some place. Where no number is left it answers
+/// nodes that the newest entry names, up to where these ends say that their sets end. Where no number is left it answers
 /// `Spent`, and nothing is written. It costs what `begin_session`, `mend_journal` and `mend_roots` do.
 ///
 /// Where the devices showed an orderly volume, whatever a crash leaves meanwhile means the same volume, in this session or a later
 /// one, as far as no torn block opens by chance. After `Ok` the devices hold it in the next session, nothing of the metadata
-/// devices is pending, each needed entry stands on all of them, and no block of that session in their journal areas.
+/// devices is pending, each needed entry stands on all of them, the roots have the same sets on all of them, and no block of that session
+/// stands in their journal areas.
 pub fn begin_and_mend<D: Devices>(
     alloc: Global,
     devices: &mut D,
     layout: &Layout,
     session: u64,
     needed: &[FoundEntry],
-    ragged: &[u64],
+    ends: &[NodeEnd],
 ) -> Result<u64, BeginFault>
     requires layout { is_layout_of (D.state devices.old).sizes layout.now ≡ true }
     requires whole { All (WasWhole layout.now) needed.now }
@@ -172,32 +173,30 @@ pub fn begin_and_mend<D: Devices>(
     ensures next { IfOk result (λ next. next ≡ session + 1) }
     ensures crashes { D.tells → (f : Found) → IsInOrderOn f (now (D.state devices.old))
         → f.layout ≡ layout.now → f.session ≡ session → f.needed ≡ needed.now
-        → KeepsMeaning f (D.state devices.old) (D.state devices.new) }
+        → f.trees.ends ≡ ends.now → KeepsMeaning f (D.state devices.old) (D.state devices.new) }
     ensures past { D.tells → (f : Found) → IsInOrderOn f (now (D.state devices.old))
         → f.layout ≡ layout.now → f.session ≡ session → f.needed ≡ needed.now
         → KeepsPast (D.state devices.old) (D.state devices.new) }
     ensures ready { D.tells → (f : Found) → IsInOrderOn f (now (D.state devices.old))
         → f.layout ≡ layout.now → f.session ≡ session → f.needed ≡ needed.now
-        → OnOk result (IsReady (with_session (session + 1) f) (now (D.state devices.new))) }
-    // Where no call failed, each root has the same sets on every metadata device then, if its places agreed on it, and those are listed that
-    // lacked something.
-    ensures alike { D.tells → ¬ SomeFailed (D.state devices.old).faults (D.state devices.new).faults
-        → (f : Found) → IsFoundOn f (now (D.state devices.old))
+        → f.trees.ends ≡ ends.now → OnOk result (IsReady (with_session (session + 1) f) (now (D.state devices.new))) }
+    // Each root has the same sets on every metadata device then, if its places agreed on it, whichever reads failed.
+    ensures alike { D.tells → (f : Found) → IsFoundOn f (now (D.state devices.old))
         → NodesAgree (as_read (now (D.state devices.old))) f
-        → AreRagged layout.now.id (as_read (now (D.state devices.old))) (nodes_of f.trees.nodes) ragged.now
         → f.layout ≡ layout.now → f.session ≡ session → f.needed ≡ needed.now
+        → f.trees.ends ≡ ends.now
         → OnOk result (AreRootsAlike f (as_read (now (D.state devices.new)))) }
     ensures goes_on { GoOn (D.state devices.old) (D.state devices.new) }
-    // A read of a node that fails is no fault.
-    ensures cause { IfSome (failed_begin_device result) (λ dev. DeviceFailed dev
-        (D.state devices.old).faults (D.state devices.new).faults) }
-    ensures unfailed { OnOk result ((D.state devices.new).faults.writes ≡ (D.state devices.old).faults.writes) }
+    // A read of a node that fails is no fault where another place makes it up.
+    ensures cause { AtMostOneWriteFailed (failed_begin_device result) (D.state devices.old).faults
+        (D.state devices.new).faults }
     ensures device { IfSome (failed_begin_device result) (λ dev. dev < layout.now.metadata_replicas) }
 {
     found_btrees_are_a_key_map();
+    roots_that_show_the_same_mean_the_same();
     let next = begin_session(alloc, devices, layout, session)?;
     mend_journal(alloc, devices, layout, needed)?;
-    mend_roots(alloc, devices, layout, newest_roots(needed), ragged)?;
+    mend_roots(alloc, devices, layout, newest_roots(needed), ends)?;
     Ok(next)
 }
 

@@ -54,7 +54,7 @@ module _ {D K : Type 0} (source_tells sink_tells devices_tell : Type 0) (held gi
     mounted = run.state;
     outcome = EndedEarly end;
     means = tt;
-    legal = λ told f may sure. legal_none (forest_found nothing_found run.state) run.trace ends.nothing;
+    legal = λ told f may. legal_none (forest_found nothing_found run.state) run.trace ends.nothing;
     told = record { nothing = ends.nothing; prefix = ends.prefix; whole = ends.whole };
     printed = λ told told_too. tt;
     survives = λ told f may.
@@ -83,7 +83,7 @@ module _ {D K : Type 0} (source_tells sink_tells devices_tell : Type 0) (held gi
     mounted = run.state;
     outcome = Formatted layout formats.fault;
     means = tt;
-    legal = λ told f may sure. legal_none (forest_found nothing_found run.state) run.trace formats.ends.nothing;
+    legal = λ told f may. legal_none (forest_found nothing_found run.state) run.trace formats.ends.nothing;
     told = record { nothing = formats.ends.nothing; prefix = formats.ends.prefix; whole = formats.ends.whole };
     printed = λ told told_too. tt;
     survives = λ told. (formats.survives told, formats.done told);

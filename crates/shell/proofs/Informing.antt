@@ -101,7 +101,7 @@ module _ {D K : Type 0} (source_tells sink_tells devices_tell : Type 0) (held gi
     mounted = run.state;
     outcome = Informed tells.f;
     means = tells.informs;
-    legal = λ told f may sure. legal_none (forest_found nothing_found run.state) run.trace tells.ends.nothing;
+    legal = λ told f may. legal_none (forest_found nothing_found run.state) run.trace tells.ends.nothing;
     told = record { nothing = tells.ends.nothing; prefix = tells.ends.prefix; whole = tells.ends.whole };
     printed = λ told told_too. tt;
     survives = survived tells.informs.read tells.ends.nothing tells.ends.no_acks;

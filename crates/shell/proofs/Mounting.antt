@@ -1,15 +1,16 @@
 -- What loading a volume and beginning its next session say together, and what holds of the acknowledgements from the run's beginning on.
-use Rattle.std.proofs.Common.{◌≡◌, ◌≤◌, ◌+◌, ℕ, inl, refl, sym, ap, ◌∙◌, subst, Some, Result, Ok, Err}
+use Rattle.std.proofs.Common.{◌≡◌, ◌≤◌, ◌+◌, ℕ, inl, refl, sym, ap, ◌∙◌, subst, None, Option, Some, Result, Ok, Err}
 use Rattle.std.specs.Prelude.{IfSome, IsErr}
-use Rattle.dev_model.specs.Devices.{DevicesState, now}
+use Rattle.dev_model.specs.Devices.{DevicesState, FaultCounts, now}
 use Rattle.dev_model.specs.Disk.{Image, as_read}
 use Rattle.dev_model.specs.Frames.{AreNoFewer, AreOnlyRead}
 use Rattle.geometry.specs.Faults.{DeviceFailed, SomeFailed}
-use Rattle.image_view.specs.Found.{Found, found, with_session}
+use Rattle.image_view.specs.Found.{Found, NodesAgree, found, with_session}
 use Rattle.image_view.specs.declared.fault.MountFault.{MountFault}
 use Rattle.image_view.specs.declared.fault.MountFault.TheVariants as faults
-use Rattle.image_reader.specs.Answers.{Finds, IsEarly, NodesAgree}
+use Rattle.image_reader.specs.Answers.{Finds, IsEarly}
 use Rattle.image_reader.specs.Faults.{mount_fault_device}
+use Rattle.node_store.specs.Mending.{AtMostOneWriteFailed}
 use Rattle.replay.specs.Beginning.{IsFoundOn, begin_fault_device}
 use Rattle.replay.specs.Mending.{IsInOrderOn, IsReady}
 use Rattle.replay.specs.Opening.{in_next_session}
@@ -51,6 +52,15 @@ load_ended tells old new (faults.Unsound check) found early untested cause read 
 load_ended tells old new (faults.DeviceFault dev) found early untested cause read = cause
 load_ended tells old new faults.NoMemory found early untested cause read = tt
 
+-- The device that is named failed.
+pub named_failed : (named : Option ℕ) (old new : FaultCounts) → AtMostOneWriteFailed named old new → IfSome named (λ dev. DeviceFailed dev old new)
+named_failed None old new cause = tt
+named_failed (Some dev) old new cause = cause.0
+
+-- The ends of the nodes' sets are those that were loaded.
+pub ends_are : (f : Found) (loaded : Loaded) → found_in loaded ≡ f → f.trees.ends ≡ loaded.ends
+ends_are f loaded same = sym (ap (λ (g : Found). g.trees.ends) same)
+
 -- why no session was begun
 pub begin_ended : (tells : Type 0) (old mid new : DevicesState) (fault : BeginFault) → (fault ≡ of_begin.Spent → HasRefused tells old new refusals.NoEntry)
     → AreNoFewer old.faults.calls mid.faults.calls → IfSome (begin_fault_device fault) (λ dev. DeviceFailed dev mid.faults new.faults) → MountCause tells old new (end_of_begin fault)
@@ -68,7 +78,7 @@ pub is_opened : (tells : Type 0) (old mid new : DevicesState) (loaded opened : L
     → (tells → (f : Found) → found (as_read (now old)) ≡ Ok f → NodesAgree (as_read (now old)) f → found_in loaded ≡ f)
     → (4294967295 ≤ loaded.session → ⊥) → session ≡ loaded.session + 1 → found_in opened ≡ with_session session (found_in loaded)
     → (tells → (f : Found) → IsInOrderOn f (now old) → IsReady (with_session (f.session + 1) f) (now new))
-    → (tells → (SomeFailed old.faults new.faults → ⊥) → (f : Found) → IsFoundOn f (now old) → NodesAgree (as_read (now old)) f → AreRootsAlike f (as_read (now new)))
+    → (tells → (f : Found) → IsFoundOn f (now old) → NodesAgree (as_read (now old)) f → AreRootsAlike f (as_read (now new)))
     → IsOpenedFrom tells (found_in opened) old new
 is_opened tells old mid new loaded opened session read same more found made_up left next is ready alike = record {
   unfailed = same ∙ read.writes;

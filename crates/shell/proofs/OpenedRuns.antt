@@ -68,9 +68,9 @@ module _ {D K : Type 0} (source_tells sink_tells devices_tell : Type 0) (state :
           keeps = keeps;
           before = before;
           after = opened_ran.after;
-          forest = λ told f may sure untorn. same_forest devices_tell opening old mounted opened told f may sure keeps before (disks told) untorn;
+          forest = λ told f may untorn. same_forest devices_tell opening old mounted opened told f may keeps before (disks told) untorn;
         };
-        legal = λ told f may sure. opened_ran.legal told (begins_well devices_tell opening old mounted opened told f may sure begins);
+        legal = λ told f may. opened_ran.legal told (begins_well devices_tell opening old mounted opened told f may begins);
         told = record {
           reads = gave;
           lines = ran.lines;
@@ -81,9 +81,9 @@ module _ {D K : Type 0} (source_tells sink_tells devices_tell : Type 0) (state :
           prefix = ran.prefix;
           whole = ran.whole;
         };
-        survives = λ told f may sure. run_survives devices_tell opening old mounted opened told f may sure keeps before (disks told) begins safe new trace acks opened_ran.after opened_ran.acknowledged (opened_ran.survive told);
-        printed = λ told told_too f may sure moment from to image crash untorn.
-            let left = run_survives devices_tell opening old mounted opened told_too f may sure keeps before (disks told_too) begins safe new trace acks opened_ran.after opened_ran.acknowledged (opened_ran.survive told_too) moment from to image crash untorn in
+        survives = λ told f may. run_survives devices_tell opening old mounted opened told f may keeps before (disks told) begins safe new trace acks opened_ran.after opened_ran.acknowledged (opened_ran.survive told);
+        printed = λ told told_too f may moment from to image crash untorn.
+            let left = run_survives devices_tell opening old mounted opened told_too f may keeps before (disks told_too) begins safe new trace acks opened_ran.after opened_ran.acknowledged (opened_ran.survive told_too) moment from to image crash untorn in
             let least = left.least in
             record {
               left = left;
@@ -100,12 +100,12 @@ module _ {D K : Type 0} (source_tells sink_tells devices_tell : Type 0) (state :
           halts = halts_since opened_ran.halt old mounted new trace before opened_ran.halts;
           no_commit = opened_ran.no_commit;
           faults = causes_since old mounted new trace before opened_ran.causes;
-          exact = λ told f may sure. opened_ran.exact told (begins_well devices_tell opening old mounted opened told f may sure begins);
+          exact = λ told f may. opened_ran.exact told (begins_well devices_tell opening old mounted opened told f may begins);
           unspent = λ far.
               all_unspent devices_tell opening old mounted (λ (with_room : MayRunWithRoom devices_tell old mounted). record {
                 told = with_room.told;
-                well = begins_well devices_tell opening old mounted opened with_room.told with_room.f with_room.may with_room.sure begins;
-                room = opening_leaves devices_tell opening old mounted opened with_room.told with_room.f with_room.may with_room.sure with_room.room;
+                well = begins_well devices_tell opening old mounted opened with_room.told with_room.f with_room.may begins;
+                room = opening_leaves devices_tell opening old mounted opened with_room.told with_room.f with_room.may with_room.room;
               }) trace
               (opened_ran.unspent far (subst (λ (t : History). length t < 2 ^ 31) (sym ran.entries) (few_entries source_tells left script ran.answered ran.last gave ran.lines)));
         };

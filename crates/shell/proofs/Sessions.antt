@@ -13,13 +13,12 @@ use Rattle.forest_ops.specs.Classes.{class_of}
 use Rattle.forest_ops.specs.declared.operation.Class.TheVariants.{Syncs}
 use Rattle.forest_ops.specs.declared.operation.Reply.TheVariants.{Spent}
 use Rattle.geometry.specs.Faults.{SomeFailed}
-use Rattle.image_view.specs.Found.{Found, MountsAs, Volume, found, read_in, volume_of, with_session}
+use Rattle.image_view.specs.Found.{Found, MountsAs, NodesAgree, Volume, found, read_in, volume_of, with_session}
 use Rattle.image_view.specs.declared.fault.MountFault.{MountFault}
 use Rattle.image_view.specs.declared.fault.MountFault.TheVariants.{NoEntry}
 use Rattle.key_meaning.specs.Forest.{forest_in}
-use Rattle.image_reader.specs.Answers.{NodesAgree}
 use Rattle.replay.specs.Beginning.{MeansTheSame}
-use Rattle.replay.specs.Mending.{IsInOrderOn, IsUntorn, KeepsMeaning}
+use Rattle.replay.specs.Mending.{IsInOrderOn, IsVolumeUntorn, KeepsMeaning}
 use Rattle.replay.specs.Opening.{in_next_session}
 use Rattle.replay.proofs.OpenedVolume.{stay_means}
 use Rattle.forest_ops.specs.Acknowledged.{AreAcks, RiseWithin}
@@ -33,7 +32,7 @@ use Rattle.vol_session.specs.Marks.{forest_found}
 use Rattle.vol_session.specs.Survivors.{BeginsWell, Survive}
 use Rattle.volume.specs.States.{BeganWithRoom, BeganWithoutRoom}
 use Rattle.shell.specs.Causes.{IsUnspent, MayRunWithRoom}
-use Rattle.shell.specs.Mounts.{ComesAfter, IsOpenedFrom, IsSure, OpeningKeeps}
+use Rattle.shell.specs.Mounts.{ComesAfter, IsOpenedFrom, OpeningKeeps}
 
 -- A run without lines has no acknowledgements.
 pub without_acks : (first last : ℕ) (history : History) (acks : List Ack) → history ≡ [] → acks ≡ [] → first ≤ last → AreAcks first last history acks
@@ -91,13 +90,10 @@ forest_again f first may image means =
     let again : MountsAs image (volume_of (as_read (now first)) f) = means.mounts (volume_of (as_read (now first)) f) (record { f = f; finds = may.on.on.finds; sound = may.sound; volume_is = refl }) in
     sym (ap (λ (v : Volume). v.forest) (again.volume_is ∙ ap (volume_of image) (one_found (found image) again.f (with_session means.session f) again.finds means.finds)))
 
-module _ (devices_tell : Type 0) (opening : Found) (old mounted : DevicesState) (opened : IsOpenedFrom devices_tell opening old mounted) (told : devices_tell) (f : Found) (may : MayRun f (now old)) (sure : IsSure f old mounted) where
+module _ (devices_tell : Type 0) (opening : Found) (old mounted : DevicesState) (opened : IsOpenedFrom devices_tell opening old mounted) (told : devices_tell) (f : Found) (may : MayRun f (now old)) where
   -- What was opened is the volume of the image, in its next session.
   pub opening_is : opening ≡ in_next f
-  opening_is = ⊎_elim
-      (λ (unfailed : SomeFailed old.faults mounted.faults → ⊥). next_is f opening (sym (ap in_next_session may.on.on.finds) ∙ opened.means told unfailed))
-      (λ (agree : NodesAgree (as_read (now old)) f). next_is f opening (opened.made_up told f may.on.on.finds agree))
-      sure
+  opening_is = next_is f opening (opened.made_up told f may.on.on.finds may.on.order.agree)
 
   -- So the session over it begins well.
   pub begins_well : SessionsBeginWell → BeginsWell opening mounted
@@ -108,7 +104,7 @@ module _ (devices_tell : Type 0) (opening : Found) (old mounted : DevicesState) 
   opening_leaves leaves = subst LeavesRoom (sym opening_is) leaves
 
   -- It has the forest of the image, where no torn block opened by chance meanwhile.
-  pub same_forest : OpeningKeeps devices_tell old mounted → GoOn old mounted → All IsDisk (now mounted) → IsUntorn f.layout old.moment mounted.moment mounted (as_read (now mounted)) → forest_found opening mounted ≡ forest_found f old
+  pub same_forest : OpeningKeeps devices_tell old mounted → GoOn old mounted → All IsDisk (now mounted) → IsVolumeUntorn f old.moment mounted.moment mounted (as_read (now mounted)) → forest_found opening mounted ≡ forest_found f old
   same_forest keeps before disks untorn = ap (λ (o : Found). forest_found o mounted) opening_is
       ∙ forest_again f old may (as_read (now mounted)) ((keeps told f may.on).means mounted.moment before.later (omega arith) (as_read (now mounted)) (as_read_may_be_left (now mounted) disks) untorn)
 

@@ -28,7 +28,7 @@ use Rattle.shell.specs.declared.early_end.EarlyEnd.{EarlyEnd}
 use Rattle.shell.specs.declared.early_end.EarlyEnd.TheVariants.{Usage, BadLine, TooLong, Source, OutOfMemory}
 use Rattle.shell.specs.Outcome.{Outcome, EndedEarly, Ran, Formatted, Informed, Answered, early_status, format_status, replies_of, text_of}
 use Rattle.shell.specs.Tasks.{IsFormat, IsInfo, IsRun, task_of}
-use Rattle.shell.specs.Mounts.{InfoCause, IsSure, MountCause, OnlyReadUnmounted}
+use Rattle.shell.specs.Mounts.{InfoCause, MountCause, OnlyReadUnmounted}
 use Rattle.shell.specs.Runs.{Run, StreamFaults}
 use Rattle.shell.specs.Output.{GaveScript, IsTaken, script_limit}
 
@@ -118,12 +118,11 @@ pub record HasEndedEarly {D K : Type 0} (source_tells devices_tell : Type 0) (ru
   pub unmounted : OnlyReadUnmounted devices_tell run.state run.state_after
   pub left : IsRun run.arguments run.state.sizes ⊎ (run.streams.left_after ≡ run.streams.left)
 
--- The devices tell what they hold, and their image may be run, was read for certain, and leaves room in the ring of its journal.
+-- The devices tell what they hold, and their image may be run, and leaves room in the ring of its journal.
 pub record MayRunWithRoom (devices_tell : Type 0) (old mounted : DevicesState) : Type 0 where
   pub told : devices_tell
   pub f : Found
   pub may : MayRun f (now old)
-  pub sure : IsSure f old mounted
   pub room : LeavesRoom f
 
 -- An operation that syncs found no room left in the ring of the journal: it may not be kept of what was opened, and the image may not be run with room.
@@ -140,9 +139,9 @@ IsUnspent devices_tell opening old mounted entry = entry.reply ≡ Spent → Fou
 --
 -- Failures: once a device has failed at a write or a flush the session has halted, by one device and at one moment of the run (`halts`);
 -- no later entry is a commit; of each device at most as many entries say that it failed as its calls, and its writes and
--- flushes, failed (`faults`). Where the image may be run, and was read for certain, an operation that would change the forest fails only where this wouldn't refuse it (`exact`).
+-- flushes, failed (`faults`). Where the image may be run, an operation that would change the forest fails only where this wouldn't refuse it (`exact`).
 -- No entry says that a number is used up, where the volume that was opened is far from that, and the run had fewer than 2^31 moments since; but for that of an operation which syncs over what was opened
--- with no room left in the ring of its journal; and so over an image that may not be run, wasn't read for certain, or leaves none (`unspent`).
+-- with no room left in the ring of its journal; and so over an image that may not be run, or leaves none (`unspent`).
 pub record HasAnswered {D K : Type 0} (sink_tells devices_tell : Type 0) (run : Run D K) (opening : Found) (mounted : DevicesState) (forest : Forest) (answered : List Answered) (last : Reply) : Type 0 where
   pub arguments : IsRun run.arguments run.state.sizes
   pub source : run.faults.source_after ≡ run.faults.source
@@ -151,7 +150,7 @@ pub record HasAnswered {D K : Type 0} (sink_tells devices_tell : Type 0) (run : 
   pub halts : Halts halt run.state run.state_after run.trace
   pub no_commit : NoCommitAfterHalt forest run.trace
   pub faults : HaveCauses run.state.faults run.state_after.faults run.trace
-  pub exact : devices_tell → (f : Found) → MayRun f (now run.state) → IsSure f run.state mounted → EachEntry (IsExact forest) run.trace
+  pub exact : devices_tell → (f : Found) → MayRun f (now run.state) → EachEntry (IsExact forest) run.trace
   pub unspent : IsFarFromSpent opening mounted run.state_after → All (IsUnspent devices_tell opening run.state mounted) run.trace
 
 -- The arguments ask for a format with this layout, and the source wasn't touched. A format fails where one of the devices does,

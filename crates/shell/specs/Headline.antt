@@ -11,12 +11,10 @@ use Rattle.shell.specs.Runs.{Run}
 use Rattle.shell.specs.Output.{HasOutput}
 use Rattle.shell.specs.Causes.{HasCauses}
 use Rattle.shell.specs.Moments.{IsPrintedDurable}
-use Rattle.shell.specs.Mounts.{IsSure}
 use Rattle.shell.specs.Survived.{OpensVolume, IsSurvived}
 
 -- The headline: one field for each promise. The run went in one way, and where it ran a script it opened a volume, in its next session, when its devices showed this. What is said of an image that
--- may be run is said of one in which a volume is found in order, sound and tidy, each of its btrees one leaf: as format makes it, and as each crash of a run leaves it. Where a call failed while it was
--- opened, what its lines do to it is said where the places of its nodes agree.
+-- may be run is said of one in which a volume is found in order, sound and tidy, each of its btrees one leaf: as format makes it, and as each crash of a run leaves it.
 pub record Headline {D K : Type 0} (source_tells sink_tells devices_tell : Type 0) (held given_at : K → List ℕ) (run : Run D K) : Type 0 where
   pub opening : Found
   pub mounted : DevicesState
@@ -24,7 +22,7 @@ pub record Headline {D K : Type 0} (source_tells sink_tells devices_tell : Type 
   -- the volume opened is the one that the image means, and so is the one that was told of, whose devices were only read
   pub means : OpensVolume devices_tell run.state mounted run.state_after opening outcome
   -- each reply is the plain forest's at its place in one history, from the forest of that volume on, but for failures that the operation may have
-  pub legal : devices_tell → (f : Found) → MayRun f (now run.state) → IsSure f run.state mounted → IsLegal (forest_found opening mounted) run.trace
+  pub legal : devices_tell → (f : Found) → MayRun f (now run.state) → IsLegal (forest_found opening mounted) run.trace
   -- per client the operations are the script's, in order, and the text printed is theirs, each line given to the sink in time
   pub told : HasOutput source_tells sink_tells devices_tell held given_at run (forest_found opening mounted) outcome
   -- every image that a crash may leave, at every moment of the run, mounts to a prefix that has all that was acknowledged, whole on every metadata device, and may be run again; or,

@@ -2,14 +2,13 @@
 use Rattle.std.specs.Prelude.{◌≡◌, ◌⊎◌, ◌≤◌, ℕ, All, IsSome, List, ◌∷◌, ◌++◌, length, drop}
 use Rattle.dev_model.specs.Devices.{DevicesState, now}
 use Rattle.dev_model.specs.Disk.{Image, IsCrashImage}
-use Rattle.replay.specs.Mending.{IsUntorn}
+use Rattle.replay.specs.Mending.{IsVolumeUntorn}
 use Rattle.text_io.specs.Streams.{GainsTextBy, GivesPrefix}
 use Rattle.forest_ops.specs.History.{History}
 use Rattle.forest_ops.specs.declared.acks.Ack.{Ack}
 use Rattle.forest_ops.specs.declared.operation.Reply.TheVariants.{Synced}
 use Rattle.image_view.specs.Found.{Found}
 use Rattle.vol_session.specs.Runs.{IsLeftOfRun, MayRun}
-use Rattle.shell.specs.Mounts.{IsSure}
 use Rattle.shell.specs.Outcome.{Outcome, EndedEarly, Ran, Formatted, Informed, Answered, may_wait, reply_line, reply_lines}
 
 -- Since a sink was so it has gained bytes, each of them at this moment.
@@ -59,11 +58,11 @@ pub record HasAllTold {K : Type 0} (held given_at : K → List ℕ) (first last 
   pub left : IsLeftOfRun f old new trace acks moment image
   pub told : (count : ℕ) → TellsDurable held given_at first last answered moment count → count ≤ left.count
 
--- So is whatever a crash has left at a moment of a run of lines over a volume that may be run, and was read for certain.
+-- So is whatever a crash has left at a moment of a run of lines over a volume that may be run.
 abbrev pub IsPrintedDurable : {K : Type 0} → (K → List ℕ) → (K → List ℕ) → K → K → DevicesState → DevicesState → DevicesState → History → List Ack → Outcome → Type 0
 IsPrintedDurable held given_at first last old mounted new trace acks (EndedEarly end) = Unit {0}
 IsPrintedDurable held given_at first last old mounted new trace acks (Ran script answered last_reply) =
-    (f : Found) → MayRun f (now old) → IsSure f old mounted → (moment : ℕ) → old.moment ≤ moment → moment ≤ new.moment → (image : Image) → IsCrashImage (new.disks moment) image → IsUntorn f.layout old.moment moment new image
+    (f : Found) → MayRun f (now old) → (moment : ℕ) → old.moment ≤ moment → moment ≤ new.moment → (image : Image) → IsCrashImage (new.disks moment) image → IsVolumeUntorn f old.moment moment new image
     → HasAllTold held given_at first last answered f old new trace acks moment image
 IsPrintedDurable held given_at first last old mounted new trace acks (Formatted layout fault) = Unit {0}
 IsPrintedDurable held given_at first last old mounted new trace acks (Informed f) = Unit {0}

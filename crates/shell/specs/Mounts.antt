@@ -4,12 +4,11 @@ use Rattle.dev_model.specs.Disk.{Image, as_read}
 use Rattle.dev_model.specs.Devices.{DevicesState, now}
 use Rattle.dev_model.specs.Frames.{AreOnlyRead, GoOn}
 use Rattle.geometry.specs.Faults.{DeviceFailed, SomeFailed}
-use Rattle.image_view.specs.Found.{Found, found, with_session}
+use Rattle.image_view.specs.Found.{Found, NodesAgree, found, with_session}
 use Rattle.image_view.specs.declared.fault.MountFault.{MountFault}
 use Rattle.image_view.specs.declared.fault.MountFault.TheVariants as faults
 use Rattle.replay.specs.Beginning.{IsFoundOn}
 use Rattle.replay.specs.Mending.{IsInOrderOn, IsReady, KeepsMeaning, KeepsPast}
-use Rattle.image_reader.specs.Answers.{NodesAgree}
 use Rattle.replay.specs.Opening.{IsSpent, in_next_session}
 use Rattle.replay.specs.Roots.{AreRootsAlike}
 use Rattle.shell.specs.EarlyEnds.{end_of_mount}
@@ -65,18 +64,14 @@ abbrev pub OnlyReadUnmounted : Type 0 → DevicesState → DevicesState → Type
 OnlyReadUnmounted devices_tell old new = devices_tell → ¬ SomeFailed old.faults new.faults → IsErr (found (as_read (now old))) → AreOnlyRead devices_tell old new
 
 -- The volume was opened, in its next session, without a fault at a write or a flush. It is the one that is found in the image where no call failed (`means`), and also where a node
--- couldn't be read on some place, of an image on whose nodes their places agree (`made_up`). Where the image was in order it is ready for a session that writes.
--- Where no call failed, each root has the same sets on every metadata device then, if its places agreed on it, also where some lacked a part of them (`alike`).
+-- couldn't be read on some place, of an image on whose nodes their places agree (`made_up`), as they do in one that is in order. Where the image was in order it is ready for a session
+-- that writes. Each root has the same sets on every metadata device then, if its places agreed on it, also where some lacked a part of them or couldn't be read (`alike`).
 pub record IsOpenedFrom (devices_tell : Type 0) (opening : Found) (old mounted : DevicesState) : Type 0 where
   pub unfailed : mounted.faults.writes ≡ old.faults.writes
   pub means : devices_tell → ¬ SomeFailed old.faults mounted.faults → in_next_session (found (as_read (now old))) ≡ Ok opening
   pub made_up : devices_tell → (f : Found) → found (as_read (now old)) ≡ Ok f → NodesAgree (as_read (now old)) f → in_next_session (Ok f) ≡ Ok opening
   pub ready : devices_tell → (f : Found) → IsInOrderOn f (now old) → IsReady (with_session (f.session + 1) f) (now mounted)
-  pub alike : devices_tell → ¬ SomeFailed old.faults mounted.faults → (f : Found) → IsFoundOn f (now old) → NodesAgree (as_read (now old)) f → AreRootsAlike f (as_read (now mounted))
-
--- What is found in the image is what was opened for certain: no call failed meanwhile, or the places of each node agree on it.
-abbrev pub IsSure : Found → DevicesState → DevicesState → Type 0
-IsSure f old mounted = (¬ SomeFailed old.faults mounted.faults) ⊎ NodesAgree (as_read (now old)) f
+  pub alike : devices_tell → (f : Found) → IsFoundOn f (now old) → NodesAgree (as_read (now old)) f → AreRootsAlike f (as_read (now mounted))
 
 -- While a volume was opened, whatever a crash left means what the image did, where that is in order.
 abbrev pub OpeningKeeps : Type 0 → DevicesState → DevicesState → Type 0

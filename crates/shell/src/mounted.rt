@@ -31,7 +31,7 @@ pub fn mount<D: Devices>(alloc: Global, devices: &mut D) -> Result<Loaded, Early
         &loaded.layout,
         loaded.session,
         loaded.needed.as_slice(),
-        loaded.ragged.as_slice(),
+        loaded.ends.as_slice(),
     ) {
         Ok(session) => {
             loaded.session = session;

@@ -73,7 +73,7 @@ module _ (laws : CoreLaws) (of_found : FoundLaws) (loaded : Loaded) (newest : Fo
       (placed btree k d less)
 
   pub leaves_kept : KeepsLeaves f None start (leaves_in volume)
-  leaves_kept = laws.entries.begins f start (leaves_in volume) begins.ready.mended begins.roots begins.updates (roots_are of_found f image finds begins.roots) refl layout_is
+  leaves_kept = laws.entries.begins f start (leaves_in volume) begins.ready.mended begins.ready.roots begins.roots begins.updates (roots_are of_found f image finds begins.roots) refl layout_is
       (laws.buckets.opened_fixed f.layout (keys_of_buckets (keys_in loaded.map)) (node_places f) layout_is) hold placed
       (λ btree entry needed changes. subst (λ (e : FoundEntry). IsPinnedUpTo (value_at nat_cmp (root_in f.trees.nodes btree).birth volume.pins) e.entry.oldest) (sym last_is)
       (roots_pinned of_found f image finds begins.roots laws.pins begins.updates newest.entry.oldest btree entry needed changes))

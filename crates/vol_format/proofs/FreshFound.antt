@@ -1,7 +1,7 @@
 -- An image that holds the blocks of a fresh volume is the fresh volume.
-use Rattle.std.proofs.Common.{◌≡◌, ℕ, zero, suc, ◌+◌, ◌*◌, ◌/◌, ◌%◌, ◌^◌, ◌<◌, ◌≤◌, inl, true, List, [], ◌∷◌, ◌++◌, Option, Some, None, Ok, refl, ap, ◌∙◌, sym, subst, arith, All}
+use Rattle.std.proofs.Common.{◌≡◌, ℕ, zero, suc, ◌+◌, ◌*◌, ◌/◌, ◌%◌, ◌^◌, ◌<◌, ◌≤◌, inl, true, List, [], ◌∷◌, Some, None, Ok, refl, ap, ◌∙◌, sym, subst, arith, All}
 use Rattle.std.specs.Prelude.{Contains, option_and_then, slice_index, slice_index_or}
-use Rattle.std.proofs.lemmas.List.Elements.{All-cons, All-contains, All-contains_itself, All-map, All-nil, All-weaker}
+use Rattle.std.proofs.lemmas.List.Elements.{All-cons, All-contains, All-nil}
 use Rattle.dev_model.specs.Disk.{Image, block_at, zeros}
 use Rattle.vol_types.specs.declared.layout.Layout.{Layout}
 use Rattle.vol_types.specs.Btrees.{btree_code}
@@ -20,15 +20,13 @@ use Rattle.journal_ring.specs.Leading.{IsBehind}
 use Rattle.journal_ring.specs.declared.found.FoundEntry.{FoundEntry}
 use Rattle.key_meaning.specs.Fresh.{fresh_keys}
 use Rattle.node_mem.specs.Nodes.{with_keys}
-use Rattle.node_store.specs.Answers.{AreAlike}
-use Rattle.node_store.specs.Copies.{block_in, copies_at, copy_at, shown_at, shown_below, shown_in}
 use Rattle.node_store.specs.Plans.{HoldBlocks, blocks_for, part_bytes}
-use Rattle.node_store.specs.declared.opening.OpenBlock.{OpenBlock}
 use Rattle.node_store.specs.declared.planning.Blocked.{Blocked}
 use Rattle.record_codec.specs.Entries.{IsEntry}
 use Rattle.record_codec.specs.Sets.{set_format}
 use Rattle.image_view.specs.BaseLaws.{mirrored-passes, sets_in-comes}
-use Rattle.image_view.specs.Found.{IsAlike, IsBelowRoots, IsInOrder, found, node_places, read_in, sets_in}
+use Rattle.image_view.specs.CopyLaws.{copies_agree}
+use Rattle.image_view.specs.Found.{IsBelowRoots, IsInOrder, PlacesAgree, found, node_places, read_in, sets_in}
 use Rattle.image_view.specs.NewNodes.{AreLeafRoots, HoldSame, wanted_root}
 use Rattle.vol_format.specs.declared.fresh.FreshBlocks.{FreshBlocks}
 use Rattle.vol_format.specs.Fresh.{AreFreshBlocks, IsRootPlan, first_entry, first_found, fresh_content, fresh_found, fresh_root, fresh_roots, no_bucket, root_set}
@@ -120,31 +118,7 @@ few_btrees Backptrs = omega arith
 few_btrees Deleted = omega arith
 few_btrees Counters = omega arith
 
--- ---- buckets that hold the same
-
-below_same : (image : Image) (one other : Place) (count : ℕ) → count ≤ bucket_blocks → ((n : ℕ) → n < bucket_blocks → block_at image one.dev (one.block + n) ≡ block_at image other.dev (other.block + n))
-    → shown_below (block_at image) one count ≡ shown_below (block_at image) other count
-below_same image one other zero few same = refl
-below_same image one other (suc n) few same =
-    ap (λ shown. shown ++ shown_at (block_at image) one n ∷ []) (below_same image one other n (omega (arith, few)) same)
-    ∙ ap (λ bytes. shown_below (block_at image) other n ++ option_and_then shown_in bytes ∷ []) (same n (omega (arith, few)))
-
-copy_same : (image : Image) (one other : Place) → ((n : ℕ) → n < bucket_blocks → block_at image one.dev (one.block + n) ≡ block_at image other.dev (other.block + n)) → copy_at (block_at image) one ≡ copy_at (block_at image) other
-unfolding copy_at
-copy_same image one other same = below_same image one other bucket_blocks (omega arith) same
-
-copies_same : (image : Image) (node : NodePtr) → HoldSame image node → (one other : List (Option OpenBlock)) → Contains (copies_at (block_at image) node.places) one → Contains (copies_at (block_at image) node.places) other → one ≡ other
-copies_same image node same one other is_one is_other = All-contains (λ copy. copy ≡ other) (copies_at (block_at image) node.places) one
-    (All-map (λ copy. copy ≡ other) (copy_at (block_at image)) node.places (All-weaker (Contains node.places) (λ (p : Place). copy_at (block_at image) p ≡ other)
-    (λ p there. All-contains (λ copy. copy_at (block_at image) p ≡ copy) (copies_at (block_at image) node.places) other
-    (All-map (λ copy. copy_at (block_at image) p ≡ copy) (copy_at (block_at image)) node.places
-    (All-weaker (Contains node.places) (λ (q : Place). copy_at (block_at image) p ≡ copy_at (block_at image) q) (λ q here. copy_same image p q (same p q there here)) node.places (All-contains_itself node.places)))
-    is_other) node.places (All-contains_itself node.places)))
-    is_one
-
--- The copies of a node whose places hold the same are alike.
-copies_alike : (image : Image) (node : NodePtr) → HoldSame image node → (end : ℕ) → AreAlike end (copies_at (block_at image) node.places)
-copies_alike image node same end one other is_one is_other n lower = ap (λ copy. block_in copy n) (copies_same image node same one other is_one is_other)
+-- ---- what is found
 
 module _ (laws : FoundLaws) (layout : Layout) (sizes : List ℕ) (fits : is_layout_of sizes layout ≡ true) (fresh : FreshBlocks) (image : Image) (named : session_named layout.id 5 (session_block layout.id 1) ≡ Some 1) (entry_is : IsEntry (first_entry layout)) (blocks : AreFreshBlocks layout fresh) (holds : HoldsFresh layout fresh image) where
   has : HasPlaces sizes layout
@@ -235,7 +209,7 @@ module _ (laws : FoundLaws) (layout : Layout) (sizes : List ℕ) (fits : is_layo
         };
     owners = owned_first laws.entries layout fresh image has.least has.mirrored has.mirrors_few entry_is blocks holds.entry;
     levels = All-cons (λ (one : FoundEntry). IsBelowRoots one.entry) (first_found layout) [] (All-nil _) (All-nil (λ (one : FoundEntry). IsBelowRoots one.entry));
-    copies = All-roots (IsAlike (fresh_found layout) image) layout (λ number low end there birth. copies_alike image (fresh_root layout number) (same_places number low) end.block);
+    agree = record { each = All-roots (PlacesAgree layout.id image) layout (λ number low. copies_agree layout.id image (fresh_root layout number) (same_places number low)) };
     births = All-roots (λ (node : NodePtr). node.birth < (1 + 1) * 2 ^ 32) layout (λ number low. omega (arith, low));
   }
 

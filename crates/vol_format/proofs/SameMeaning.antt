@@ -24,7 +24,6 @@ use Rattle.geometry.specs.SuperLaws.{layout_fits, same_layout}
 use Rattle.geometry.specs.Superblocks.{counting, layout_in}
 use Rattle.journal_ring.specs.Counting.{needed_by, newest}
 use Rattle.journal_ring.specs.Entries.{IsMadeOf}
-use Rattle.node_store.specs.Answers.{AreAlike}
 use Rattle.journal_ring.specs.Parts.{Area, area_of}
 use Rattle.journal_ring.specs.declared.found.FoundEntry.{FoundEntry}
 use Rattle.key_codec.specs.Combined.{ok_is}
@@ -32,9 +31,10 @@ use Rattle.key_codec.specs.Formats.{◌>>=◌, carried}
 use Rattle.key_meaning.specs.Blocks.{block_of, blocks_of as blocks_in, place_at}
 use Rattle.key_meaning.specs.Checks.{AreNodesPlaced, HasWellPlaced, IsNodePlaced, IsWellPlaced, kept_buckets, pointers_of}
 use Rattle.key_meaning.specs.ReadLaws.{forest_in-agree}
-use Rattle.image_view.specs.BaseLaws.{content-same, copies-same, found-layout, found-newest, found-session, found-trees, node-same}
+use Rattle.image_view.specs.BaseLaws.{content-same, found-layout, found-newest, found-session, found-trees, node-same}
 use Rattle.image_view.specs.Bases.{AgreeAt, AgreeInBucket, AgreeOnContent, AgreeOnEntry, AgreeOnNode, IsNewest}
-use Rattle.image_view.specs.Found.{AreOwned, IsAlike, IsInOrder, Found, found, node_places, read_in, sets_in, super_fault, updates_of}
+use Rattle.image_view.specs.CopyLaws.{agree-same}
+use Rattle.image_view.specs.Found.{AreOwned, IsInOrder, Found, found, node_places, read_in, sets_in, super_fault, updates_of}
 use Rattle.image_view.specs.TreeLaws.{HaveSameSets, trees_of-same}
 use Rattle.image_view.specs.Trees.{TreesRead, nodes_of, trees_of}
 use Rattle.image_view.specs.declared.fault.MountFault.{MountFault}
@@ -171,13 +171,6 @@ finds_same one other layouts same f is placed =
     (newest_same one other same f (found-newest one f is)).needed
     (trees_of-same (sets_in f.layout one) (sets_in f.layout other) (updates_of f.needed) f.last.entry.roots f.trees (found-trees one f is) (sets_same f.layout one other (nodes_of f.trees.nodes) (nodes_same one other same f placed)))
 
--- Nodes whose buckets are the same have alike copies where they had.
-alike_same : (f : Found) (one other : Image) (nodes : List NodePtr) → All (AgreeOnNode one other) nodes → All (IsAlike f one) nodes → All (IsAlike f other) nodes
-alike_same f one other [] agree alike = All-nil (IsAlike f other)
-alike_same f one other (node ∷ nodes) agree alike = All-cons (IsAlike f other) node nodes
-    (λ end is birth. subst (AreAlike end.block) (sym (copies-same one other node.places (All-head (AgreeOnNode one other) node nodes agree))) (All-head (IsAlike f one) node nodes alike end is birth))
-    (alike_same f one other nodes (All-tail (AgreeOnNode one other) node nodes agree) (All-tail (IsAlike f one) node nodes alike))
-
 -- It is in order where it was.
 order_same : (one other : Image) → SameBehind one other → (f : Found) → AreNodesPlaced (node_places f) f.layout → IsInOrder f one → IsInOrder f other
 order_same one other same f placed order =
@@ -188,7 +181,7 @@ order_same one other same f placed order =
       others = λ entry blocks made. order.others entry blocks (subst (λ (area : Area). IsMadeOf f.layout area entry blocks) (sym areas) made);
       owners = subst (λ (area : Area). AreOwned f.layout f.session area) areas order.owners;
       levels = order.levels;
-      copies = alike_same f one other (nodes_of f.trees.nodes) (nodes_same one other same f placed) order.copies;
+      agree = record { each = agree-same f.layout.id one other (nodes_of f.trees.nodes) (nodes_same one other same f placed) order.agree.each };
       births = order.births;
     }
 

@@ -3,10 +3,10 @@ use Rattle.std.specs.Prelude.{◌≡◌, ⊤, Result, Ok, Err}
 use Rattle.dev_model.specs.Devices.{DevicesState, now}
 use Rattle.dev_model.specs.Disk.{as_read}
 use Rattle.geometry.specs.Faults.{SomeFailed}
-use Rattle.image_view.specs.Found.{Found, found}
+use Rattle.image_view.specs.Found.{Found, NodesAgree, found}
 use Rattle.image_view.specs.declared.fault.MountFault.{MountFault}
 use Rattle.image_view.specs.declared.fault.MountFault.TheVariants.{DeviceFault, NoMemory}
-use Rattle.image_reader.specs.Answers.{IsFront, NodesAgree}
+use Rattle.image_reader.specs.Answers.{IsFront}
 use Rattle.vol_info.specs.Facts.{facts_of}
 use Rattle.vol_info.specs.declared.facts.Facts.{Facts}
 

@@ -36,7 +36,7 @@ worked_here client session = record { memory = keeps_here client session.core.me
 worked_then : {D : Type 0} (client : ℕ) (old mid new : SessionState D) → IsWorked client old mid → IsWorked client mid new → IsWorked client old new
 worked_then {D} client old mid new first second = record {
   memory = keeps_then client old.core.memory mid.core.memory new.core.memory first.memory second.memory;
-  rest = second.rest ∙ ap (λ (s : SessionState D). record s { core = new.core }) first.rest;
+  rest = second.rest ∙ ap (λ (s : SessionState D). record s { core = new.core; shortages = new.shortages }) first.rest;
 }
 
 stops_then : {U : Type 0} (result : Result U WritebackEnd) (first before after : ℕ) (old mid new : Volume) → first ≤ before → mid.halted ≡ old.halted → StopsWith result before after mid new → StopsWith result first after old new
@@ -51,12 +51,13 @@ stops_then (Err stops.NoMemory) first before after old mid new later same is = i
 module _ {D : Type 0} (client : ℕ) (state : D → DevicesState) where
   -- Nothing was done.
   pub goes_here : (session : SessionState D) → GoesWell client state session session
-  goes_here session = record { worked = worked_here client session; stops = refl; cause = refl; device = tt; goes_on = go_on_here (state session.core.devices) }
+  goes_here session = record { worked = worked_here client session; shortages = refl; stops = refl; cause = refl; device = tt; goes_on = go_on_here (state session.core.devices) }
 
   -- One part was done after another one.
   pub goes_then : {U : Type 0} (result : Result U WritebackEnd) (old mid new : SessionState D) → GoesWell client state old mid → Goes client state result mid new → Goes client state result old new
   goes_then result old mid new first second = record {
     worked = worked_then client old mid new first.worked second.worked;
+    shortages = second.shortages ∙ first.shortages;
     stops = stops_then result (state old.core.devices).moment (state mid.core.devices).moment (state new.core.devices).moment old.core.memory.volume mid.core.memory.volume new.core.memory.volume first.goes_on.later first.stops second.stops;
     cause = second.cause ∙ ap (λ (faults : FaultCounts). after_writes (stopped_by result) faults) first.cause;
     device = subst (λ (sizes : List ℕ). IfSome (stopped_by result) (λ dev. dev < length sizes)) first.goes_on.sizes second.device;

@@ -25,9 +25,7 @@ pub mod Surviving
 pub mod SurvivingAcks
 pub mod SurvivingBases
 pub mod SurvivingFiles
-pub mod SurvivingPast
 pub mod Unacknowledged
 pub mod UncommittingEvents
-pub mod Untorn
 mod WorkStages
 pub mod WriterKept

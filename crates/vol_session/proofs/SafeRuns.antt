@@ -8,7 +8,8 @@ use Rattle.dev_model.specs.Disk.{Disk, Image, IsCrashImage, IsDisk, as_read}
 use Rattle.forest_ops.specs.History.{History, after_commits, commit_count}
 use Rattle.image_view.specs.Found.{Found}
 use Rattle.plain_forest.specs.Forest.{Forest}
-use Rattle.replay.specs.Mending.{IsUntorn, KeepsMeaning, KeepsPast}
+use Rattle.replay.specs.Mending.{IsVolumeUntorn, KeepsMeaning, KeepsPast}
+use Rattle.replay.specs.Untorn.{untorn_since, volume_untorn_before, volume_untorn_read}
 use Rattle.replay.proofs.NextSession.{sessions_before}
 use Rattle.forest_ops.specs.Acknowledged.{AreAcks}
 use Rattle.forest_ops.specs.declared.acks.Ack.{Ack}
@@ -18,7 +19,6 @@ use Rattle.vol_session.specs.RunLaws.{OpeningIsSafe, RunsAreSafe, in_next}
 use Rattle.vol_session.specs.Runs.{IsLeftOfRun, MayRun, RunSurvives}
 use Rattle.vol_session.proofs.FoundAgain.{forest_again, left_unacknowledged}
 use Rattle.vol_session.proofs.Unacknowledged.{none_before}
-use Rattle.vol_session.proofs.Untorn.{untorn_before, untorn_read, untorn_since}
 
 -- What has survived a session is left of the run that it is of, where the session found the forest that the run did.
 survived : (f : Found) (first start state : DevicesState) (trace : History) (acks : List Ack) (moment : ℕ) (image : Image) → forest_found (in_next f) start ≡ forest_found f first
@@ -42,21 +42,21 @@ survived f first start state trace acks moment image same survives = record {
 module _ (f : Found) (first start state : DevicesState) (trace : History) (acks : List Ack) (may : MayRun f (now first)) (disks : All IsDisk (now start)) (keeps : KeepsMeaning f first start) (begins : first.moment ≤ start.moment)
     (past : KeepsPast start state) where
   -- The session found the forest that the run did, where no torn block opens by chance up to some later moment.
-  same_forest : (moment : ℕ) (image : Image) → start.moment ≤ moment → IsUntorn f.layout first.moment moment state image → forest_found (in_next f) start ≡ forest_found f first
+  same_forest : (moment : ℕ) (image : Image) → start.moment ≤ moment → IsVolumeUntorn f first.moment moment state image → forest_found (in_next f) start ≡ forest_found f first
   same_forest moment image since untorn = forest_again f first may (as_read (now start))
-      (keeps.means start.moment begins (omega arith) (as_read (now start)) (as_read_may_be_left (now start) disks) (untorn_read f.layout first.moment moment start state image past begins since untorn))
+      (keeps.means start.moment begins (omega arith) (as_read (now start)) (as_read_may_be_left (now start) disks) (volume_untorn_read f first.moment moment start state image past begins since untorn))
 
   pub run_is_safe : AreAcks start.moment state.moment trace acks → Survive (in_next f) start state trace acks → RunSurvives f first state trace acks
   run_is_safe acked survive moment from to image crash untorn = ⊎_elim
       (λ (before : moment < start.moment).
       let earlier : moment ≤ start.moment = omega (arith, before) in
       left_unacknowledged f first may image
-      (keeps.means moment from earlier image (subst (λ (ds : List Disk). IsCrashImage ds image) (past moment earlier) crash) (untorn_before f.layout first.moment moment start state image past earlier untorn))
+      (keeps.means moment from earlier image (subst (λ (ds : List Disk). IsCrashImage ds image) (past moment earlier) crash) (volume_untorn_before f first.moment moment start state image past earlier untorn))
       state trace acks moment
       (λ sessions. keeps.session moment from earlier image (subst (λ (ds : List Disk). IsCrashImage ds image) (past moment earlier) crash) (sessions_before f.layout first.moment moment start state image past earlier sessions))
       (none_before start.moment state.moment moment acks before acked.moments))
       (λ (since : start.moment ≤ moment).
-      survived f first start state trace acks moment image (same_forest moment image since untorn) (survive moment since to image crash (untorn_since f.layout first.moment start.moment moment state image begins untorn)))
+      survived f first start state trace acks moment image (same_forest moment image since untorn) (survive moment since to image crash (untorn_since f.layout first.moment start.moment moment state image begins untorn.journal)))
       (cases_lt moment start.moment)
 
 pub runs_are_safe : RunsAreSafe

@@ -239,12 +239,17 @@ same_device (answers.Found keys) = refl
 same_device (answers.Ids tree) = refl
 same_device (answers.Wait holder) = refl
 
+-- An event leaves what works leave, and commits that were refused as they are.
+rest_so : {D : Type 0} (old new : SessionState D) → new ≡ record old { core = new.core } → new ≡ record old { core = new.core; shortages = new.shortages }
+rest_so {D} old new rest = ap (λ (s : SessionState D). record s { core = new.core; shortages = new.shortages }) rest
+
 -- What an event that is due leaves of the session.
 pub goes_so : {D : Type 0} (client : ℕ) (state : D → DevicesState) (old new : SessionState D) (answer : Answer) → IsMadeSo client (state old.core.devices).moment (state new.core.devices).moment answer old.core.memory new.core.memory
     → new ≡ record old { core = new.core } → (state new.core.devices).faults ≡ after_writes (failed_by answer) (state old.core.devices).faults
     → IfSome (failed_by answer) (λ dev. dev < length (state old.core.devices).sizes) → GoOn (state old.core.devices) (state new.core.devices) → Goes client state (outcome_of answer) old new
-goes_so client state old new answer made rest cause device goes_on = record {
-  worked = record { memory = made.keeps; rest = rest };
+goes_so {D} client state old new answer made rest cause device goes_on = record {
+  worked = record { memory = made.keeps; rest = rest_so old new rest };
+  shortages = ap (λ (s : SessionState D). s.shortages) rest;
   stops = made.stops;
   cause = subst (λ (failed : Option ℕ). (state new.core.devices).faults ≡ after_writes failed (state old.core.devices).faults) (sym (same_device answer)) cause;
   device = subst (λ (failed : Option ℕ). IfSome failed (λ dev. dev < length (state old.core.devices).sizes)) (sym (same_device answer)) device;
@@ -257,7 +262,8 @@ pub goes_told : {D : Type 0} (client : ℕ) → client < actor_count → (state 
 goes_told {D} client there state old new is stage answer told devices rest =
     let same : state new.core.devices ≡ state old.core.devices = ap state devices in
     record {
-      worked = record { memory = told_so client there old.core.memory is stage answer new.core.memory told; rest = rest };
+      worked = record { memory = told_so client there old.core.memory is stage answer new.core.memory told; rest = rest_so old new rest };
+      shortages = ap (λ (s : SessionState D). s.shortages) rest;
       stops = ap (λ (s : State). s.volume.halted) told.1;
       cause = ap (λ (s : DevicesState). s.faults) same;
       device = tt;

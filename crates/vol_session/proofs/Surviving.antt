@@ -18,6 +18,7 @@ use Rattle.image_view.specs.declared.fault.MountFault.{MountFault}
 use Rattle.key_meaning.specs.Checks.{AreNodesPlaced, IsSound}
 use Rattle.plain_forest.specs.Forest.{Forest}
 use Rattle.replay.specs.Mending.{IsUntorn, KeepsPast, StandsOnAll}
+use Rattle.replay.specs.Untorn.{untorn_before}
 use Rattle.replay.specs.Volumes.{trees_read}
 use Rattle.forest_ops.specs.Acknowledged.{acknowledged}
 use Rattle.forest_ops.specs.declared.acks.Ack.{Ack}
@@ -27,7 +28,6 @@ use Rattle.vol_types.specs.declared.layout.Layout.{Layout}
 use Rattle.vol_session.proofs.SurvivingAcks.{acknowledged_before, acknowledged_durable, none_after, past_all}
 use Rattle.vol_session.proofs.SurvivingBases.{base_enough, base_marked}
 use Rattle.vol_session.proofs.SurvivingFiles.{same_forest, same_sound}
-use Rattle.vol_session.proofs.SurvivingPast.{untorn_before}
 use Rattle.vol_session.specs.Marks.{AreGoodMarks, IsAtMarks, IsGoodMark, IsMarkAt, commits_found, forest_found}
 use Rattle.vol_session.specs.Sessions.{IsCounted}
 use Rattle.vol_session.specs.Survivors.{BeginsWell, HasSurvived, Survive}

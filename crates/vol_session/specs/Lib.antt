@@ -5,6 +5,7 @@ pub mod Rounds
 pub mod RunLaws
 pub mod Runs
 pub mod Sessions
+pub mod Shortages
 pub mod Survivors
 pub mod Writeback
 pub mod Writing

@@ -27,6 +27,7 @@ pub record IsSeen (memory : State) : Type 0 where
 -- What a part of a client's work leaves, and why it ended early, if it did.
 pub record Goes {D T : Type 0} (client : ℕ) (state : D → DevicesState) (result : Result T WritebackEnd) (old new : SessionState D) : Type 0 where
   pub worked : IsWorked client old new
+  pub shortages : new.shortages ≡ old.shortages
   pub stops : StopsWith result (state old.core.devices).moment (state new.core.devices).moment old.core.memory.volume new.core.memory.volume
   pub cause : (state new.core.devices).faults ≡ after_writes (stopped_by result) (state old.core.devices).faults
   pub device : IfSome (stopped_by result) (λ dev. dev < length (state old.core.devices).sizes)

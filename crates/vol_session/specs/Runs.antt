@@ -5,7 +5,7 @@ use Rattle.dev_model.specs.Disk.{Disk, Image, IsCrashImage}
 use Rattle.forest_ops.specs.History.{History, after_commits, commit_count}
 use Rattle.image_view.specs.Found.{Found, IsInOrder, MountsAs, found, volume_of}
 use Rattle.key_meaning.specs.Tidy.{IsTidy}
-use Rattle.replay.specs.Mending.{AreSessionsUntorn, IsInOrderOn, IsUntorn}
+use Rattle.replay.specs.Mending.{AreSessionsUntorn, IsInOrderOn, IsVolumeUntorn}
 use Rattle.forest_ops.specs.Acknowledged.{acknowledged}
 use Rattle.forest_ops.specs.declared.acks.Ack.{Ack}
 use Rattle.vol_core.specs.Left.{AreLeaves, IsSoundFound}
@@ -46,8 +46,8 @@ pub record IsLeftOfRun (f : Found) (first state : DevicesState) (trace : History
   pub whole : acknowledged acks moment ≢ 0 → IsAcknowledgedOnAll f acks moment image
   pub room : LeavesRoom f → LeavesRoom left
 
--- Whatever a crash has left at a moment since the run began is such an image, where no torn block of the journal areas opens by chance.
+-- Whatever a crash has left at a moment since the run began is such an image, where no torn block of the journal areas or of the roots that were found opens by chance.
 abbrev pub RunSurvives : Found → DevicesState → DevicesState → History → List Ack → Type 0
 RunSurvives f first state trace acks =
-    (moment : ℕ) → first.moment ≤ moment → moment ≤ state.moment → (image : Image) → IsCrashImage (state.disks moment) image → IsUntorn f.layout first.moment moment state image
+    (moment : ℕ) → first.moment ≤ moment → moment ≤ state.moment → (image : Image) → IsCrashImage (state.disks moment) image → IsVolumeUntorn f first.moment moment state image
     → IsLeftOfRun f first state trace acks moment image

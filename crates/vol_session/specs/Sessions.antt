@@ -33,20 +33,22 @@ use Rattle.vol_core.specs.Cores.{CoreState}
 use Rattle.vol_core.specs.Rested.{DoCommitsRise}
 use Rattle.vol_session.specs.Marks.{AreGoodMarks, IsAtMarks, commits_found, forest_found}
 use Rattle.vol_session.specs.Numbers.{AreNumbersCounted}
+use Rattle.vol_session.specs.Shortages.{ShortageState}
 use Rattle.vol_session.specs.Survivors.{BeginsWell, Survive}
 use Rattle.vol_session.specs.Writing.{KeepsWriter}
 use Rattle.vol_types.specs.KeyMaps.{KeyMap}
 use Rattle.vol_types.specs.declared.layout.Layout.{Layout}
 use Rattle.vol_types.specs.declared.pointers.Place.{Place}
 
--- the core, with the history and the acknowledgements of the session, how many commits it has made, and whether its history and its acknowledgements take one more
--- without memory
+-- the core, with the history and the acknowledgements of the session, how many commits it has made, whether its history and its acknowledgements take one more
+-- without memory, and what is to be done about commits that were refused for want of room
 pub record SessionState (D : Type 0) : Type 0 where
   pub core : CoreState D
   pub trace : History
   pub acks : List Ack
   pub commits : ℕ
   pub spare : ℕ
+  pub shortages : ShortageState
 
 -- The event is none that commits updates: a session does that with the history's entry, at once.
 abbrev pub IsNoCommit : Event → Type 0

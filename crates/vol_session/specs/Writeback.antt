@@ -29,10 +29,10 @@ pub record KeepsKeys (client : ℕ) (old new : State) : Type 0 where
   pub actor : KeepsTransaction (mine old client) (mine new client)
   pub others : (other : ℕ) → other ≢ client → mine new other ≡ mine old other
 
--- Works leave the history and the acknowledgements, and all that is said above.
+-- Works leave the history and the acknowledgements, and all that is said above; a checkpoint meets commits that were refused for want of room.
 pub record IsWorked {D : Type 0} (client : ℕ) (old new : SessionState D) : Type 0 where
   pub memory : KeepsKeys client old.core.memory new.core.memory
-  pub rest : new ≡ record old { core = new.core }
+  pub rest : new ≡ record old { core = new.core; shortages = new.shortages }
 
 -- the device that failed a work, if one did
 abbrev pub stopped_by : {T : Type 0} → Result T WritebackEnd → Option ℕ

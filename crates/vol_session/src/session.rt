@@ -21,9 +21,11 @@ ghost use Rattle.vol_core.specs.Room.{HasRoomForNext, LeavesRoom, MayKeepRoom};
 ghost use Rattle.vol_session.specs.Marks.{commits_found, forest_found};
 ghost use Rattle.vol_session.specs.Sessions.{IsCounted, IsExact, IsNoCommit, IsPlanNow, IsSyncedNow, IsToldNow, IsUncommitted};
 ghost use Rattle.vol_session.specs.Numbers.{HasNumbersLeft, IsFarFromSpent};
+ghost use Rattle.vol_session.specs.Shortages.{after_checkpoint, after_commit, lacked_room, met_at_rest, no_shortage};
 ghost use Rattle.vol_session.specs.Survivors.{BeginsWell, Survive};
 ghost use Rattle.vol_types.specs.declared.positions.Btree.TheVariants.{Extents};
 
+use crate::shortages::{Shortages, may_be_helped};
 use dev_model::Devices;
 use forest_ops::{Ack, Acks, Entry, Op, Reply, Trace};
 use journal_writer::waiting_changes_lead_from_durable_keys;
@@ -43,6 +45,7 @@ pub struct Session<D: Devices, O: Opening> {
     trace: SpareList<Entry>,
     acks: SpareList<Ack>,
     commits: u64,
+    shortages: Shortages,
 }
 
 /// An operation that wasn't committed, with its reply, and what was answered in place of the commit.
@@ -59,7 +62,7 @@ impl<D: Devices, O: Opening> Model for Session<D, O> {
 
     ghost Value = { SessionState D };
 
-    ghost view = { λ s. record { core = s.core; trace = s.trace.members; acks = s.acks.members; commits = s.commits; spare = min s.trace.spare s.acks.spare } };
+    ghost view = { λ s. record { core = s.core; trace = s.trace.members; acks = s.acks.members; commits = s.commits; spare = min s.trace.spare s.acks.spare; shortages = s.shortages } };
 
     ghost invariant = { λ s. IsSession D.tells O.found O.start (D.state s.core.devices) s.core.memory s.trace.members s.acks.members s.commits };
 }
@@ -77,6 +80,7 @@ impl<D: Devices, O: Opening> Session<D, O> {
         ensures trace { IfOk result (λ session. session.trace ≡ []) }
         ensures acks { IfOk result (λ session. session.acks ≡ []) }
         ensures commits { IfOk result (λ session. session.commits ≡ 0) }
+        ensures shortages { IfOk result (λ session. session.shortages ≡ no_shortage) }
         ensures err { IfErr result (λ unopened. unopened.devices ≡ devices) }
     {
         found_btrees_are_a_key_map();
@@ -88,6 +92,7 @@ impl<D: Devices, O: Opening> Session<D, O> {
             trace: SpareList::new(alloc),
             acks: SpareList::new(alloc),
             commits: 0,
+            shortages: Shortages::none(),
         })
     }
 
@@ -157,7 +162,8 @@ impl<D: Devices, O: Opening> Session<D, O> {
     }
 
     /// Commits the updates that a client intends, and puts the entry of its operation into the history. No device is called. It costs what a
-    /// `Commit` does, and takes no memory for the entry. An `Err` says why it isn't committed, and gives the operation and its reply back.
+    /// `Commit` does, and takes no memory for the entry. An `Err` says why it isn't committed, and gives the operation and its reply back. Where it is refused for want of
+    /// room, this is kept until a checkpoint meets it; any commit is a further try (`commit_counted`).
     pub fn commit(&mut self, client: u8, op: Op, reply: Reply) -> Result<(), Uncommitted>
         requires client { client < 16 }
         requires spare { 0 < self.old.spare }
@@ -176,10 +182,14 @@ impl<D: Devices, O: Opening> Session<D, O> {
           trace = self.old.trace ++ record { client = client; op = op; reply = reply } ∷ [];
           commits = self.old.commits + 1;
           spare = self.new.spare;
+          shortages = self.new.shortages;
         }) }
         ensures err { IfErr result (λ not. IsUncommitted self.old.core.memory client not.answer
             self.new.core.memory × (not.op ≡ op) × (not.reply ≡ reply)
-            × (self.new ≡ record self.old { core = self.new.core })) }
+            × (self.new ≡ record self.old
+            { core = self.new.core; shortages = self.new.shortages })) }
+        ensures commit_counted { self.new.shortages
+            ≡ after_commit (lacked_room result) self.old.shortages }
         ensures devices { self.new.core.devices ≡ self.old.core.devices }
     {
         waiting_changes_lead_from_durable_keys();
@@ -188,14 +198,35 @@ impl<D: Devices, O: Opening> Session<D, O> {
         match given {
             Answer::Done => {
                 drop(given);
+                self.shortages.count_commit(false);
                 // The count of commits since format is one of 64 bits, and no less.
                 self.core.memory().see_kept();
                 self.commits += 1;
                 self.trace.push(Entry { client, op, reply });
                 Ok(())
             }
-            answer => Err(Uncommitted { answer, op, reply }),
+            answer => {
+                self.shortages.count_commit(may_be_helped(&answer));
+                Err(Uncommitted { answer, op, reply })
+            }
         }
+    }
+
+    /// Each commit that was refused for want of room was met, where both works rest: a checkpoint would do nothing. What is still to be tried again behind an earlier
+    /// checkpoint is so still.
+    pub fn meet_at_rest(&mut self)
+        requires { IsRested self.old.core.memory.volume }
+        ensures { self.new ≡ record self.old { shortages = met_at_rest self.old.shortages } }
+    {
+        self.shortages.count_rest();
+    }
+
+    /// Each commit that was refused for want of room was met by a checkpoint, which came to its end, or ended early.
+    pub(crate) fn meet(&mut self, ended: bool)
+        ensures { self.new ≡ record self.old
+            { shortages = after_checkpoint ended self.old.shortages } }
+    {
+        self.shortages.count_checkpoint(ended);
     }
 
     /// Puts the entry of an operation of a client into the history that changes nothing: its reply is the forest's, or a failure that it may have.

@@ -11,7 +11,7 @@ use Rattle.image_view.specs.Found.{Found}
 use Rattle.vol_core.specs.Room.{HasRoomForNext, LeavesRoom, MayKeepRoom}
 use Rattle.vol_session.specs.Sessions.{SessionState}
 use Rattle.vol_session.specs.Survivors.{BeginsWell}
-use Rattle.volume.specs.Serving.{IsServed, IsUnserved}
+use Rattle.volume.specs.Serving.{IsHelpedStill, IsServed, IsUnserved}
 use Rattle.volume.specs.States.{AreUnspent, IsBetween, KeepsFailures}
 use Rattle.volume.proofs.Unspent.{unspent_later, unspent_served}
 use Rattle.vol_session.specs.Numbers.{HasNumbersLeft, IsFarFromSpent}
@@ -21,7 +21,7 @@ use Rattle.volume.proofs.Replying.{faults_caused}
 module _ {D : Type 0} (tells : Type 0) (begun : Found) (start : DevicesState) (state : D → DevicesState) where
   -- It is kept of a session.
   abbrev Keeps : SessionState D → Type 0
-  Keeps session = IsBetween tells begun start (state session.core.devices) session.core.memory session.trace
+  Keeps session = IsBetween tells begun start (state session.core.devices) session.core.memory session.trace session.shortages
 
   -- Its devices went on, and count their failures.
   pub record AreCounting (devices : D) : Type 0 where
@@ -41,7 +41,7 @@ module _ {D : Type 0} (tells : Type 0) (begun : Found) (start : DevicesState) (s
   abbrev pub MayFindRoom : Type 0
   MayFindRoom = tells → BeginsWell begun start → LeavesRoom begun → MayKeepRoom begun
 
-  module _ (old new : SessionState D) (left : IsLeft new) (may : MayFindRoom) (room : FindsRoom new) (counting : AreCounting old.core.devices) (keeps : Keeps old) where
+  module _ (old new : SessionState D) (left : IsLeft new) (may : MayFindRoom) (room : FindsRoom new) (counting : AreCounting old.core.devices) (helped : IsHelpedStill old new) (keeps : Keeps old) where
     -- by an operation that was answered
     keeps_served : (client : ℕ) (op : Op) (reply : Reply) → IsServed begun state client op reply old new → Keeps new
     keeps_served client op reply served = record {
@@ -52,6 +52,7 @@ module _ {D : Type 0} (tells : Type 0) (begun : Found) (start : DevicesState) (s
       unspent = subst (λ (trace : History). AreUnspent tells begun start (state new.core.devices) trace) (sym served.answered.trace)
           (unspent_served tells begun start (state old.core.devices) (state new.core.devices) old.trace client op reply new.core.memory.volume (state old.core.devices).faults (state new.core.devices).faults served.goes_on served.cause
           (subst (λ (trace : History). IsFarFromSpent begun start (state new.core.devices) → length trace < 2 ^ 31 → HasNumbersLeft new.core.memory.volume) served.answered.trace left) may room keeps.unspent);
+      helped = helped keeps.helped;
     }
 
     -- and where there was no memory for it
@@ -62,6 +63,7 @@ module _ {D : Type 0} (tells : Type 0) (begun : Found) (start : DevicesState) (s
           (failures_later begun start (state old.core.devices) (state new.core.devices) old.trace unserved.goes_on old.core.memory.volume.halted new.core.memory.volume.halted unserved.halted unserved.unfailed keeps.failures);
       unspent = subst (λ (trace : History). AreUnspent tells begun start (state new.core.devices) trace) (sym (ap (λ (s : SessionState D). s.trace) unserved.same))
           (unspent_later tells begun start (state old.core.devices) (state new.core.devices) old.trace unserved.goes_on keeps.unspent);
+      helped = helped keeps.helped;
     }
 
     keeps_result : (result : Result Reply AllocError) (client : ℕ) (op : Op) → IfOk result (λ reply. IsServed begun state client op reply old new) → OnErr result (IsUnserved state old new) → Keeps new
@@ -69,7 +71,7 @@ module _ {D : Type 0} (tells : Type 0) (begun : Found) (start : DevicesState) (s
     keeps_result (Err error) client op served unserved = keeps_unserved unserved
 
   -- Room was made first.
-  pub keeps_call : (result : Result Reply AllocError) (client : ℕ) (op : Op) (old mid new : SessionState D) → mid ≡ record old { spare = mid.spare } → IsLeft new → MayFindRoom → FindsRoom new → AreCounting old.core.devices → Keeps old
+  pub keeps_call : (result : Result Reply AllocError) (client : ℕ) (op : Op) (old mid new : SessionState D) → mid ≡ record old { spare = mid.spare } → IsLeft new → MayFindRoom → FindsRoom new → AreCounting old.core.devices → IsHelpedStill mid new → Keeps old
       → IfOk result (λ reply. IsServed begun state client op reply mid new) → OnErr result (IsUnserved state mid new) → Keeps new
-  keeps_call result client op old mid new same left may room counting keeps served unserved =
-      keeps_result mid new left may room (subst (λ (s : SessionState D). AreCounting s.core.devices) (sym same) counting) (subst Keeps (sym same) keeps) result client op served unserved
+  keeps_call result client op old mid new same left may room counting helped keeps served unserved =
+      keeps_result mid new left may room (subst (λ (s : SessionState D). AreCounting s.core.devices) (sym same) counting) helped (subst Keeps (sym same) keeps) result client op served unserved

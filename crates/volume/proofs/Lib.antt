@@ -3,6 +3,7 @@ pub mod Seen
 pub mod Failing
 pub mod Replying
 pub mod Served
+pub mod Helped
 pub mod Lacking
 pub mod Between
 pub mod Unspent

@@ -16,6 +16,7 @@ use Rattle.forest_ops.specs.declared.operation.Reply.TheVariants.{Spent}
 use Rattle.image_view.specs.Found.{Found}
 use Rattle.forest_ops.specs.Failures.{has_halted}
 use Rattle.vol_session.specs.Marks.{forest_found}
+use Rattle.vol_session.specs.Shortages.{IsHelped, ShortageState, no_shortage}
 use Rattle.volume.specs.States.{BeganWithoutRoom, IsAtRest, IsBetween, KeepsFailures}
 
 -- No entry tells a failure.
@@ -45,11 +46,12 @@ module _ (memory : State) (writes : memory.volume.halted ≡ None) (idle : memor
     turn = free;
   }
 
-  pub between_opened : (tells : Type 0) (begun : Found) (start state : DevicesState) (trace : History) → state ≡ start → trace ≡ [] → IsBetween tells begun start state memory trace
-  between_opened tells begun start state trace begins nothing =
-      subst (λ (s : DevicesState). IsBetween tells begun start s memory trace) (sym begins)
-      (subst (λ (t : History). IsBetween tells begun start start memory t) (sym nothing) (record {
+  pub between_opened : (tells : Type 0) (begun : Found) (start state : DevicesState) (trace : History) (shortages : ShortageState) → state ≡ start → trace ≡ [] → shortages ≡ no_shortage → IsBetween tells begun start state memory trace shortages
+  between_opened tells begun start state trace shortages begins nothing none =
+      subst (λ (s : DevicesState). IsBetween tells begun start s memory trace shortages) (sym begins)
+      (subst (λ (t : History). IsBetween tells begun start start memory t shortages) (sym nothing) (record {
         rest = rests;
         failures = subst (λ (halted : Option Halt). KeepsFailures begun start start halted []) (sym writes) (none_failed begun start);
         unspent = λ far few. All-nil (λ (entry : Entry). entry.reply ≡ Spent → (class_of entry.op ≡ Syncs) × BeganWithoutRoom tells begun start);
+        helped = subst IsHelped (sym none) (record { met = refl; tried = refl });
       }))

@@ -48,15 +48,24 @@ halts_from (replies.DeviceFault dev) earlier before after sizes old new le is = 
 halts_from other earlier before after sizes old new le is = is
 
 module _ {D : Type 0} (begun : Found) (state : D → DevicesState) (client : ℕ) where
+  -- What stays with the volume and the devices.
+  same_moves : (old new : SessionState D) → new ≡ record old { core = new.core; shortages = new.shortages } → new.core.memory.volume ≡ old.core.memory.volume → new.core.devices ≡ old.core.devices → IsMoved state old new
+  same_moves old new rest same devices_same = record {
+    rest = rest;
+    keys = ap (λ (volume : Volume). keys_in volume.trees) same;
+    halted = ap (λ (volume : Volume). volume.halted) same;
+    unfailed = ap (λ (devices : D). (state devices).faults) devices_same;
+    goes_on = subst (λ (devices : D). GoOn (state old.core.devices) (state devices)) (sym devices_same) (go_on_here (state old.core.devices));
+  }
+
   -- What only a client has under way may change.
   pub stepped_moves : (old new : SessionState D) → IsStepped old new → IsMoved state old new
-  stepped_moves old new is = record {
-    rest = is.rest;
-    keys = ap (λ (volume : Volume). keys_in volume.trees) is.volume;
-    halted = ap (λ (volume : Volume). volume.halted) is.volume;
-    unfailed = ap (λ (devices : D). (state devices).faults) is.devices;
-    goes_on = subst (λ (devices : D). GoOn (state old.core.devices) (state devices)) (sym is.devices) (go_on_here (state old.core.devices));
-  }
+  stepped_moves old new is = same_moves old new (ap (λ (s : SessionState D). record s { core = new.core; shortages = new.shortages }) is.rest) is.volume is.devices
+
+  -- So it does where both works rest, and a commit that was refused is met.
+  pub met_moves : (old new : SessionState D) → new ≡ record old { shortages = new.shortages } → IsMoved state old new
+  met_moves old new met =
+      same_moves old new (ap (λ (s : SessionState D). record s { core = new.core; shortages = new.shortages }) met) (ap (λ (s : SessionState D). s.core.memory.volume) met) (ap (λ (s : SessionState D). s.core.devices) met)
 
   -- Where all that stays is the same, the session was moved.
   pub standing_moves : (old new : SessionState D) → standing_in state new ≡ standing_in state old → IsMoved state old new
@@ -68,8 +77,8 @@ module _ {D : Type 0} (begun : Found) (state : D → DevicesState) (client : ℕ
     goes_on = subst (λ (shown : DevicesState). GoOn (state old.core.devices) shown) (sym (ap (λ (s : Standing). s.devices) same)) (go_on_here (state old.core.devices));
   }
     where
-      cc_rest : new ≡ record old { core = new.core }
-      cc_rest = λ i. record { core = new.core; trace = (same i).trace; acks = (same i).acks; commits = (same i).commits; spare = (same i).spare }
+      cc_rest : new ≡ record old { core = new.core; shortages = new.shortages }
+      cc_rest = λ i. record { core = new.core; trace = (same i).trace; acks = (same i).acks; commits = (same i).commits; spare = (same i).spare; shortages = new.shortages }
 
   pub stepped_then : (old mid new : SessionState D) → IsStepped old mid → IsStepped mid new → IsStepped old new
   stepped_then old mid new first second = record {
@@ -80,7 +89,7 @@ module _ {D : Type 0} (begun : Found) (state : D → DevicesState) (client : ℕ
 
   pub moved_then : (old mid new : SessionState D) → IsMoved state old mid → IsMoved state mid new → IsMoved state old new
   moved_then old mid new first second = record {
-    rest = second.rest ∙ ap (λ (s : SessionState D). record s { core = new.core }) first.rest;
+    rest = second.rest ∙ ap (λ (s : SessionState D). record s { core = new.core; shortages = new.shortages }) first.rest;
     keys = second.keys ∙ first.keys;
     halted = second.halted ∙ first.halted;
     unfailed = second.unfailed ∙ first.unfailed;
@@ -110,7 +119,7 @@ module _ {D : Type 0} (begun : Found) (state : D → DevicesState) (client : ℕ
 
   pub unserved_after : (old mid new : SessionState D) → IsMoved state old mid → IsUnserved state mid new → IsUnserved state old new
   unserved_after old mid new moved unserved = record {
-    same = unserved.same ∙ ap (λ (s : SessionState D). record s { core = new.core; spare = new.spare }) moved.rest;
+    same = unserved.same ∙ ap (λ (s : SessionState D). record s { core = new.core; spare = new.spare; shortages = new.shortages }) moved.rest;
     halted = unserved.halted ∙ moved.halted;
     unfailed = unserved.unfailed ∙ moved.unfailed;
     rest = unserved.rest;
@@ -120,7 +129,7 @@ module _ {D : Type 0} (begun : Found) (state : D → DevicesState) (client : ℕ
   -- A session that was moved, and has nothing under way, wasn't served.
   pub moved_unserved : (old new : SessionState D) → IsMoved state old new → IsAtRest new.core.memory → IsUnserved state old new
   moved_unserved old new moved rest = record {
-    same = moved.rest ∙ ap (λ (spare : ℕ). record old { core = new.core; spare = spare }) (sym (ap (λ (s : SessionState D). s.spare) moved.rest));
+    same = ap (λ (s : SessionState D). record s { core = new.core; spare = new.spare; shortages = new.shortages }) moved.rest;
     halted = moved.halted;
     unfailed = moved.unfailed;
     rest = rest;
@@ -220,16 +229,25 @@ module _ {D : Type 0} (begun : Found) (state : D → DevicesState) (client : ℕ
     pub volume : new.core.memory.volume ≡ old.core.memory.volume
 
   pub not_made : (op other : Op) (reply others : Reply) (old new : SessionState D) (answer : Answer) (seen : State) → seen ≡ old.core.memory → IsState seen → IsUncommitted old.core.memory client answer new.core.memory → other ≡ op → others ≡ reply
-      → new ≡ record old { core = new.core } → new.core.devices ≡ old.core.devices → IsIntended old.core.memory client op reply → HasNotMade answer other others old new
+      → new ≡ record old { core = new.core; shortages = new.shortages } → new.core.devices ≡ old.core.devices → IsIntended old.core.memory client op reply → HasNotMade answer other others old new
   not_made op other reply others old new answer seen same kept uncommitted is replied rest devices intended =
       let still = refused_still client intended.under.there old.core.memory new.core.memory (subst IsState same kept) answer uncommitted in
       record {
         intended = subst (λ (o : Op). IsIntended new.core.memory client o others) (sym is)
             (subst (λ (r : Reply). IsIntended new.core.memory client op r) (sym replied) (intended_still client op reply old.core.memory new.core.memory still.keeps intended));
         unmade = still.unmade;
-        moved = stepped_moves old new (record { rest = rest; volume = still.volume; devices = devices });
+        moved = same_moves old new rest still.volume devices;
         volume = still.volume;
       }
+
+  -- So it is where both works rest, and it was met.
+  pub met_not_made : (answer : Answer) (op : Op) (reply : Reply) (old mid new : SessionState D) → new ≡ record mid { shortages = new.shortages } → HasNotMade answer op reply old mid → HasNotMade answer op reply old new
+  met_not_made answer op reply old mid new met not = record {
+    intended = subst (λ (s : SessionState D). IsIntended s.core.memory client op reply) (sym met) not.intended;
+    unmade = subst (λ (s : SessionState D). IsUnmade s.core.memory client answer) (sym met) not.unmade;
+    moved = moved_then old mid new not.moved (met_moves mid new met);
+    volume = ap (λ (s : SessionState D). s.core.memory.volume) met ∙ not.volume;
+  }
 
   -- Works on what is durable that didn't fail moved the session.
   pub works_move : (old new : SessionState D) → IsWorked client old new → new.core.memory.volume.halted ≡ old.core.memory.volume.halted → (state new.core.devices).faults ≡ (state old.core.devices).faults

@@ -9,15 +9,17 @@ use Rattle.forest_ops.specs.History.{History}
 use Rattle.forest_ops.specs.declared.acks.Ack.{Ack}
 use Rattle.snap_tree.specs.Snaps.{Snaps}
 use Rattle.vol_session.specs.Sessions.{SessionState}
+use Rattle.vol_session.specs.Shortages.{ShortageState, no_shortage}
 use Rattle.vol_types.specs.KeyMaps.{KeyMap}
 use Rattle.volume.specs.Serving.{IsUnderWay}
 
--- what stays: the history, the keys in memory, whether the session has stopped writing, and what the devices show
+-- what stays: the history, what is to be done about commits that were refused, the keys in memory, whether the session has stopped writing, and what the devices show
 pub record Standing : Type 0 where
   pub trace : History
   pub acks : List Ack
   pub commits : ℕ
   pub spare : ℕ
+  pub shortages : ShortageState
   pub keys : KeyMap
   pub halted : Option Halt
   pub devices : DevicesState
@@ -29,6 +31,7 @@ standing_in state session = record {
   acks = session.acks;
   commits = session.commits;
   spare = session.spare;
+  shortages = session.shortages;
   keys = keys_in session.core.memory.volume.trees;
   halted = session.core.memory.volume.halted;
   devices = state session.core.devices;
@@ -41,6 +44,7 @@ nothing_standing = record {
   acks = [];
   commits = 0;
   spare = 0;
+  shortages = no_shortage;
   keys = record { extents = []; inodes = []; dirents = []; subvols = []; snapshots = []; alloc = []; backptrs = []; deleted = []; counters = [] };
   halted = None;
   devices = record { sizes = []; moment = 0; disks = λ _. []; faults = no_fault_counts };

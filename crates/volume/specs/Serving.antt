@@ -1,5 +1,5 @@
 -- How the parts of a call move a session, and what an operation leaves of it.
-use Rattle.std.specs.Prelude.{◌≡◌, ◌≢◌, ◌⊎◌, ℕ, ◌<◌, ◌≤◌, ⊤, Bool, true, false, not, ◌&&◌, if◌then◌else◌, Option, Some, None, IsSome, is_some, List, [], ◌∷◌, ◌++◌, length}
+use Rattle.std.specs.Prelude.{◌≡◌, ◌≢◌, ◌⊎◌, ℕ, ◌<◌, ◌≤◌, ⊤, Bool, true, false, ◌&&◌, if◌then◌else◌, Option, Some, None, IsSome, is_some, List, [], ◌∷◌, ◌++◌, length}
 use Rattle.btree_map.specs.Trees.{keys_in}
 use Rattle.core_volume.specs.Commits.{AreIntended}
 use Rattle.core_state.specs.Events.{intended_by}
@@ -26,6 +26,7 @@ use Rattle.key_meaning.specs.Forest.{Read, forest_in}
 use Rattle.plain_forest.specs.Forest.{Forest}
 use Rattle.vol_core.specs.Rested.{IsRested}
 use Rattle.vol_session.specs.Sessions.{IfSoundKeys, IsPlanNow, SessionState}
+use Rattle.vol_session.specs.Shortages.{IsHelped}
 use Rattle.vol_session.specs.declared.writeback_end.WritebackEnd.{WritebackEnd}
 use Rattle.vol_session.specs.declared.writeback_end.WritebackEnd.TheVariants as stops
 use Rattle.volume.specs.Answers.{HasCause, IsAnswered, nothing_short}
@@ -46,7 +47,7 @@ pub record IsStepped {D : Type 0} (old new : SessionState D) : Type 0 where
 
 -- The history and the keys stand, no call failed, and the session didn't stop writing.
 pub record IsMoved {D : Type 0} (state : D → DevicesState) (old new : SessionState D) : Type 0 where
-  pub rest : new ≡ record old { core = new.core }
+  pub rest : new ≡ record old { core = new.core; shortages = new.shortages }
   pub keys : keys_in new.core.memory.volume.trees ≡ keys_in old.core.memory.volume.trees
   pub halted : new.core.memory.volume.halted ≡ old.core.memory.volume.halted
   pub unfailed : (state new.core.devices).faults ≡ (state old.core.devices).faults
@@ -86,7 +87,7 @@ pub record IsServed {D : Type 0} (begun : Found) (state : D → DevicesState) (c
 
 -- There was no memory to answer it: the history stands, no call failed, the session didn't stop writing, and no client has anything under way.
 pub record IsUnserved {D : Type 0} (state : D → DevicesState) (old new : SessionState D) : Type 0 where
-  pub same : new ≡ record old { core = new.core; spare = new.spare }
+  pub same : new ≡ record old { core = new.core; spare = new.spare; shortages = new.shortages }
   pub halted : new.core.memory.volume.halted ≡ old.core.memory.volume.halted
   pub unfailed : (state new.core.devices).faults ≡ (state old.core.devices).faults
   pub rest : IsAtRest new.core.memory
@@ -124,16 +125,9 @@ IsUnmade memory client other = ⊥
 abbrev pub is_synced : Reply → Bool
 is_synced reply = is_some (synced_count reply)
 
--- whether a checkpoint may make the room that a refused commit lacks: in the ring, or in buckets, where it would free some
-abbrev pub lacks_room : Refusal → Bool
-lacks_room (refusals.RingFull full) = true
-lacks_room (refusals.NoSpace none) = not none.idle
-lacks_room other = false
-
--- whether a commit that is answered so may be made after a checkpoint
-abbrev pub may_be_helped : Answer → Bool
-may_be_helped (answers.Refused refusal) = lacks_room refusal
-may_be_helped other = false
+-- Where no commit that was refused for want of room was left to be helped, none is.
+abbrev pub IsHelpedStill : {D : Type 0} → SessionState D → SessionState D → Type 0
+IsHelpedStill old new = IsHelped old.shortages → IsHelped new.shortages
 
 -- A checkpoint doesn't help a commit: none would, or both works rest.
 abbrev pub IsHelpless : Volume → Bool → Type 0

@@ -1,4 +1,4 @@
--- What a volume keeps between its operations, beside what its session keeps: the failures that its history tells, and what its clients have under way, which is nothing.
+-- What a volume keeps between its operations, beside what its session keeps: the failures that its history tells, what its clients have under way, which is nothing, and that each commit which was refused for want of room was helped.
 use Rattle.std.specs.Prelude.{◌≡◌, ◌<◌, ◌^◌, ℕ, All, false, Option, None, List, length, option_map, is_some}
 use Rattle.core_actors.specs.Actors.{holds}
 use Rattle.core_actors.specs.declared.actor.Actor.{Actor}
@@ -19,6 +19,7 @@ use Rattle.vol_core.specs.Cores.{CoreState}
 use Rattle.vol_core.specs.Room.{LeavesRoom, MayKeepRoom}
 use Rattle.vol_session.specs.Numbers.{IsFarFromSpent}
 use Rattle.vol_session.specs.Sessions.{SessionState}
+use Rattle.vol_session.specs.Shortages.{IsHelped, ShortageState}
 use Rattle.vol_session.specs.Survivors.{BeginsWell}
 
 -- a session, and how many operations it was called with, up to 2^64 - 1
@@ -28,11 +29,12 @@ pub record VolumeState (D : Type 0) : Type 0 where
   pub acks : List Ack
   pub commits : ℕ
   pub spare : ℕ
+  pub shortages : ShortageState
   pub calls : ℕ
 
 -- the session of a volume
 abbrev pub session_in : {D : Type 0} → VolumeState D → SessionState D
-session_in volume = record { core = volume.core; trace = volume.trace; acks = volume.acks; commits = volume.commits; spare = volume.spare }
+session_in volume = record { core = volume.core; trace = volume.trace; acks = volume.acks; commits = volume.commits; spare = volume.spare; shortages = volume.shortages }
 
 -- the device that failed, if the session has stopped writing
 abbrev pub halted_device : Option Halt → Option ℕ
@@ -75,7 +77,8 @@ AreUnspent tells begun start state trace =
     IsFarFromSpent begun start state → length trace < 2 ^ 31 → All (λ (entry : Entry). entry.reply ≡ Spent → (class_of entry.op ≡ Syncs) × BeganWithoutRoom tells begun start) trace
 
 -- What is kept between operations.
-pub record IsBetween (tells : Type 0) (begun : Found) (start state : DevicesState) (memory : State) (trace : History) : Type 0 where
+pub record IsBetween (tells : Type 0) (begun : Found) (start state : DevicesState) (memory : State) (trace : History) (shortages : ShortageState) : Type 0 where
   pub rest : IsAtRest memory
   pub failures : KeepsFailures begun start state memory.volume.halted trace
   pub unspent : AreUnspent tells begun start state trace
+  pub helped : IsHelped shortages

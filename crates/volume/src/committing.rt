@@ -8,8 +8,9 @@ ghost use Rattle.forest_ops.specs.History.{is_done};
 ghost use Rattle.fs_plan.specs.Plans.{IsOfItsClass, is_planned};
 ghost use Rattle.vol_core.specs.Rested.{IsRested};
 ghost use Rattle.vol_session.specs.Sessions.{IsPlanNow};
+ghost use Rattle.vol_session.specs.Shortages.{IsHelped, lacks_room, may_be_helped};
 ghost use Rattle.vol_session.specs.Writeback.{stopped_by};
-ghost use Rattle.volume.specs.Serving.{HasIntent, IsDoneNow, IsEntered, IsHelpless, IsIntended, IsServed, IsStepped, IsUnderWay, IsUnmade, IsUnserved, TellsStop, lacks_room, may_be_helped};
+ghost use Rattle.volume.specs.Serving.{HasIntent, IsDoneNow, IsEntered, IsHelpless, IsIntended, IsServed, IsStepped, IsHelpedStill, IsUnderWay, IsUnmade, IsUnserved, TellsStop};
 ghost use Rattle.volume.specs.States.{IsAtRest};
 
 use crate::serving::{end, fail, lack, nothing_short};
@@ -18,7 +19,7 @@ use forest_ops::{Op, Reply};
 use fs_plan::Plan;
 use std::alloc::{AllocError, Global};
 use vol_core::{Answer, Event, Opening, Refusal};
-use vol_session::{Session, Uncommitted, WritebackEnd, checkpoint};
+use vol_session::{Session, Uncommitted, WritebackEnd, checkpoint, may_be_helped};
 use vol_types::{Halt, Updates};
 
 /// Makes the commit that a plan of a client's operation says. Where the journal or the buckets are short, a checkpoint is made first.
@@ -37,6 +38,7 @@ pub(crate) fn make<D: Devices, O: Opening>(
     ensures served { IfOk result (λ reply. IsServed O.found D.state client plan.op reply session.old
         session.new) }
     ensures unserved { OnErr result (IsUnserved D.state session.old session.new) }
+    ensures helped { IsHelpedStill session.old session.new }
 {
     // What isn't handed on is dropped by name, here and below: that spares the proof the drop of each variant on each way out.
     let Plan {
@@ -86,6 +88,7 @@ fn commit<D: Devices, O: Opening>(
     ensures served { IfOk result (λ reply. IsServed O.found D.state client op reply session.old
         session.new) }
     ensures unserved { OnErr result (IsUnserved D.state session.old session.new) }
+    ensures helped { IsHelpedStill session.old session.new }
 {
     session.memory().see_kept();
     let told = done_reply(&reply);
@@ -127,6 +130,8 @@ fn settle<D: Devices, O: Opening>(
     ensures served { IfOk result (λ reply. IsServed O.found D.state client not.op reply session.old
         session.new) }
     ensures unserved { OnErr result (IsUnserved D.state session.old session.new) }
+    ensures helped { (may_be_helped not.answer ≡ false → IsHelped session.old.shortages)
+        → IsHelped session.new.shortages }
 {
     let Uncommitted { answer, op, reply } = not;
     if may_be_helped(&answer) {
@@ -135,27 +140,6 @@ fn settle<D: Devices, O: Opening>(
     }
     drop(reply);
     fail_uncommitted(alloc, session, client, op, answer)
-}
-
-// Whether a commit that is answered so may be made after a checkpoint.
-fn may_be_helped(answer: &Answer) -> bool
-    ensures { result ≡ may_be_helped answer.now }
-{
-    match answer {
-        Answer::Refused(refusal) => lacks_room(refusal),
-        _ => false,
-    }
-}
-
-// Whether a checkpoint may make the room that a refused commit lacks: in the ring, or in buckets, where it would free some.
-fn lacks_room(refusal: &Refusal) -> bool
-    ensures { result ≡ lacks_room refusal.now }
-{
-    match refusal {
-        Refusal::RingFull(_) => true,
-        Refusal::NoSpace(none) => !none.idle,
-        _ => false,
-    }
 }
 
 // A change that wasn't committed fails, since a checkpoint doesn't help, or both works rest.
@@ -173,6 +157,7 @@ fn fail_uncommitted<D: Devices, O: Opening>(
     ensures served { IfOk result (λ reply. IsServed O.found D.state client op reply session.old
         session.new) }
     ensures unserved { OnErr result (IsUnserved D.state session.old session.new) }
+    ensures shortages { session.new.shortages ≡ session.old.shortages }
 {
     match answer {
         Answer::Refused(refusal) => refuse(alloc, session, client, op, refusal),
@@ -202,6 +187,7 @@ fn refuse<D: Devices, O: Opening>(
     ensures served { IfOk result (λ reply. IsServed O.found D.state client op reply session.old
         session.new) }
     ensures unserved { OnErr result (IsUnserved D.state session.old session.new) }
+    ensures shortages { session.new.shortages ≡ session.old.shortages }
 {
     // At rest the ring has room, where it may be kept of what was found.
     let _ = session.memory();
@@ -239,6 +225,7 @@ fn try_again<D: Devices, O: Opening>(
     ensures served { IfOk result (λ reply. IsServed O.found D.state client op reply session.old
         session.new) }
     ensures unserved { OnErr result (IsUnserved D.state session.old session.new) }
+    ensures helped { IsHelped session.new.shortages }
 {
     match checkpoint(session, client) {
         Ok(()) => commit_at_rest(alloc, session, client, op, reply),
@@ -260,9 +247,11 @@ fn commit_at_rest<D: Devices, O: Opening>(
     requires spare { 0 < session.old.spare }
     requires intended { IsIntended session.old.core.memory client op reply }
     requires rested { IsRested session.old.core.memory.volume }
+    requires met { session.old.shortages.unmet ≡ false }
     ensures served { IfOk result (λ reply. IsServed O.found D.state client op reply session.old
         session.new) }
     ensures unserved { OnErr result (IsUnserved D.state session.old session.new) }
+    ensures helped { IsHelped session.new.shortages }
 {
     session.memory().see_kept();
     let told = done_reply(&reply);
@@ -274,6 +263,7 @@ fn commit_at_rest<D: Devices, O: Opening>(
         }
         Err(not) => {
             drop(told);
+            session.meet_at_rest();
             let Uncommitted { answer, op, reply } = not;
             drop(reply);
             fail_uncommitted(alloc, session, client, op, answer)

@@ -35,6 +35,7 @@ pub(crate) fn planned<D: Devices, O: Opening>(
     requires planned { is_planned op ≡ true }
     requires bounded { IsBounded op }
     ensures moved { IsMoved D.state session.old session.new }
+    ensures shortages { session.new.shortages ≡ session.old.shortages }
     ensures under { IsUnderWay session.new.core.memory client }
     ensures op { IfOk result (λ plan. plan.op ≡ op) }
     ensures now { IfOk result (IsPlanNow session.new.core.memory client) }
@@ -60,6 +61,7 @@ fn plan_in<D: Devices, O: Opening>(
     requires planned { is_planned asked.op ≡ true }
     requires bounded { IsBounded asked.op }
     ensures moved { IsMoved D.state session result.0 }
+    ensures shortages { result.0.shortages ≡ session.shortages }
     ensures under { IsUnderWay result.0.core.memory asked.client }
     ensures op { IfOk result.1 (λ plan. plan.op ≡ asked.op) }
     ensures now { IfOk result.1 (IsPlanNow result.0.core.memory asked.client) }

@@ -5,7 +5,7 @@ ghost use Rattle.fs_plan.specs.Plans.{IsBounded, IsOfItsClass, is_planned};
 ghost use Rattle.vol_session.specs.Sessions.{IsFailureNow, IsPlanNow, IsSyncedNow};
 ghost use Rattle.vol_session.specs.Writeback.{MayStopSync};
 ghost use Rattle.volume.specs.Answers.{nothing_short};
-ghost use Rattle.volume.specs.Serving.{IsDoneNow, IsEntered, IsServed, IsStepped, IsUnderWay, IsUnserved, TellsSync, halt_told, is_synced};
+ghost use Rattle.volume.specs.Serving.{IsDoneNow, IsEntered, IsHelpedStill, IsServed, IsStepped, IsUnderWay, IsUnserved, TellsSync, halt_told, is_synced};
 ghost use Rattle.volume.specs.States.{IsAtRest};
 
 use crate::committing::{fail_halted, make};
@@ -33,6 +33,7 @@ pub(crate) fn answer<D: Devices, O: Opening>(
     ensures served { IfOk result (λ reply. IsServed O.found D.state client op reply session.old
         session.new) }
     ensures unserved { OnErr result (IsUnserved D.state session.old session.new) }
+    ensures helped { IsHelpedStill session.old session.new }
 {
     begin(session, client);
     match planned(alloc, session, client, op) {
@@ -60,6 +61,7 @@ fn carry_out<D: Devices, O: Opening>(
     ensures served { IfOk result (λ reply. IsServed O.found D.state client plan.op reply session.old
         session.new) }
     ensures unserved { OnErr result (IsUnserved D.state session.old session.new) }
+    ensures helped { IsHelpedStill session.old session.new }
 {
     if plan.commits {
         return make(alloc, session, client, plan);
@@ -98,7 +100,8 @@ fn stop_change<D: Devices, O: Opening>(
     requires planned { is_planned plan.op ≡ true }
     requires now { IsPlanNow session.old.core.memory client plan }
     requires told { halt_told plan.op plan.reply session.old.core.memory.volume.halted ≡ Some halt }
-    ensures { IsServed O.found D.state client plan.op result session.old session.new }
+    ensures served { IsServed O.found D.state client plan.op result session.old session.new }
+    ensures helped { IsHelpedStill session.old session.new }
 {
     let Plan {
         op,
@@ -129,6 +132,7 @@ fn tell_copied<D: Devices, O: Opening>(
     ensures served { IfOk result (λ reply. IsServed O.found D.state client plan.op reply session.old
         session.new) }
     ensures unserved { OnErr result (IsUnserved D.state session.old session.new) }
+    ensures helped { IsHelpedStill session.old session.new }
 {
     match plan.reply.copy(alloc) {
         Ok(reply) => {
@@ -165,6 +169,7 @@ fn sync_after<D: Devices, O: Opening>(
     ensures served { IfOk result (λ reply. IsServed O.found D.state client plan.op reply session.old
         session.new) }
     ensures unserved { OnErr result (IsUnserved D.state session.old session.new) }
+    ensures helped { IsHelpedStill session.old session.new }
 {
     let Plan {
         op,
@@ -193,6 +198,7 @@ fn sync<D: Devices, O: Opening>(
     ensures served { IfOk result (λ reply. IsServed O.found D.state client op reply session.old
         session.new) }
     ensures unserved { OnErr result (IsUnserved D.state session.old session.new) }
+    ensures helped { IsHelpedStill session.old session.new }
 {
     match sync_all(session, client) {
         Ok(()) => Ok(Reply::Synced(session.acknowledge(client, op))),

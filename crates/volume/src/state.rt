@@ -13,6 +13,7 @@ ghost use Rattle.forest_ops.specs.Failures.{Halts, HaveCauses, NoCommitAfterHalt
 ghost use Rattle.vol_core.specs.Rested.{MayKeepRing};
 ghost use Rattle.vol_session.specs.Marks.{forest_found};
 ghost use Rattle.vol_session.specs.Sessions.{IsExact};
+ghost use Rattle.vol_session.specs.Shortages.{IsHelped};
 ghost use Rattle.vol_session.specs.Survivors.{BeginsWell, Survive};
 ghost use Rattle.volume.specs.Answers.{AcknowledgesAll, HasCause, IsAnswered};
 ghost use Rattle.volume.specs.Serving.{IsWriting};
@@ -59,10 +60,11 @@ impl<D: Devices, O: Opening> Model for VolState<D, O> {
       acks = v.session.acks;
       commits = v.session.commits;
       spare = v.session.spare;
+      shortages = v.session.shortages;
       calls = v.calls;
     } };
 
-    ghost invariant = { λ v. IsBetween D.tells O.found O.start (D.state v.session.core.devices) v.session.core.memory v.session.trace };
+    ghost invariant = { λ v. IsBetween D.tells O.found O.start (D.state v.session.core.devices) v.session.core.memory v.session.trace v.session.shortages };
 }
 
 impl<D: Devices, O: Opening> VolState<D, O> {
@@ -77,6 +79,7 @@ impl<D: Devices, O: Opening> VolState<D, O> {
         ensures trace { IfOk result (λ volume. volume.trace ≡ []) }
         ensures acks { IfOk result (λ volume. volume.acks ≡ []) }
         ensures calls { IfOk result (λ volume. volume.calls ≡ 0) }
+        ensures helped { IfOk result (λ volume. IsHelped volume.shortages) }
         ensures err { IfErr result (λ unopened. unopened.devices ≡ devices) }
     {
         Ok(VolState {
@@ -101,7 +104,8 @@ impl<D: Devices, O: Opening> VolState<D, O> {
     }
 
     /// Answers an operation of a client: its entry joins the history, and its reply is handed back. An `Err` says that it is out of memory, which no reply says, and
-    /// leaves the history and the acknowledgements as they were. It counts as one call in any case (`called`). A sync acknowledges all commits before it. Once the session has stopped writing, no change is done (`writes`),
+    /// leaves the history and the acknowledgements as they were. Whatever it answers, also that it is out of memory, each commit that was refused for want of room was met by a
+    /// checkpoint, and tried again where this came to its end, or both works rested, so that a checkpoint would do nothing (`helped`). It counts as one call in any case (`called`). A sync acknowledges all commits before it. Once the session has stopped writing, no change is done (`writes`),
     /// not even one that would change nothing. No commit meets a full ring after a checkpoint where the ring may be kept of what was found (`IsFullAtRest` in `cause`), whether the devices
     /// tell what they hold or not; where they do, and the session began well, it may (`ring`).
     ///
@@ -123,6 +127,7 @@ impl<D: Devices, O: Opening> VolState<D, O> {
             { core = self.new.core; spare = self.new.spare; calls = self.new.calls }) }
         ensures called { self.new.calls ≡ one_more self.old.calls }
         ensures ring { D.tells → BeginsWell O.found O.start → MayKeepRing O.found }
+        ensures helped { IsHelped self.new.shortages }
         ensures unfailed { OnErr result ((D.state self.new.core.devices).faults
             ≡ (D.state self.old.core.devices).faults) }
         ensures goes_on { GoOn (D.state self.old.core.devices) (D.state self.new.core.devices) }

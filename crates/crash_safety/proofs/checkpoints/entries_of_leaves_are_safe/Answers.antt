@@ -8,8 +8,8 @@ use Rattle.crash_safety.proofs.checkpoints.entries_of_leaves_are_safe.Goals as g
 
 pub returns : goal.returns
 returns c = record {
-  begins = λ f state l mended leaves below roots none layout fixed hold may pins.
-      found_kept f state l (c.found_roots_are_leaves.ensures f state mended leaves below) roots c.nodes_hold_keys_up_to_an_entry.ensures.begins none layout fixed hold may pins;
+  begins = λ f state l mended alike leaves below roots none layout fixed hold may pins.
+      found_kept f state l (c.found_roots_are_leaves.ensures f state mended alike leaves below) roots c.nodes_hold_keys_up_to_an_entry.ensures.begins none layout fixed hold may pins;
   same = same_kept;
   pins = pinned_more c.nodes_hold_keys_up_to_an_entry.ensures.pins;
   seals = sealed_kept c.nodes_hold_keys_up_to_an_entry.ensures.lacks c.leaf_roots_are_named.ensures;

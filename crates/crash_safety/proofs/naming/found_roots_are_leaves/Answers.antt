@@ -9,4 +9,4 @@ returns c =
       nine = c.updates_of_leaves_join_the_keys.ensures.roots;
       entries = c.found_btrees_are_a_key_map.ensures.entries;
     } in
-    λ f state mended leaves below. roots_lead laws f state mended leaves below
+    λ f state mended alike leaves below. roots_lead laws f state mended alike leaves below

@@ -5,13 +5,13 @@ use Rattle.dev_model.specs.Devices.{now}
 use Rattle.dev_model.specs.Disk.{Image, as_read}
 use Rattle.dev_model.specs.FrameLaws.{only_read_then}
 use Rattle.geometry.specs.Faults.{DeviceFailed, SomeFailed}
-use Rattle.image_view.specs.Found.{sets_in, updates_of}
+use Rattle.image_view.specs.Found.{PlacesAgree, sets_in, updates_of}
 use Rattle.image_view.specs.Trees.{Wanted, read_level, read_node}
 use Rattle.tree_nodes.specs.Levels.{IsNodeOf}
 use Rattle.vol_types.specs.Positions.{least_pos}
 use Rattle.vol_types.specs.Ranges.{IsValue}
 use Rattle.vol_types.specs.declared.pointers.NodePtr.{NodePtr}
-use Rattle.image_reader.specs.Answers.{IsRagged, PlacesAgree, Tells}
+use Rattle.image_reader.specs.Answers.{IsRagged, Tells}
 use Rattle.image_reader.specs.Changes.{all_noted}
 use Rattle.image_reader.specs.Faults.{tree_fault_device}
 use Rattle.image_reader.specs.Nodes.{node_in}

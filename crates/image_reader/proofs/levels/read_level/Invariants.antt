@@ -5,11 +5,11 @@ use Rattle.dev_model.specs.Devices.{now}
 use Rattle.dev_model.specs.Disk.{as_read}
 use Rattle.dev_model.specs.Frames.{AreOnlyRead}
 use Rattle.geometry.specs.Faults.{SomeFailed}
-use Rattle.image_view.specs.Found.{sets_in, updates_of}
+use Rattle.image_view.specs.Found.{PlacesAgree, sets_in, updates_of}
 use Rattle.image_view.specs.Trees.{read_level}
 use Rattle.vol_types.specs.Positions.{least_pos}
 use Rattle.vol_types.specs.Ranges.{IsValue}
-use Rattle.image_reader.specs.Answers.{IsRagged, PlacesAgree}
+use Rattle.image_reader.specs.Answers.{IsRagged}
 use Rattle.image_reader.specs.Nodes.{node_in}
 use Rattle.image_reader.proofs.LevelTold.{behind_done}
 use Rattle.image_reader.proofs.levels.read_level.Given as goal

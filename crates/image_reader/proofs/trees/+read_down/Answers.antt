@@ -5,11 +5,11 @@ use Rattle.dev_model.specs.Devices.{now}
 use Rattle.dev_model.specs.Disk.{Image, as_read}
 use Rattle.dev_model.specs.FrameLaws.{only_read_then}
 use Rattle.geometry.specs.Faults.{DeviceFailed, SomeFailed}
-use Rattle.image_view.specs.Found.{sets_in, updates_of}
+use Rattle.image_view.specs.Found.{PlacesAgree, sets_in, updates_of}
 use Rattle.image_view.specs.Trees.{BtreeRead, children_of, each_of, ends_of, read_down, read_level}
 use Rattle.tree_nodes.specs.Levels.{Level}
 use Rattle.vol_types.specs.Positions.{least_pos}
-use Rattle.image_reader.specs.Answers.{AreRagged, IsSureBtree, PlacesAgree, Tells}
+use Rattle.image_reader.specs.Answers.{AreRagged, IsSureBtree, Tells}
 use Rattle.image_reader.specs.Faults.{tree_fault_device}
 use Rattle.image_reader.specs.Nodes.{joined_levels, node_in, ragged_births}
 use Rattle.image_reader.specs.Volumes.{btree_in}

@@ -5,7 +5,7 @@ use Rattle.dev_model.specs.Disk.{as_read, block_at, changed, flushed, sizes_of, 
 use Rattle.dev_model.specs.FrameLaws.{go_on_by_write, go_on_then}
 use Rattle.geometry.specs.FaultLaws.{handed_device}
 use Rattle.geometry.specs.Faults.{fault_device}
-use Rattle.node_store.specs.Mending.{KeepsRest, OnlyWriteFailed}
+use Rattle.node_store.specs.Mending.{KeepsRest, AtMostOneWriteFailed}
 use Rattle.node_store.proofs.MendedFrames.{call_failed, ok_then, on_ok, reads_settled, rest_settled, write_failed, writes_by_write, writes_settled}
 use Rattle.node_store.proofs.mending.settle_block.Goals as goal
 
@@ -61,7 +61,7 @@ returns-in_err-write_device-clause-cause g c =
     let D = g.D.Devices in
     let old = D.state c.args.devices.now in
     let new = D.state c.write_device.new.devices in
-    subst (λ (failed : Option ℕ). OnlyWriteFailed failed old.faults new.faults)
+    subst (λ (failed : Option ℕ). AtMostOneWriteFailed failed old.faults new.faults)
     (sym (handed_device c.from_residual.result c.in_err-write_device.field-0.0 c.from_residual.ensures.1 ∙ ap fault_device c.in_err-write_device.ensures.device))
     (write_failed c.args.dev old.faults new.faults c.requires.device (g.met.D.Devices.counted c.args.devices.now) c.in_err-write_device.ensures.call.faults)
 

@@ -1,21 +1,19 @@
-use Rattle.std.proofs.Common.{◌≡◌, ◌∙◌, ℕ, inl, inr, List, Ok, Result, ap, true, sym, subst}
+use Rattle.std.proofs.Common.{◌≡◌, ℕ, inl, inr, List, Ok, Result, ap, true, sym, subst}
 use Rattle.dev_model.specs.Devices.{now}
 use Rattle.dev_model.specs.Disk.{Disk, as_read}
 use Rattle.dev_model.specs.FrameLaws.{go_on_reading, go_on_then, stay_now}
 use Rattle.dev_model.specs.Frames.{AreOnlyRead}
 use Rattle.geometry.specs.Layouts.{is_layout_of}
-use Rattle.image_view.specs.Found.{Found, found}
+use Rattle.image_view.specs.Found.{Found, NodesAgree, found}
 use Rattle.image_view.specs.Trees.{nodes_of}
 use Rattle.image_view.specs.declared.fault.MountFault.{MountFault}
-use Rattle.image_reader.specs.Answers.{AreRagged, Finds, NodesAgree}
+use Rattle.image_reader.specs.Answers.{AreRagged, Finds}
 use Rattle.image_reader.specs.Faults.{failed_mount_device}
-use Rattle.key_codec.specs.Combined.{ok_is}
-use Rattle.vol_types.specs.declared.pointers.NodePtr.{NodePtr}
 use Rattle.replay.specs.Beginning.{IsFoundOn}
 use Rattle.replay.specs.Opening.{in_next_session}
 use Rattle.replay.specs.Volumes.{found_in}
 use Rattle.replay.proofs.LoadedFront.{front_is}
-use Rattle.replay.proofs.OpenedVolume.{early_refuses, failed_since, in_order_now, next_failed, next_unloaded, none_before, none_since, of_opened, ready_with, stay_means, stay_then_means}
+use Rattle.replay.proofs.OpenedVolume.{early_refuses, failed_since, in_order_now, next_failed, next_unloaded, none_before, of_opened, ready_with, stay_means, stay_then_means}
 use Rattle.replay.proofs.opening.open_volume.Goals as goal
 
 pub returns-in-Ok-clause-found : goal.returns-in-Ok-clause-found
@@ -42,7 +40,7 @@ returns-in-Ok-clause-crashes g c tells f on =
     let front = front_is (as_read (now old)) f on.on.finds loaded.layout loaded.session loaded.needed (c.in-Ok.ensures.front tells) in
     stay_then_means f old mid (D.state c.begin_loaded.new.devices) on stay
     (c.begin_loaded.ensures.past tells f order front.layouts front.sessions front.needs)
-    (c.begin_loaded.ensures.crashes tells f order front.layouts front.sessions front.needs)
+    (c.begin_loaded.ensures.crashes tells f order front.layouts front.sessions front.needs (ap (λ (g : Found). g.trees.ends) (sym (c.in-Ok.ensures.made_up tells f on.on.finds on.order.agree))))
 
 pub returns-in-Ok-clause-ready : goal.returns-in-Ok-clause-ready
 returns-in-Ok-clause-ready g c tells f on =
@@ -53,7 +51,7 @@ returns-in-Ok-clause-ready g c tells f on =
     let order = in_order_now f old mid on (c.load.ensures.read.disks tells) in
     let front = front_is (as_read (now old)) f on.on.finds loaded.layout loaded.session loaded.needed (c.in-Ok.ensures.front tells) in
     ready_with f loaded.session front.sessions c.begin_loaded.result (now (D.state c.begin_loaded.new.devices))
-    (c.begin_loaded.ensures.ready tells f order front.layouts front.sessions front.needs)
+    (c.begin_loaded.ensures.ready tells f order front.layouts front.sessions front.needs (ap (λ (g : Found). g.trees.ends) (sym (c.in-Ok.ensures.made_up tells f on.on.finds on.order.agree))))
 
 pub returns-in-Ok-clause-early : goal.returns-in-Ok-clause-early
 returns-in-Ok-clause-early g c tells fault is early =
@@ -90,20 +88,15 @@ returns-in-Ok-clause-cause g c =
     failed_since (failed_mount_device c.begin_loaded.result) (D.state c.args.devices.now).faults (D.state c.load.new.devices).faults (D.state c.begin_loaded.new.devices).faults c.load.ensures.read.calls c.begin_loaded.ensures.cause
 
 pub returns-in-Ok-clause-alike : goal.returns-in-Ok-clause-alike
-returns-in-Ok-clause-alike g c tells none f on agree =
+returns-in-Ok-clause-alike g c tells f on agree =
     let D = g.D.Devices in
     let old = D.state c.args.devices.now in
     let mid = D.state c.load.new.devices in
-    let new = D.state c.begin_loaded.new.devices in
     let loaded = c.in-Ok.loaded in
     let now_same = sym (stay_now old mid (c.load.ensures.read.disks tells)) in
     let front = front_is (as_read (now old)) f on.finds loaded.layout loaded.session loaded.needed (c.in-Ok.ensures.front tells) in
-    let none_there = none_before old.faults mid.faults new.faults c.begin_loaded.ensures.goes_on.calls none in
-    let same : found_in loaded ≡ f = ok_is (found_in loaded) f (sym (c.in-Ok.ensures.found tells none_there) ∙ on.finds) in
-    let ragged = subst (λ (nodes : List NodePtr). AreRagged loaded.layout.id (as_read (now old)) nodes loaded.ragged) (ap (λ (g : Found). nodes_of g.trees.nodes) same) (c.in-Ok.ensures.ragged tells none_there) in
-    c.begin_loaded.ensures.alike tells (none_since old.faults mid.faults new.faults c.load.ensures.read.calls none) f
-    (subst (λ (ds : List Disk). IsFoundOn f ds) now_same on) (subst (λ (ds : List Disk). NodesAgree (as_read ds) f) now_same agree)
-    (subst (λ (ds : List Disk). AreRagged loaded.layout.id (as_read ds) (nodes_of f.trees.nodes) loaded.ragged) now_same ragged) front.layouts front.sessions front.needs
+    c.begin_loaded.ensures.alike tells f (subst (λ (ds : List Disk). IsFoundOn f ds) now_same on) (subst (λ (ds : List Disk). NodesAgree (as_read ds) f) now_same agree)
+    front.layouts front.sessions front.needs (ap (λ (g : Found). g.trees.ends) (sym (c.in-Ok.ensures.made_up tells f on.finds agree)))
 
 pub returns-in-Ok-clause-goes_on : goal.returns-in-Ok-clause-goes_on
 returns-in-Ok-clause-goes_on g c =

@@ -2,22 +2,18 @@ use Rattle.std.proofs.Common.{◌≡◌, ◌+◌, ℕ, List, Err, inr, refl, ap,
 use Rattle.dev_model.specs.Devices.{now}
 use Rattle.dev_model.specs.Disk.{Disk, as_read}
 use Rattle.dev_model.specs.FrameLaws.{go_on_reading, go_on_then, stay_now}
-use Rattle.image_view.specs.Found.{Found, with_session}
+use Rattle.image_view.specs.Found.{Found, NodesAgree, with_session}
 use Rattle.image_view.specs.declared.fault.MountFault.{MountFault}
-use Rattle.image_reader.specs.Answers.{AreRagged, NodesAgree}
-use Rattle.image_view.specs.Trees.{nodes_of}
-use Rattle.key_codec.specs.Combined.{ok_is}
-use Rattle.vol_types.specs.declared.pointers.NodePtr.{NodePtr}
 use Rattle.replay.specs.Volumes.{found_in}
-use Rattle.replay.specs.Beginning.{IsFoundOn}
+use Rattle.replay.specs.Beginning.{IsFoundOn, begin_fault_device}
 use Rattle.replay.specs.Mending.{IsReady}
 use Rattle.replay.specs.declared.beginning.BeginFault.{BeginFault}
 use Rattle.replay.specs.declared.beginning.BeginFault.TheVariants.{Spent}
-use Rattle.replay.proofs.OpenedVolume.{in_order_now, is_begun, none_before, none_since, stay_means, stay_then_means}
+use Rattle.replay.proofs.OpenedVolume.{in_order_now, is_begun, none_before, stay_means, stay_then_means}
 use Rattle.shell.specs.EarlyEnds.{end_of_mount}
 use Rattle.shell.specs.Mounts.{MountCause}
 use Rattle.shell.proofs.LoadedFront.{front_is}
-use Rattle.shell.proofs.Mounting.{begin_ended, found_not, is_opened, load_ended, read_only}
+use Rattle.shell.proofs.Mounting.{begin_ended, ends_are, found_not, is_opened, load_ended, named_failed, read_only}
 use Rattle.shell.proofs.Preparing.{handed_on}
 use Rattle.shell.proofs.mounted.mount.Goals as goal
 
@@ -51,22 +47,20 @@ returns-in-Ok-clause-opened g c =
     let new = D.state c.begin_and_mend.new.devices in
     let loaded = c.in_ok-loaded.loaded in
     let session = c.in-Ok.session in
-    is_opened D.tells old mid new loaded (record loaded { session = session }) session c.load.ensures.read c.in-Ok.ensures.unfailed c.begin_and_mend.ensures.goes_on.calls
+    is_opened D.tells old mid new loaded (record loaded { session = session }) session c.load.ensures.read c.in-Ok.ensures.cause c.begin_and_mend.ensures.goes_on.calls
     c.in_ok-loaded.ensures.found c.in_ok-loaded.ensures.made_up
     (λ past. is_begun session Spent (c.in-Ok.ensures.spent.1 past)) c.in-Ok.ensures.next refl
     (λ tells f on.
     let order = in_order_now f old mid on (c.load.ensures.read.disks tells) in
     let front = front_is (as_read (now old)) f on.on.finds loaded.layout loaded.session loaded.needed (c.in_ok-loaded.ensures.front tells) in
-    subst (λ (s : ℕ). IsReady (with_session (s + 1) f) (now new)) (sym front.sessions) (c.in-Ok.ensures.ready tells f order front.layouts front.sessions (front.needs ∙ sym c.as_slice.ensures)))
-    (λ tells none f on agree.
+    let ends = ends_are f loaded (c.in_ok-loaded.ensures.made_up tells f on.on.finds on.order.agree) in
+    subst (λ (s : ℕ). IsReady (with_session (s + 1) f) (now new)) (sym front.sessions) (c.in-Ok.ensures.ready tells f order front.layouts front.sessions (front.needs ∙ sym c.as_slice.ensures) (ends ∙ sym c.as_slice-2.ensures)))
+    (λ tells f on agree.
     let now_same = sym (stay_now old mid (c.load.ensures.read.disks tells)) in
     let front = front_is (as_read (now old)) f on.finds loaded.layout loaded.session loaded.needed (c.in_ok-loaded.ensures.front tells) in
-    let none_there = none_before old.faults mid.faults new.faults c.begin_and_mend.ensures.goes_on.calls none in
-    let same : found_in loaded ≡ f = ok_is (found_in loaded) f (sym (c.in_ok-loaded.ensures.found tells none_there) ∙ on.finds) in
-    let ragged = subst (λ (nodes : List NodePtr). AreRagged loaded.layout.id (as_read (now old)) nodes loaded.ragged) (ap (λ (g : Found). nodes_of g.trees.nodes) same) (c.in_ok-loaded.ensures.ragged tells none_there) in
-    c.in-Ok.ensures.alike tells (none_since old.faults mid.faults new.faults c.load.ensures.read.calls none) f
-    (subst (λ (ds : List Disk). IsFoundOn f ds) now_same on) (subst (λ (ds : List Disk). NodesAgree (as_read ds) f) now_same agree)
-    (subst (λ (ds : List Disk). AreRagged loaded.layout.id (as_read ds) (nodes_of f.trees.nodes) c.as_slice-2.result.now) now_same (subst (λ (births : List ℕ). AreRagged loaded.layout.id (as_read (now old)) (nodes_of f.trees.nodes) births) (sym c.as_slice-2.ensures) ragged)) front.layouts front.sessions (front.needs ∙ sym c.as_slice.ensures))
+    let ends = ends_are f loaded (c.in_ok-loaded.ensures.made_up tells f on.finds agree) in
+    c.in-Ok.ensures.alike tells f (subst (λ (ds : List Disk). IsFoundOn f ds) now_same on) (subst (λ (ds : List Disk). NodesAgree (as_read ds) f) now_same agree)
+    front.layouts front.sessions (front.needs ∙ sym c.as_slice.ensures) (ends ∙ sym c.as_slice-2.ensures))
 
 pub returns-in-Ok-clause-keeps : goal.returns-in-Ok-clause-keeps
 returns-in-Ok-clause-keeps g c tells f on =
@@ -78,9 +72,10 @@ returns-in-Ok-clause-keeps g c tells f on =
     let order = in_order_now f old mid on stay in
     let front = front_is (as_read (now old)) f on.on.finds loaded.layout loaded.session loaded.needed (c.in_ok-loaded.ensures.front tells) in
     let needs = front.needs ∙ sym c.as_slice.ensures in
+    let ends = ends_are f loaded (c.in_ok-loaded.ensures.made_up tells f on.on.finds on.order.agree) ∙ sym c.as_slice-2.ensures in
     stay_then_means f old mid (D.state c.begin_and_mend.new.devices) on stay
     (c.begin_and_mend.ensures.past tells f order front.layouts front.sessions needs)
-    (c.begin_and_mend.ensures.crashes tells f order front.layouts front.sessions needs)
+    (c.begin_and_mend.ensures.crashes tells f order front.layouts front.sessions needs ends)
 
 pub returns-in-Ok-clause-unmounted : goal.returns-in-Ok-clause-unmounted
 returns-in-Ok-clause-unmounted g c tells none error =
@@ -107,9 +102,10 @@ returns-in-Err-clause-keeps g c tells f on =
     let order = in_order_now f old mid on stay in
     let front = front_is (as_read (now old)) f on.on.finds loaded.layout loaded.session loaded.needed (c.in_ok-loaded.ensures.front tells) in
     let needs = front.needs ∙ sym c.as_slice.ensures in
+    let ends = ends_are f loaded (c.in_ok-loaded.ensures.made_up tells f on.on.finds on.order.agree) ∙ sym c.as_slice-2.ensures in
     stay_then_means f old mid (D.state c.begin_and_mend.new.devices) on stay
     (c.begin_and_mend.ensures.past tells f order front.layouts front.sessions needs)
-    (c.begin_and_mend.ensures.crashes tells f order front.layouts front.sessions needs)
+    (c.begin_and_mend.ensures.crashes tells f order front.layouts front.sessions needs ends)
 
 pub returns-in-Err-clause-unmounted : goal.returns-in-Err-clause-unmounted
 returns-in-Err-clause-unmounted g c tells none error =
@@ -141,4 +137,4 @@ returns-in-Err-clause-cause g c =
       reason = λ tells shows. inr (record { layout = loaded.layout; session = loaded.session; needed = loaded.needed; front = c.in_ok-loaded.ensures.front tells; last = c.in-Err.ensures.spent.0 spent });
       read = read_only D.state D.tells first mid last (c.in-Err.ensures.nothing spent) c.load.ensures.read;
     })
-    c.load.ensures.read.calls c.in-Err.ensures.cause)
+    c.load.ensures.read.calls (named_failed (begin_fault_device c.in-Err.fault) (D.state mid).faults (D.state last).faults c.in-Err.ensures.cause))

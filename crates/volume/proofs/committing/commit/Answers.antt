@@ -1,9 +1,11 @@
-use Rattle.std.proofs.Common.{ap, subst, sym}
+use Rattle.std.proofs.Common.{ap, ◌∙◌, subst, sym}
 use Rattle.core_state.specs.States.{IsState}
 use Rattle.vol_session.specs.Sessions.{SessionState}
+use Rattle.vol_session.specs.Shortages.{lacked_room}
 use Rattle.forest_ops.specs.declared.operation.Reply.{Reply}
 use Rattle.volume.specs.Serving.{IsServed}
 use Rattle.volume.proofs.Replying.{change_is_done}
+use Rattle.volume.proofs.Helped.{tried_helped}
 use Rattle.volume.proofs.Served.{made_served, not_made, served_later}
 use Rattle.volume.proofs.committing.commit.Goals as goal
 
@@ -40,3 +42,11 @@ returns-in-Ok-clause-served g c =
     subst (λ (reply : Reply). IsServed g.O.Opening.found state c.args.client c.args.op reply c.args.session.now c.commit-committed.new.self) (sym c.done_reply-told.ensures)
     (made_served g.O.Opening.found state c.args.client c.args.op c.args.reply c.args.session.now c.commit-committed.new.self (subst IsState c.memory.ensures.memory c.see_kept.ensures.kept) c.requires.intended c.in-Ok.ensures.made
     (ap (λ (s : SessionState g.row.D.Denot). s.trace) entered) (ap (λ (s : SessionState g.row.D.Denot). s.acks) entered) c.commit-committed.ensures.devices)
+
+pub returns-in-Ok-clause-helped : goal.returns-in-Ok-clause-helped
+returns-in-Ok-clause-helped g c = λ helped.
+    tried_helped (lacked_room c.commit-committed.result) c.args.session.now.shortages c.commit-committed.new.self.shortages (ap lacked_room c.in-Ok.is) c.commit-committed.ensures.commit_counted helped.met
+
+pub returns-in-Err-clause-helped : goal.returns-in-Err-clause-helped
+returns-in-Err-clause-helped g c = λ helped.
+    c.settle.ensures.helped (λ none. tried_helped (lacked_room c.commit-committed.result) c.args.session.now.shortages c.commit-committed.new.self.shortages (ap lacked_room c.in-Err.is ∙ none) c.commit-committed.ensures.commit_counted helped.met)

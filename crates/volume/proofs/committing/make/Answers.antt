@@ -1,5 +1,6 @@
-use Rattle.std.proofs.Common.{refl}
+use Rattle.std.proofs.Common.{◌∙◌, refl}
 use Rattle.volume.proofs.Acting.{done_still, plan_intended}
+use Rattle.volume.proofs.Helped.{failure_keeps, same_helped, step_keeps}
 use Rattle.volume.proofs.Lacking.{entry_is_full}
 use Rattle.volume.proofs.Replying.{change_changes, change_is_done, plan_changes, plan_is_done}
 use Rattle.volume.proofs.Served.{lack_result, served_later, stepped_moves}
@@ -30,3 +31,12 @@ returns-then-not-intend-clause-served g c =
     served_later g.O.Opening.found state client c.lack.result op op old mid c.lack.new.session (stepped_moves g.O.Opening.found state client old mid c.intend.ensures.stepped) refl
     (lack_result g.O.Opening.found state client c.lack.result op short mid c.lack.new.session
     (entry_is_full g.O.Opening.found client c.args.plan old.core.memory mid.core.memory short c.intend.ensures.stepped.volume c.requires.commits c.requires.now c.nothing_short.ensures (c.intend.ensures.unfit c.if-not-intend.true)) c.lack.ensures.entered c.lack.ensures.reply)
+
+pub returns-then-not-intend-clause-helped : goal.returns-then-not-intend-clause-helped
+returns-then-not-intend-clause-helped g c =
+    let old = c.args.session.now in
+    let mid = c.intend.new.session in
+    same_helped old c.lack.new.session (failure_keeps mid c.lack.new.session c.args.client c.args.plan.op c.lack.result c.lack.ensures.entered c.lack.ensures.stepped ∙ step_keeps old mid c.intend.ensures.stepped)
+
+pub returns-clause-helped : goal.returns-clause-helped
+returns-clause-helped g c = λ helped. c.commit.ensures.helped (same_helped c.args.session.now c.intend.new.session (step_keeps c.args.session.now c.intend.new.session c.intend.ensures.stepped) helped)

@@ -2,7 +2,9 @@ use Rattle.std.proofs.Common.{subst, true}
 use Rattle.core_state.specs.Events.{intended_by}
 use Rattle.core_volume.specs.Rulings.{IsRefused}
 use Rattle.core_actors.specs.declared.answer.Refusal.{Refusal}
-use Rattle.volume.specs.Serving.{IsHelpless, lacks_room}
+use Rattle.vol_session.specs.Shortages.{lacks_room}
+use Rattle.volume.specs.Serving.{IsHelpless}
+use Rattle.volume.proofs.Helped.{entry_keeps, failure_keeps}
 use Rattle.volume.proofs.Lacking.{buckets_are_full, commit_is_spent, leaf_is_full, ring_is_full}
 use Rattle.volume.proofs.Replying.{change_changes, intended_is_done}
 use Rattle.volume.proofs.Served.{lack_result, spent_served}
@@ -66,3 +68,18 @@ returns-in-Spent-clause-served g c =
     let memory = c.args.session.now.core.memory in
     let refused = subst (λ (refusal : Refusal). IsRefused memory.volume (intended_by memory c.args.client) true refusal) c.in-Spent.is c.requires.refused in
     spent_served g.O.Opening.found g.D.Devices.state c.args.client c.args.op c.fail_spent.result c.args.session.now c.fail_spent.new.session c.fail_spent.ensures.reply (commit_is_spent g.O.Opening.found memory c.args.client c.args.op c.requires.intended refused) c.fail_spent.ensures.entered
+
+pub returns-in-Halted-clause-shortages : goal.returns-in-Halted-clause-shortages
+returns-in-Halted-clause-shortages g c = entry_keeps c.args.session.now c.fail_halted.new.session c.args.client c.args.op c.fail_halted.result c.fail_halted.ensures.entered
+
+pub returns-in-Spent-clause-shortages : goal.returns-in-Spent-clause-shortages
+returns-in-Spent-clause-shortages g c = entry_keeps c.args.session.now c.fail_spent.new.session c.args.client c.args.op c.fail_spent.result c.fail_spent.ensures.entered
+
+pub returns-in-NeedSplit-clause-shortages : goal.returns-in-NeedSplit-clause-shortages
+returns-in-NeedSplit-clause-shortages g c = failure_keeps c.args.session.now c.lack.new.session c.args.client c.args.op c.lack.result c.lack.ensures.entered c.lack.ensures.stepped
+
+pub returns-in-RingFull-clause-shortages : goal.returns-in-RingFull-clause-shortages
+returns-in-RingFull-clause-shortages g c = failure_keeps c.args.session.now c.lack-in-RingFull.new.session c.args.client c.args.op c.lack-in-RingFull.result c.lack-in-RingFull.ensures.entered c.lack-in-RingFull.ensures.stepped
+
+pub returns-in-NoSpace-clause-shortages : goal.returns-in-NoSpace-clause-shortages
+returns-in-NoSpace-clause-shortages g c = failure_keeps c.args.session.now c.lack-in-NoSpace.new.session c.args.client c.args.op c.lack-in-NoSpace.result c.lack-in-NoSpace.ensures.entered c.lack-in-NoSpace.ensures.stepped

@@ -1,10 +1,12 @@
-use Rattle.std.proofs.Common.{◌≡◌, ◌<◌, arith, Result, length, refl, subst}
-use Rattle.std.specs.Prelude.{IfSome}
+use Rattle.std.proofs.Common.{◌≡◌, ◌<◌, ◌∙◌, ap, arith, Result, length, refl, subst, sym}
+use Rattle.std.specs.Prelude.{IfSome, is_ok}
 use Rattle.dev_model.specs.Frames.{after_writes}
+use Rattle.vol_session.specs.Shortages.{IsHelped, ShortageState, after_checkpoint}
 use Rattle.vol_session.specs.Writeback.{StopsWith, stopped_by}
 use Rattle.vol_session.specs.declared.writeback_end.WritebackEnd.{WritebackEnd}
 use Rattle.volume.specs.Serving.{IsMoved}
 use Rattle.volume.proofs.Acting.{intended_still, works_keep}
+use Rattle.volume.proofs.Helped.{failure_keeps, stopped_helped}
 use Rattle.volume.proofs.Served.{HasStopped, served_later, stopped_result, unserved_later, unstopped_result, works_move}
 use Rattle.volume.proofs.committing.try_again.Goals as goal
 
@@ -74,3 +76,13 @@ returns-in-Err-clause-unserved g c =
       goes_on = done.goes_on;
     } in
     unstopped_result g.O.Opening.found state c.args.client c.give_up.result c.in-Err.stop old mid c.give_up.new.session stopped c.give_up.ensures.unfailed c.give_up.ensures.stepped c.give_up.ensures.rest
+
+pub commit_at_rest-requires-clause-met : goal.commit_at_rest-requires-clause-met
+commit_at_rest-requires-clause-met g c = ap (λ (s : ShortageState). s.unmet) c.checkpoint.ensures.shortages_met
+
+pub returns-in-Err-clause-helped : goal.returns-in-Err-clause-helped
+returns-in-Err-clause-helped g c =
+    let old = c.args.session.now in
+    let mid = c.checkpoint.new.session in
+    subst IsHelped (sym (failure_keeps mid c.give_up.new.session c.args.client c.args.op c.give_up.result c.give_up.ensures.entered c.give_up.ensures.stepped))
+    (stopped_helped old.shortages mid.shortages (c.checkpoint.ensures.shortages_met ∙ ap (λ (r : Result (Unit {0}) WritebackEnd). after_checkpoint (is_ok r) old.shortages) c.in-Err.is))

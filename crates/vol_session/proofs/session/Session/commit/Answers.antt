@@ -5,6 +5,7 @@ use Rattle.vol_session.proofs.NextEntries.{commit_is_unsynced}
 use Rattle.vol_session.proofs.SessionInvariant.{committed, stays, uncommitted}
 use Rattle.vol_session.specs.Marks.{forest_found}
 use Rattle.vol_session.specs.Sessions.{IsPlanNow, IsSession, IsUncommitted}
+use Rattle.vol_session.specs.Shortages.{after_commit, may_be_helped}
 use Rattle.vol_session.proofs.session.Session.commit.Goals as goal
 
 pub invariant_of-self : goal.invariant_of-self
@@ -29,7 +30,8 @@ returns-in_default g c =
     record {
       made = tt;
       entry = tt;
-      err = (subst (λ self. IsUncommitted self.core.memory c.args.client c.step-given.result c.step-given.new.self.memory) c.self.view_is not_made, refl, refl, λ i. record (c.self.view_is i) { core = c.step-given.new.self });
+      err = (subst (λ self. IsUncommitted self.core.memory c.args.client c.step-given.result c.step-given.new.self.memory) c.self.view_is not_made, refl, refl, λ i. record (c.self.view_is i) { core = c.step-given.new.self; shortages = c.count_commit-in_default.new.self });
+      commit_counted = c.count_commit-in_default.ensures ∙ ap (λ lacked. after_commit lacked c.self.inside.shortages) c.may_be_helped.ensures ∙ (λ i. after_commit (may_be_helped c.step-given.result) (c.self.view_is i).shortages);
       devices = c.step-given.ensures.gives.1 ∙ (λ i. (c.self.view_is i).core.devices);
     }
 
@@ -46,6 +48,7 @@ returns-in-Done-clause-entry g c =
       acks = (c.self.view_is i).acks;
       commits = (c.self.view_is i).commits + 1;
       spare = min c.push.new.self.spare c.self.inside.acks.spare;
+      shortages = c.count_commit.new.self;
     }
 
 pub returns-in-Done-clause-devices : goal.returns-in-Done-clause-devices

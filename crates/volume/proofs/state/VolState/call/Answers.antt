@@ -35,4 +35,4 @@ invariant_of-self-2 g c =
       few = subst (λ (devices : g.row.D.Denot). length (state devices).sizes ≤ 8) c.devices.ensures (subst (λ (count : ℕ). count ≤ 8) c.count-count.ensures.count c.count-count.ensures.range.1);
     } in
     keeps_call g.D.Devices.tells g.O.Opening.found g.O.Opening.start state c.answer-result.result c.args.client c.args.op c.self.inside.session c.reserve.new.self c.answer-result.new.session c.reserve.ensures.rest c.see_numbers.ensures
-    c.see_room.ensures.may c.see_room-2.ensures.room counting c.self.invariant c.answer-result.ensures.served c.answer-result.ensures.unserved
+    c.see_room.ensures.may c.see_room-2.ensures.room counting c.answer-result.ensures.helped c.self.invariant c.answer-result.ensures.served c.answer-result.ensures.unserved
