@@ -1,0 +1,10 @@
+pub mod KeptSets
+pub mod LostBlocks
+pub mod DegradedNodes
+pub mod DegradedJournal
+pub mod DegradedMeaning
+pub mod MergedImages
+pub mod PartsMade
+pub mod InFlight
+pub mod OnAll
+pub mod SafeOnOne

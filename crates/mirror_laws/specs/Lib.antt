@@ -1,0 +1,3 @@
+pub mod Degraded
+pub mod Standing
+pub mod Flight
