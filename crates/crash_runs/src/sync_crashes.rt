@@ -1,6 +1,6 @@
 //! Runs that crash at each call behind mounting, as tables of calls.
 
-use crate::steps::{Start, Step, other_step};
+use crate::steps::{ALL_WRITTEN, Start, Step, other_step};
 use crate::trials::{EMPTY_RUN, Trial};
 use crate::volumes::MOUNTING;
 use dev_model::Pick;
@@ -251,6 +251,101 @@ static FILES_ON_TWO: [Crash; 10] = [
 #[test]
 fn a_crash_of_two_devices_leaves_what_was_acknowledged(rt: HostRuntime) -> Result<(), Fail> {
     assert!(rt; other_pick(rt.alloc(), &FILES, &FILES_ON_TWO)? == None);
+    Ok(())
+}
+
+// What a run may find, once nothing, the first sync or the last one was acknowledged.
+static FROM_NONE: [&[u8]; 3] = [NONE, ABC, ABCD];
+
+static FROM_FIRST: [&[u8]; 2] = [ABC, ABCD];
+
+static FROM_LAST: [&[u8]; 1] = [ABCD];
+
+fn names_from(crash: &Crash) -> &'static [&'static [u8]] {
+    match crash.acks.len() {
+        0 => &FROM_NONE,
+        1 => &FROM_FIRST,
+        _ => &FROM_LAST,
+    }
+}
+
+// A run that finds the names of one of these texts.
+fn finding_one_of(texts: &'static [&'static [u8]]) -> Step<'static> {
+    Step::Run(Trial {
+        script: b"ls main:/\n",
+        status: Some(0),
+        texts,
+        entries: Some(2),
+        acks: Some(&[0]),
+        ..EMPTY_RUN
+    })
+}
+
+// Whether what was acknowledged is found where, behind the crash, this device loses its journal and its nodes.
+fn stands_without(
+    alloc: Global,
+    crash: &Crash,
+    call: u64,
+    pick: Pick,
+    lost: u8,
+) -> Result<bool, AllocError> {
+    let call = FILES.mounting.saturating_add(call);
+    let steps = [
+        Step::Fail { call, stays: true },
+        crashing(FILES.text, crash),
+        Step::Restart(pick),
+        Step::Wipe(lost, 16, 1023),
+        ALL_WRITTEN,
+        finding_one_of(names_from(crash)),
+    ];
+    Ok(other_step(alloc, FILES.devices, &steps)?.is_none())
+}
+
+// The first call of the crash at which it isn't.
+fn other_call_without(
+    alloc: Global,
+    crash: &Crash,
+    pick: Pick,
+    lost: u8,
+) -> Result<Option<u64>, AllocError> {
+    for call in crash.calls {
+        if !stands_without(alloc, crash, *call, pick, lost)? {
+            return Ok(Some(*call));
+        }
+    }
+    Ok(None)
+}
+
+// The first call of all at which it isn't.
+fn other_without(alloc: Global, pick: Pick, lost: u8) -> Result<Option<u64>, AllocError> {
+    for crash in FILES_ON_TWO.iter() {
+        let other = other_call_without(alloc, crash, pick, lost)?;
+        if other.is_some() {
+            return Ok(other);
+        }
+    }
+    Ok(None)
+}
+
+// The first pick, and the first call, at which it isn't.
+fn other_pick_without(alloc: Global, lost: u8) -> Result<Option<(Pick, u64)>, AllocError> {
+    for pick in PICKS.iter() {
+        if let Some(call) = other_without(alloc, *pick, lost)? {
+            return Ok(Some((*pick, call)));
+        }
+    }
+    Ok(None)
+}
+
+#[test]
+fn what_was_acknowledged_stands_on_the_first_device_alone(rt: HostRuntime) -> Result<(), Fail> {
+    assert!(rt; other_pick_without(rt.alloc(), 1)? == None);
+    Ok(())
+}
+
+#[test]
+fn what_was_acknowledged_stands_on_the_second_device_alone(rt: HostRuntime) -> Result<(), Fail> {
+    assert!(rt; other_pick_without(rt.alloc(), 0)? == None);
     Ok(())
 }
 

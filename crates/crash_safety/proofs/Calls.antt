@@ -73,6 +73,7 @@ module _ (f : Found) (image : Image) (writing : Option Writing) (asked written f
           finds = stands.finds;
           in_order = stands.in_order;
           whole = stands.whole;
+          alike = stands.alike;
           placed = stands.placed;
           numbered = stands.numbered;
           is = stands.is;

@@ -11,6 +11,7 @@ pub mod FoundRoots
 mod FrozenLeaf
 mod GivenUpLeaves
 pub mod Images
+pub mod InFlight
 pub mod LeafReads
 pub mod Meanings
 pub mod Mirrored
@@ -19,10 +20,13 @@ pub mod NamedRoots
 mod NineBtrees
 pub mod NineRoots
 pub mod NodesLeft
+pub mod OnEach
+pub mod OneOf
 pub mod OneBtree
 pub mod OtherBlock
 pub mod OtherBuckets
 mod OwnBuckets
+pub mod PartsMade
 mod PinnedMore
 mod PlacedLeaves
 pub mod Places

@@ -22,6 +22,7 @@ use Rattle.vol_types.specs.declared.layout.Layout.{Layout}
 use Rattle.crash_safety.specs.Standing.{AgreeOnWriting, AgreesBut, HoldKnown}
 use Rattle.crash_safety.specs.Writings.{IsAsked, IsWriting, Writing, after}
 use Rattle.crash_safety.proofs.Images.{places_of, sizes}
+use Rattle.crash_safety.proofs.InFlight.{FlightLaws}
 
 -- What is said of images and of journals elsewhere.
 pub record ImageLaws : Type 0 where
@@ -43,6 +44,7 @@ pub record ImageLaws : Type 0 where
   pub same_needed : (layout : Layout) (one other : Area) (last : FoundEntry) → AreSame layout one other → needed_by layout one last ≡ needed_by layout other last
   pub same_made : (layout : Layout) (one other : Area) (found : FoundEntry) (blocks : List (List ℕ)) → 0 < layout.journal → AreSame layout one other → IsMadeOf layout one found blocks → IsMadeOf layout other found blocks
   pub ends : (image : Image) (f : Found) → found image ≡ Ok f → (index : ℕ) → index < length f.needed → (get_or f.needed index f.last).end ≡ (get_or f.needed index f.last).number + parts_of (get_or f.needed index f.last).entry
+  pub flight : FlightLaws
   pub own_places : (journal number p q : ℕ) → 256 ≤ journal → p < 64 → q < 64 → ring_block journal (number + p) ≡ ring_block journal (number + q) → p ≡ q
 
 -- The image means this, in order.

@@ -1,17 +1,18 @@
 -- An entry that names nine leaves may be put in flight.
 use Rattle.std.proofs.Common.{◌≡◌, ℕ, ◌*◌, ◌+◌, ◌<◌, ◌^◌, List, [], ◌∷◌, ◌++◌, length, map, take, drop, None, Some, Ok, sym, ap, subst, ◌∙◌}
 use Rattle.std.proofs.lemmas.List.{append-nil, take-append-drop}
-use Rattle.std.proofs.lemmas.List.Elements.{All-append}
+use Rattle.std.proofs.lemmas.List.Elements.{All-append, All-contains, All-from_recursion}
+use Rattle.std.proofs.lemmas.Option.{same_Some}
 use Rattle.std.specs.List.{flat_map}
-use Rattle.std.specs.Prelude.{All}
+use Rattle.std.specs.Prelude.{All, slice_get}
 use Rattle.dev_model.specs.Devices.{DevicesState, now}
-use Rattle.dev_model.specs.Disk.{Image, as_read}
+use Rattle.dev_model.specs.Disk.{Image, as_read, block_at}
 use Rattle.image_view.specs.Bases.{AgreeOnNode}
 use Rattle.image_view.specs.EntryUpdates.{updates_of-append}
-use Rattle.image_view.specs.Found.{Found, IsMirrored, PlacesAgree, sets_in, updates_of}
+use Rattle.image_view.specs.Found.{Found, IsAlike, IsMirrored, PlacesAgree, sets_in, updates_of}
 use Rattle.image_view.specs.NewNodes.{AreLeafRoots, AreNodesInOrder, leaf_trees, root_end}
 use Rattle.image_view.specs.NextEntries.{IsNext}
-use Rattle.image_view.specs.Trees.{TreesRead, trees_of, with_roots}
+use Rattle.image_view.specs.Trees.{TreesRead, nodes_of, trees_of, with_roots}
 use Rattle.image_view.specs.UpdatedTrees.{IsOfLeaf, with_key_updates}
 use Rattle.journal_ring.specs.EntryBlocks.{AreEntryBlocks}
 use Rattle.journal_ring.specs.declared.found.FoundEntry.{FoundEntry}
@@ -20,16 +21,20 @@ use Rattle.crash_safety.specs.Safety.{IsJournalSafe}
 use Rattle.crash_safety.specs.Standing.{AreNodesLeft}
 use Rattle.crash_safety.specs.Writings.{IsWriting, Writing, after}
 use Rattle.key_meaning.specs.Checks.{AreNodesPlaced}
+use Rattle.node_store.specs.Answers.{AreAlike}
+use Rattle.node_store.specs.Copies.{copies_at}
 use Rattle.node_store.specs.NodeContents.{NodeContent}
+use Rattle.vol_types.specs.Btrees.{btree_code}
 use Rattle.vol_types.specs.KeyMapLaws.{same_key_maps, with_updates-append}
 use Rattle.vol_types.specs.KeyMaps.{KeyMap, entries_of, with_updates}
 use Rattle.vol_types.specs.declared.keys.Update.{Update}
 use Rattle.vol_types.specs.declared.layout.Layout.{Layout}
+use Rattle.vol_types.specs.declared.pointers.NodeEnd.{NodeEnd}
 use Rattle.vol_types.specs.declared.pointers.NodePtr.{NodePtr}
 use Rattle.vol_types.specs.declared.positions.Btree.{Btree}
 use Rattle.crash_safety.specs.Leaves.{StandAsLeaves, leaf_keys, leaf_nodes}
 use Rattle.crash_safety.specs.Naming.{leaf_writing}
-use Rattle.crash_safety.proofs.NineRoots.{all_right, each_root, root_nodes}
+use Rattle.crash_safety.proofs.NineRoots.{all_right, each_pair, each_root, made_of_one, root_nodes}
 
 -- What is known of trees of leaves.
 pub record LeafTreeLaws : Type 0 where
@@ -78,6 +83,23 @@ module _ (f : Found) (state : DevicesState) (roots : List NodePtr) (content : Bt
       ∙ laws.joined f.layout image [] updates roots (leaf_trees roots content) (laws.leaves f.layout image roots content (leaf_roots f.layout f.session roots content state stand)) stand.nine (next_of_leaves passed f.needed next leaves more)
       ∙ ap (λ (ks : KeyMap). Ok (record { keys = ks; nodes = leaf_nodes roots; ends = map (root_end content) (with_roots roots) })) keys
 
+  -- Each of them has the same sets on every metadata device.
+  alike_at : (btree : Btree) (root : NodePtr) → slice_get roots (btree_code btree) ≡ Some root → IsAlike (after w f) image root
+  alike_at btree root at end found birth =
+      let IsAtCode : Btree × NodePtr → Type 0 = λ pair. slice_get roots (btree_code pair.0) ≡ Some pair.1 in
+      let made = made_of_one (root_end content) (with_roots roots) end found in
+      let pair : Btree × NodePtr = made.0 in
+      let there : slice_get roots (btree_code pair.0) ≡ Some pair.1 =
+      All-contains IsAtCode (with_roots roots) pair (All-from_recursion IsAtCode (with_roots roots) (each_pair IsAtCode roots stand.nine (λ b r here. here))) made.1 in
+      let born : root.birth ≡ pair.1.birth = sym birth ∙ sym (ap (λ (e : NodeEnd). e.birth) made.2) in
+      let place : btree_code btree ≡ btree_code pair.0 = stand.births (btree_code btree) (btree_code pair.0) root pair.1 at there born in
+      let same : pair.1 ≡ root = same_Some pair.1 root (sym there ∙ ap (slice_get roots) (sym place) ∙ at) in
+      subst (λ (e : NodeEnd). AreAlike e.block (copies_at (block_at image) root.places)) made.2
+      (subst (λ (r : NodePtr). AreAlike (content pair.0).end (copies_at (block_at image) r.places)) same (stand.each pair.0 pair.1 there).alike)
+
+  pub roots_alike : All (IsAlike (after w f) image) (nodes_of w.trees.nodes)
+  roots_alike = subst (All (IsAlike (after w f) image)) (sym (root_nodes roots)) (each_root (IsAlike (after w f) image) roots stand.nine alike_at)
+
   in_order : AreNodesInOrder (after w f) image
   in_order = record {
     places = subst (All (IsMirrored f.layout)) (sym (root_nodes roots)) (each_root (IsMirrored f.layout) roots stand.nine (λ btree root at. (stand.each btree root at).mirrored));
@@ -116,4 +138,5 @@ roots_named trees journals f image bases durable first state roots content passe
     let here = journals.again f image bases durable first state safe in
     journals.seals f (as_read (now state)) bases durable first state (leaf_writing f roots content passed next blocks) here
     (writing_is f state roots content passed next blocks stand trees is sealed named leaves more same)
+    (roots_alike f state roots content passed next blocks stand)
     (roots_left f state roots content passed next blocks stand bases durable first here)

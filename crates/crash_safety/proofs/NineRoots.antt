@@ -22,6 +22,14 @@ all_at P xs all k x at = subst P (get_or_from_slice_get xs k x x at) (all k x (s
 pub contained_at : {X : Type 0} (xs : List X) (k : ℕ) (x : X) → slice_get xs k ≡ Some x → Contains xs x
 contained_at xs k x at = (k, slice_get_within xs k x at, get_or_from_slice_get xs k x x at)
 
+-- What is one of what is made of all is made of a member.
+pub made_of_one : {X Y : Type 0} (f : X → Y) (xs : List X) (y : Y) → Contains (map f xs) y → (x : X) × Contains xs x × (f x ≡ y)
+made_of_one f [] y there = absurd (let low = there.1 in omega (arith, low))
+made_of_one f (x ∷ xs) y (zero, within, at) = (x, (0, omega arith, refl), at)
+made_of_one f (x ∷ xs) y (suc k, within, at) =
+    let rest = made_of_one f xs y (k, (let lower : k < length (map f xs) = omega (arith, within) in lower), at) in
+    (rest.0, (suc rest.1.0, (let lower = rest.1.1 in omega (arith, lower)), rest.1.2), rest.2)
+
 -- What is made of a member is one of what is made of all.
 pub contained_map : {X Y : Type 0} (f : X → Y) (xs : List X) (x : X) → Contains xs x → Contains (map f xs) (f x)
 contained_map f xs x there = (

@@ -13,9 +13,10 @@ use Rattle.dev_model.specs.Frames.{DisksStay}
 use Rattle.geometry.specs.Mirrors.{NoBlock}
 use Rattle.image_view.specs.Bases.{AgreeAt, AgreeOnBase, AgreeOnNodes}
 use Rattle.image_view.specs.CrashEntries.{OnlyHeldEntriesOpen}
-use Rattle.image_view.specs.Found.{Found, IsInOrder, found}
+use Rattle.image_view.specs.Found.{Found, IsAlike, IsInOrder, found}
 use Rattle.image_view.specs.Mends.{IsPlaceOf}
 use Rattle.image_view.specs.NextEntries.{AreNumberedBelow, IsWritten}
+use Rattle.image_view.specs.Trees.{nodes_of}
 use Rattle.journal_ring.specs.EntryBlocks.{HoldBlocks, ring_block}
 use Rattle.journal_ring.specs.Parts.{area_of}
 use Rattle.journal_ring.specs.Rings.{HoldsParts, IsPartAsked, IsPartPlace, RingState, flight_number, part_bytes, part_place}
@@ -31,7 +32,9 @@ use Rattle.crash_safety.proofs.Flushing.{NoPlace, flush_asks}
 use Rattle.crash_safety.proofs.Images.{journal_within, places_of, sizes}
 use Rattle.crash_safety.proofs.Settled.{settled_held, settled_quiet}
 use Rattle.crash_safety.proofs.Meanings.{ImageLaws, meaning, meant_again, same_area}
-use Rattle.crash_safety.proofs.Safe.{journal_safe_on, one_of}
+use Rattle.crash_safety.proofs.OnEach.{alike_again, each_of}
+use Rattle.crash_safety.proofs.OneOf.{one_of}
+use Rattle.crash_safety.proofs.Safe.{journal_safe_on}
 use Rattle.crash_safety.proofs.Whole.{each_after, whole_again}
 
 -- ---- images that agree everywhere that counts
@@ -65,9 +68,9 @@ base_from f image one other first second = record {
 
 -- ---- the beginning
 
-pub begun : ImageLaws → (f : Found) (state : DevicesState) → HasMended f (length f.needed) (now state) → AreNumberedBelow f.layout f.session f.last.end (area_of (as_read (now state))) → All IsDisk (now state)
+pub begun : ImageLaws → (f : Found) (state : DevicesState) → HasMended f (length f.needed) (now state) → All (IsAlike f (as_read (now state))) (nodes_of f.trees.nodes) → AreNumberedBelow f.layout f.session f.last.end (area_of (as_read (now state))) → All IsDisk (now state)
     → IsJournalSafe f (as_read (now state)) None 0 0 (f ∷ []) [] state.moment state
-begun laws f state mended numbered are = record { stands = stands; bases_are = bases_are; safe = safe }
+begun laws f state mended alike numbered are = record { stands = stands; bases_are = bases_are; safe = safe }
   where
     on : IsInOrderOn f (now state)
     on = mended.found_on
@@ -91,6 +94,7 @@ begun laws f state mended numbered are = record { stands = stands; bases_are = b
       finds = on.on.finds;
       in_order = on.order;
       whole = mended.stand;
+      alike = record { found = alike; next = tt };
       placed = on.on.placed;
       numbered = numbered;
       is = tt;
@@ -109,18 +113,19 @@ begun laws f state mended numbered are = record { stands = stands; bases_are = b
           let here : moment ≡ state.moment = omega (arith, lo, hi) in
           let now_may : IsCrashImage (now state) other = subst (λ n. IsCrashImage (state.disks n) other) here may in
           let left = subst (λ n. IsUntorn f.layout state.moment n state other) here untorn in
-          one_of f None (f ∷ []) [] bases_are moment other (meaning laws f (as_read (now state)) None on.on.finds on.order numbered tt 0 other (now state) (agrees other now_may) tt known left.left);
+          each_of laws f (as_read (now state)) on.on.finds on.order numbered mended.stand None tt (record { found = alike; next = tt }) (f ∷ []) [] bases_are 0 other (now state) (agrees other now_may) tt known left.left moment;
     }
 
 -- ---- an entry is put in flight
 
 pub sealed : (f : Found) (image : Image) (bases : List Found) (durable : List ℕ) (first : ℕ) (state : DevicesState) (w : Writing) → IsJournalSafe f image None 0 0 bases durable first state → IsWriting f image w
-    → AreNodesLeft f image (Some w) state → IsJournalSafe f image (Some w) 0 0 (bases ++ after w f ∷ []) durable first state
-sealed f image bases durable first state w safe is left = record {
+    → All (IsAlike (after w f) image) (nodes_of w.trees.nodes) → AreNodesLeft f image (Some w) state → IsJournalSafe f image (Some w) 0 0 (bases ++ after w f ∷ []) durable first state
+sealed f image bases durable first state w safe is alike left = record {
   stands = record {
     finds = safe.stands.finds;
     in_order = safe.stands.in_order;
     whole = safe.stands.whole;
+    alike = record { found = safe.stands.alike.found; next = alike };
     placed = safe.stands.placed;
     numbered = safe.stands.numbered;
     is = is;
@@ -140,7 +145,7 @@ sealed f image bases durable first state w safe is left = record {
   safe = record {
     each = λ moment lo hi other may untorn.
         let meant = safe.safe.each moment lo hi other may untorn in
-        record { index = meant.index; base = meant.base; at = still bases meant.index meant.base meant.at; finds = meant.finds; in_order = meant.in_order; none_before = meant.none_before };
+        record { itself = still_meant moment other meant.itself; alone = λ mirror low alone degraded. still_meant moment alone (meant.alone mirror low alone degraded) };
   };
 }
   where
@@ -148,6 +153,9 @@ sealed f image bases durable first state w safe is left = record {
     still [] index base there = absurd (none-some base there)
     still (b ∷ bases) zero base there = there
     still (b ∷ bases) (suc index) base there = still bases index base there
+
+    still_meant : (moment : ℕ) (other : Image) → MeansOneOf bases durable moment other → MeansOneOf (bases ++ after w f ∷ []) durable moment other
+    still_meant moment other meant = record { index = meant.index; base = meant.base; at = still bases meant.index meant.base meant.at; finds = meant.finds; in_order = meant.in_order; none_before = meant.none_before }
 
 -- ---- a device is flushed
 
@@ -180,6 +188,7 @@ read_on laws f image writing asked written bases durable first old new safe stay
     finds = safe.stands.finds;
     in_order = safe.stands.in_order;
     whole = safe.stands.whole;
+    alike = safe.stands.alike;
     placed = safe.stands.placed;
     numbered = safe.stands.numbered;
     is = safe.stands.is;
@@ -197,11 +206,11 @@ read_on laws f image writing asked written bases durable first old new safe stay
         (λ (later : old.moment < moment).
         let here : new.disks moment ≡ now old = stay.same moment (omega (arith, later)) hi in
         let begun = safe.stands.begun in
-        one_of f writing bases durable safe.bases_are moment other (meaning laws f image writing safe.stands.finds safe.stands.in_order safe.stands.numbered safe.stands.is asked other (new.disks moment)
+        each_of laws f image safe.stands.finds safe.stands.in_order safe.stands.numbered safe.stands.whole writing safe.stands.is safe.stands.alike bases durable safe.bases_are asked other (new.disks moment)
         (safe.stands.crashes other (subst (λ (ds : List Disk). IsCrashImage ds other) here may))
         (safe.stands.nodes other (subst (λ (ds : List Disk). IsCrashImage ds other) here may))
         (subst (λ (ds : List Disk). HoldKnown f.layout image writing ds) (sym here) (safe.stands.held (untorn_before f.layout first old.moment moment old new stay.past (omega (arith, later)) (omega arith) untorn.reads)))
-        untorn.left))
+        untorn.left moment)
         (λ (earlier : moment ≤ old.moment).
         safe.safe.each moment lo earlier other (subst (λ (ds : List Disk). IsCrashImage ds other) (stay.past moment earlier) may) (record {
           reads = untorn_before f.layout first moment moment old new stay.past (omega arith) earlier untorn.reads;
@@ -338,6 +347,10 @@ module _ (laws : ImageLaws) (f : Found) (image : Image) (w : Writing) (asked n :
   whole_it : (index : ℕ) → index < length (after w f).needed → StandsOnAll f.layout reads (get_or (after w f).needed index w.next)
   whole_it = each_after (StandsOnAll f.layout reads) w.passed f.needed f.last w.next (whole_again laws image reads f safe.stands.finds agrees.base safe.stands.whole) (record { blocks = w.blocks; sealed = it.sealed; stand = is_written.stands })
 
+  -- The nodes of the entry are alike there, as they were.
+  alike_it : All (IsAlike (after w f) reads) (nodes_of w.trees.nodes)
+  alike_it = alike_again (after w f) image reads (nodes_of w.trees.nodes) nodes_read.nodes safe.stands.alike.next
+
   numbered_it : AreNumberedBelow f.layout f.session w.next.end (area_of reads)
   numbered_it = laws.numbers image reads f w.passed w.next w.blocks safe.stands.finds it.next is_written safe.stands.numbered
 
@@ -371,12 +384,27 @@ module _ (laws : ImageLaws) (f : Found) (image : Image) (w : Writing) (asked n :
     count = length_push safe.bases_are.before f ∙ ap (λ c. c + 1) safe.bases_are.count ∙ sym (length_push durable state.moment);
   }
 
+  -- What was meant before this moment is so still.
+  earlier_meant : (moment : ℕ) → moment < state.moment → (other : Image) → MeansOneOf bases durable moment other → MeansOneOf bases (durable ++ state.moment ∷ []) moment other
+  earlier_meant moment earlier other meant = record {
+    index = meant.index;
+    base = meant.base;
+    at = meant.at;
+    finds = meant.finds;
+    in_order = meant.in_order;
+    none_before = λ k m there by_then. ⊎_elim
+        (λ (old : slice_get durable k ≡ Some m). meant.none_before k m old by_then)
+        (λ (last : state.moment ≡ m). absurd (omega (arith, last, by_then, earlier)))
+        (last_or_before durable state.moment k m there);
+  }
+
   pub settled_on : IsJournalSafe (after w f) reads None 0 0 bases (durable ++ state.moment ∷ []) first state
   settled_on = record {
     stands = record {
       finds = finds_it;
       in_order = order_it;
       whole = whole_it;
+      alike = record { found = alike_it; next = tt };
       placed = it.placed;
       numbered = numbered_it;
       is = tt;
@@ -393,22 +421,12 @@ module _ (laws : ImageLaws) (f : Found) (image : Image) (w : Writing) (asked n :
       each = λ moment lo hi other may untorn. ⊎_elim
           (λ (earlier : moment < state.moment).
           let meant = safe.safe.each moment lo hi other may untorn in
-          record {
-            index = meant.index;
-            base = meant.base;
-            at = meant.at;
-            finds = meant.finds;
-            in_order = meant.in_order;
-            none_before = λ k m there by_then. ⊎_elim
-                (λ (old : slice_get durable k ≡ Some m). meant.none_before k m old by_then)
-                (λ (last : state.moment ≡ m). absurd (omega (arith, last, by_then, earlier)))
-                (last_or_before durable state.moment k m there);
-          })
+          record { itself = earlier_meant moment earlier other meant.itself; alone = λ mirror low alone degraded. earlier_meant moment earlier alone (meant.alone mirror low alone degraded) })
           (λ (end : state.moment ≤ moment).
           let here : moment ≡ state.moment = omega (arith, end, hi) in
           let may_now : IsCrashImage (now state) other = subst (λ c. IsCrashImage (state.disks c) other) here may in
           let left = subst (λ c. IsUntorn f.layout first c state other) here untorn in
-          one_of (after w f) None bases (durable ++ state.moment ∷ []) bases_after moment other (meaning laws (after w f) reads None finds_it order_it numbered_it tt 0 other (now state) (agrees_after other may_now) tt known left.left))
+          each_of laws (after w f) reads finds_it order_it numbered_it whole_it None tt (record { found = alike_it; next = tt }) bases (durable ++ state.moment ∷ []) bases_after 0 other (now state) (agrees_after other may_now) tt known left.left moment)
           (cases_lt moment state.moment);
     };
   }
@@ -429,6 +447,7 @@ module _ (laws : ImageLaws) (f : Found) (image : Image) (bases : List Found) (du
           finds = meant.finds;
           in_order = meant.in_order;
           whole = whole_again laws image (as_read (now state)) f safe.stands.finds agrees_read.base safe.stands.whole;
+          alike = record { found = alike_again f image (as_read (now state)) (nodes_of f.trees.nodes) agrees_read.base.nodes safe.stands.alike.found; next = tt };
           placed = safe.stands.placed;
           numbered = λ dev place bytes head mirror within stands. safe.stands.numbered dev place bytes head mirror within (area dev place mirror within ∙ stands);
           is = tt;

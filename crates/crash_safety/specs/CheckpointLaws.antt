@@ -7,7 +7,8 @@ use Rattle.bucket_pool.specs.Space.{have_free, node_places}
 use Rattle.dev_model.specs.Devices.{DevicesState, now}
 use Rattle.dev_model.specs.Disk.{Image, IsDisk, as_read}
 use Rattle.dev_model.specs.Frames.{DisksStay}
-use Rattle.image_view.specs.Found.{Found, found}
+use Rattle.image_view.specs.Found.{Found, IsAlike, found}
+use Rattle.image_view.specs.Trees.{nodes_of}
 use Rattle.image_view.specs.UpdatedTrees.{IsOfLeaf}
 use Rattle.journal_ring.specs.Rings.{RingState}
 use Rattle.journal_ring.specs.declared.found.FoundEntry.{FoundEntry}
@@ -28,11 +29,12 @@ use Rattle.crash_safety.specs.Parts.{IsPartWritten, IsRingOf, standing_by}
 use Rattle.crash_safety.specs.Safety.{IsJournalSafe}
 use Rattle.crash_safety.specs.Writings.{Writing, after}
 
--- What is kept of leaves is so at the opening, where each root that was found is a leaf with the same sets on every metadata device, and its bucket holds a node (`begins`). It stays so
+-- The nodes that were found are alike where their roots are, and these are leaves (`alike`). What is kept of leaves is so at the opening, where each root that was found is a leaf with the same sets on every metadata device, and its bucket holds a node (`begins`). It stays so
 -- where commits pin more (`pins`), where an entry is put in flight that names the roots as they are, which has the durable keys, with its
 -- updates (`seals`), while its parts are written and devices are flushed and read, and where it becomes the last durable one: the buckets are
 -- free then that waited for it (`settles`).
 pub record EntryLaws : Type 0 where
+  pub alike : (f : Found) (state : DevicesState) → HasMended f (length f.needed) (now state) → AreRootsAlike f (as_read (now state)) → All (λ root. root.level ≡ 0) f.last.entry.roots → EachUpdate f (IsBelowRoot f.last.entry.roots) → All (IsAlike f (as_read (now state))) (nodes_of f.trees.nodes)
   pub begins : (f : Found) (state : DevicesState) (l : Leaves) → HasMended f (length f.needed) (now state) → AreRootsAlike f (as_read (now state)) → All (λ root. root.level ≡ 0) f.last.entry.roots → EachUpdate f (IsBelowRoot f.last.entry.roots) → f.last.entry.roots ≡ map l.root all_btrees → l.fresh ≡ []
       → is_layout f.layout ≡ true → AreFixed f.layout l.space → ((btree : Btree) → HoldsOwn l.space (l.root btree)) → ((btree : Btree) → All (MayHoldNode f.layout) (l.root btree).places)
       → ((btree : Btree) (found : FoundEntry) → Contains f.needed found → ChangesBtree btree found.entry.updates → IsPinnedUpTo (l.pin btree) f.last.entry.oldest) → KeepsLeaves f None state l

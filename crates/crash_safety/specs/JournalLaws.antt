@@ -5,9 +5,10 @@ use Rattle.dev_model.specs.Devices.{DevicesState, now}
 use Rattle.dev_model.specs.Disk.{Disk, Image, IsCrashImage, IsDisk, as_read}
 use Rattle.dev_model.specs.Frames.{DisksStay}
 use Rattle.geometry.specs.Mirrors.{AreAtRest}
-use Rattle.image_view.specs.Found.{Found}
+use Rattle.image_view.specs.Found.{Found, IsAlike}
 use Rattle.image_view.specs.NewNodes.{AreNodesInOrder}
 use Rattle.image_view.specs.NextEntries.{AreNumberedBelow}
+use Rattle.image_view.specs.Trees.{nodes_of}
 use Rattle.journal_ring.specs.Parts.{area_of}
 use Rattle.journal_ring.specs.Rings.{RingState}
 use Rattle.replay.specs.Mending.{HasMended, IsUntorn, StandsOnAll}
@@ -19,19 +20,19 @@ use Rattle.crash_safety.specs.Safety.{IsJournalSafe, MeansOneOf}
 use Rattle.crash_safety.specs.Standing.{AreNodesLeft, AreSteady}
 use Rattle.crash_safety.specs.Writings.{IsWriting, Writing, after, meant_by}
 
--- A journal is safe where a session begins (`begins`), and stays so while its entries are written. The image may be taken as it is read
--- now (`again`). Where the metadata devices are settled, a crash leaves the nodes that stand on what is read (`settled`), and the entry that
--- leads to these is put in flight (`seals`). Where a device fails while a part of it is written, the part was asked for, and may stand or
+-- A journal is safe where a session begins, with nodes that are alike on all metadata devices (`begins`), and stays so while its entries are
+-- written. The image may be taken as it is read now (`again`). Where the metadata devices are settled, a crash leaves the nodes that stand on
+-- what is read (`settled`), and the entry that leads to these is put in flight where they are alike too (`seals`). Where a device fails while a part of it is written, the part was asked for, and may stand or
 -- not; it may be written again (`writes`). Devices are flushed and read in between, and nodes and files are written where nothing hangs on
 -- (`elsewhere`). Once all of the entry stands and is settled, it is the last durable one (`settles`). Whatever a crash leaves now means what
 -- was found, or that with the entry that is written (`means`); and each needed entry of what was found stands on every metadata device in it,
 -- also where torn blocks open by chance (`whole`).
 pub record JournalLaws : Type 0 where
-  pub begins : (f : Found) (state : DevicesState) → HasMended f (length f.needed) (now state) → AreNumberedBelow f.layout f.session f.last.end (area_of (as_read (now state))) → All IsDisk (now state) → IsJournalSafe f (as_read (now state)) None 0 0 (f ∷ []) [] state.moment state
+  pub begins : (f : Found) (state : DevicesState) → HasMended f (length f.needed) (now state) → All (IsAlike f (as_read (now state))) (nodes_of f.trees.nodes) → AreNumberedBelow f.layout f.session f.last.end (area_of (as_read (now state))) → All IsDisk (now state) → IsJournalSafe f (as_read (now state)) None 0 0 (f ∷ []) [] state.moment state
   pub again : (f : Found) (image : Image) (bases : List Found) (durable : List ℕ) (first : ℕ) (state : DevicesState) → IsJournalSafe f image None 0 0 bases durable first state → IsJournalSafe f (as_read (now state)) None 0 0 bases durable first state
   pub settled : (f : Found) (bases : List Found) (durable : List ℕ) (first : ℕ) (state : DevicesState) (w : Writing) → IsJournalSafe f (as_read (now state)) None 0 0 bases durable first state → AreNodesInOrder (after w f) (as_read (now state)) → AreSettled f.layout.metadata_replicas (now state)
       → AreNodesLeft f (as_read (now state)) (Some w) state
-  pub seals : (f : Found) (image : Image) (bases : List Found) (durable : List ℕ) (first : ℕ) (state : DevicesState) (w : Writing) → IsJournalSafe f image None 0 0 bases durable first state → IsWriting f image w → AreNodesLeft f image (Some w) state
+  pub seals : (f : Found) (image : Image) (bases : List Found) (durable : List ℕ) (first : ℕ) (state : DevicesState) (w : Writing) → IsJournalSafe f image None 0 0 bases durable first state → IsWriting f image w → All (IsAlike (after w f) image) (nodes_of w.trees.nodes) → AreNodesLeft f image (Some w) state
       → IsJournalSafe f image (Some w) 0 0 (bases ++ after w f ∷ []) durable first state
   pub writes : (f : Found) (image : Image) (w : Writing) (asked written : ℕ) (bases : List Found) (durable : List ℕ) (first : ℕ) (old new : DevicesState) (ring : RingState) (failed : Option ℕ) → IsJournalSafe f image (Some w) asked written bases durable first old
       → asked ≤ written + 1 → written < length w.blocks → IsRingOf f.layout w written ring → IsPartWritten ring failed old new → All IsDisk (now new) → AreSteady new

@@ -3,6 +3,7 @@ pub mod CheckpointLaws
 pub mod CheckpointLeaves
 pub mod Contents
 pub mod Elsewhere
+pub mod Flight
 pub mod Flushes
 pub mod JournalLaws
 pub mod KeptLeaves

@@ -4,6 +4,7 @@ use Rattle.dev_model.specs.Devices.{DevicesState}
 use Rattle.dev_model.specs.Disk.{Image, IsCrashImage}
 use Rattle.image_view.specs.Found.{Found, IsInOrder, found}
 use Rattle.replay.specs.Mending.{IsUntorn}
+use Rattle.mirror_laws.specs.Degraded.{IsDegradedTo}
 use Rattle.vol_types.specs.declared.layout.Layout.{Layout}
 use Rattle.crash_safety.specs.Standing.{StandsOn}
 use Rattle.crash_safety.specs.Writings.{Writing, meant_by}
@@ -18,10 +19,16 @@ pub record MeansOneOf (bases : List Found) (durable : List ℕ) (moment : ℕ) (
   pub in_order : IsInOrder base image
   pub none_before : (k m : ℕ) → slice_get durable k ≡ Some m → m ≤ moment → k < index
 
--- Each image that a crash left at a moment from the first one on means one of these so, where no torn block of the journal areas opens by
--- chance.
+-- The image means one of these so, and so it does on each metadata device alone: whatever blocks of the journal and of nodes the others lose,
+-- what is left means one of these so.
+pub record MeansOnEach (layout : Layout) (bases : List Found) (durable : List ℕ) (moment : ℕ) (image : Image) : Type 0 where
+  pub itself : MeansOneOf bases durable moment image
+  pub alone : (mirror : ℕ) → mirror < layout.metadata_replicas → (alone : Image) → IsDegradedTo layout mirror image alone → MeansOneOf bases durable moment alone
+
+-- Each image that a crash left at a moment from the first one on means one of these so, on each metadata device alone too, where no torn block of
+-- the journal areas opens by chance.
 pub record IsSafe (layout : Layout) (bases : List Found) (durable : List ℕ) (first : ℕ) (state : DevicesState) : Type 0 where
-  pub each : (moment : ℕ) → first ≤ moment → moment ≤ state.moment → (image : Image) → IsCrashImage (state.disks moment) image → IsUntorn layout first moment state image → MeansOneOf bases durable moment image
+  pub each : (moment : ℕ) → first ≤ moment → moment ≤ state.moment → (image : Image) → IsCrashImage (state.disks moment) image → IsUntorn layout first moment state image → MeansOnEach layout bases durable moment image
 
 -- The last of these is what was found, or that with the entry that is written; each one but the first became durable before.
 pub record AreBases (f : Found) (writing : Option Writing) (bases : List Found) (durable : List ℕ) : Type 0 where

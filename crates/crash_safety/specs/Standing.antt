@@ -11,7 +11,7 @@ use Rattle.journal_ring.specs.Parts.{area_of}
 use Rattle.key_meaning.specs.Checks.{AreNodesPlaced}
 use Rattle.replay.specs.Mending.{StandsOnAll}
 use Rattle.vol_types.specs.declared.layout.Layout.{Layout}
-use Rattle.crash_safety.specs.Writings.{HoldParts, IsAsked, IsWriting, IsWritingBlock, Writing, after}
+use Rattle.crash_safety.specs.Writings.{AreNodesAlike, HoldParts, IsAsked, IsWriting, IsWritingBlock, Writing, after}
 
 -- Two images agree on the base of what was found, and on the journal areas but at these places. All other places count for nothing.
 pub record AgreesBut (f : Found) (places : ℕ → ℕ → Type 0) (image other : Image) : Type 0 where
@@ -39,7 +39,7 @@ abbrev pub AreNodesLeft : Found → Image → Option Writing → DevicesState �
 AreNodesLeft f image writing state = (other : Image) → IsCrashImage (now state) other → AgreeOnWriting f writing image other
 
 -- What stands on the devices now. This was found in the image that they held when the last durable entry became so, it is in order
--- there, and each needed entry stands there on every metadata device. Of an entry that is written behind it so many parts were asked
+-- there, and each needed entry stands there on every metadata device, as the nodes do. Of an entry that is written behind it so many parts were asked
 -- for, of which so many stand, and a crash leaves its nodes. What a crash leaves agrees with the image but at the places of the parts that
 -- were asked for. And where no torn block opens by chance in what was read from the first moment on, the disks have held no block of an
 -- entry but of those that stand in the image and of the one that is written.
@@ -47,6 +47,7 @@ pub record StandsOn (f : Found) (image : Image) (writing : Option Writing) (aske
   pub finds : found image ≡ Ok f
   pub in_order : IsInOrder f image
   pub whole : (index : ℕ) → index < length f.needed → StandsOnAll f.layout image (slice_index_or f.needed index f.last)
+  pub alike : AreNodesAlike f image writing
   pub placed : AreNodesPlaced (node_places f) f.layout
   pub numbered : AreNumberedBelow f.layout f.session f.last.end (area_of image)
   pub is : IfSome writing (IsWriting f image)

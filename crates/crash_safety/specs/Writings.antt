@@ -1,11 +1,11 @@
 -- The next entry of the journal while it is written. It may lead to new nodes: these were written whole into buckets of their own.
-use Rattle.std.specs.Prelude.{◌≡◌, ℕ, List, [], ◌∷◌, ◌++◌, drop, Option, Some, None, Ok, ⊤}
+use Rattle.std.specs.Prelude.{◌≡◌, ℕ, List, [], ◌∷◌, ◌++◌, drop, All, Option, IfSome, Some, None, Ok, ⊤}
 use Rattle.dev_model.specs.Disk.{Image}
-use Rattle.image_view.specs.Found.{Found, node_places, sets_in, updates_of}
+use Rattle.image_view.specs.Found.{Found, IsAlike, node_places, sets_in, updates_of}
 use Rattle.image_view.specs.Mends.{IsPlaceOf}
 use Rattle.image_view.specs.NewNodes.{AreNodesInOrder}
 use Rattle.image_view.specs.NextEntries.{IsNext, with_entry}
-use Rattle.image_view.specs.Trees.{TreesRead, trees_of}
+use Rattle.image_view.specs.Trees.{TreesRead, nodes_of, trees_of}
 use Rattle.journal_ring.specs.EntryBlocks.{AreEntryBlocks, HoldBlocks}
 use Rattle.journal_ring.specs.Mending.{IsEntryBlock}
 use Rattle.journal_ring.specs.declared.found.FoundEntry.{FoundEntry}
@@ -32,6 +32,11 @@ pub record IsWriting (f : Found) (image : Image) (w : Writing) : Type 0 where
   pub trees : trees_of (sets_in f.layout image) (updates_of (drop w.passed f.needed ++ w.next ∷ [])) w.next.entry.roots ≡ Ok w.trees
   pub in_order : AreNodesInOrder (after w f) image
   pub placed : AreNodesPlaced (node_places (after w f)) f.layout
+
+-- The nodes that were found hold the same sets on every metadata device of the image, and so do those of the entry that is written, if one is.
+pub record AreNodesAlike (f : Found) (image : Image) (writing : Option Writing) : Type 0 where
+  pub found : All (IsAlike f image) (nodes_of f.trees.nodes)
+  pub next : IfSome writing (λ w. All (IsAlike (after w f) image) (nodes_of w.trees.nodes))
 
 -- It is the place of one of the first so many parts of the entry that is written, if one is.
 abbrev pub IsAsked : Layout → Option Writing → ℕ → ℕ → ℕ → Type 0

@@ -11,6 +11,7 @@
 mod apart;
 mod checkpoints;
 mod entry_laws;
+mod flight;
 mod laws;
 mod leaves;
 mod naming;
@@ -20,6 +21,7 @@ mod safety;
 pub use apart::nodes_lie_apart;
 pub use checkpoints::{entries_of_leaves_are_safe, leaves_are_written_safely};
 pub use entry_laws::{entries_are_written_safely, flushed_devices_are_settled};
+pub use flight::entries_in_flight_are_found_or_not;
 pub use laws::nodes_hold_keys_up_to_an_entry;
 pub use leaves::leaves_stand;
 pub use naming::{found_roots_are_leaves, leaf_roots_are_named};

@@ -4,7 +4,4 @@ pub mod DegradedNodes
 pub mod DegradedJournal
 pub mod DegradedMeaning
 pub mod MergedImages
-pub mod PartsMade
-pub mod InFlight
 pub mod OnAll
-pub mod SafeOnOne

@@ -1,3 +1,2 @@
 pub mod Degraded
 pub mod Standing
-pub mod Flight

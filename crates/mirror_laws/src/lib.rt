@@ -2,18 +2,13 @@
 //! of nodes: definitions and laws. The functions do nothing; each carries a few laws to its caller.
 //!
 //! What stands whole on one device, each needed entry of the journal and each node, is found there whatever the others have lost: a
-//! block that is lost begins no set of a node and makes up no entry. So an image that is degraded to that device means what it did. While
-//! an entry is written, one that a crash leaves, and that is degraded then, means what was found, or that with the entry.
+//! block that is lost begins no set of a node and makes up no entry. So an image that is degraded to that device means what it did.
 #![tactic(auto)]
 
 mod degraded;
-mod flight;
 mod nodes;
-mod safety;
 mod standing;
 
 pub use degraded::{degraded_images_mean_the_same, degraded_journals_are_read_the_same};
-pub use flight::entries_in_flight_are_found_or_not;
 pub use nodes::{lost_blocks_hide_no_sets, wiped_blocks_are_lost};
-pub use safety::safe_journals_stand_on_each_device;
 pub use standing::what_stands_everywhere_stands_on_each_device;

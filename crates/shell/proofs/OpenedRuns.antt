@@ -6,7 +6,6 @@ use Rattle.dev_model.specs.Disk.{IsDisk}
 use Rattle.dev_model.specs.Frames.{GoOn}
 use Rattle.forest_ops.specs.History.{History}
 use Rattle.image_view.specs.Found.{Found}
-use Rattle.forest_ops.specs.Acknowledged.{acknowledged}
 use Rattle.forest_ops.specs.declared.acks.Ack.{Ack}
 use Rattle.vol_session.specs.RunLaws.{OpeningIsSafe, RunsAreSafe, SessionsBeginWell}
 use Rattle.vol_session.specs.Runs.{RunSurvives}
@@ -84,12 +83,9 @@ module _ {D K : Type 0} (source_tells sink_tells devices_tell : Type 0) (state :
         survives = λ told f may. run_survives devices_tell opening old mounted opened told f may keeps before (disks told) begins safe new trace acks opened_ran.after opened_ran.acknowledged (opened_ran.survive told);
         printed = λ told told_too f may moment from to image crash untorn.
             let left = run_survives devices_tell opening old mounted opened told_too f may keeps before (disks told_too) begins safe new trace acks opened_ran.after opened_ran.acknowledged (opened_ran.survive told_too) moment from to image crash untorn in
-            let least = left.least in
             record {
               left = left;
-              told = λ count tells.
-                  let all : count ≤ acknowledged acks moment = told_is_acknowledged held given_at sink_tells devices_tell sink sink_after ran.answered ran.last acks new.moment moment count ran.acknowledged told told_too ran.made tells in
-                  omega (arith, all, least);
+              told = λ count tells. told_is_acknowledged held given_at sink_tells devices_tell sink sink_after ran.answered ran.last acks new.moment moment count ran.acknowledged told told_too ran.made tells;
             };
         acknowledged = acks_since old.moment mounted.moment new.moment trace acks before.later opened_ran.acknowledged;
         caused = record {

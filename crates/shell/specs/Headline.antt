@@ -25,7 +25,7 @@ pub record Headline {D K : Type 0} (source_tells sink_tells devices_tell : Type 
   pub legal : devices_tell → (f : Found) → MayRun f (now run.state) → IsLegal (forest_found opening mounted) run.trace
   -- per client the operations are the script's, in order, and the text printed is theirs, each line given to the sink in time
   pub told : HasOutput source_tells sink_tells devices_tell held given_at run (forest_found opening mounted) outcome
-  -- every image that a crash may leave, at every moment of the run, mounts to a prefix that has all that was acknowledged, whole on every metadata device, and may be run again; or,
+  -- every image that a crash may leave, at every moment of the run, mounts to a prefix that has all that was acknowledged, on each metadata device alone too, and may be run again; or,
   -- of a format, means what it meant before, or nothing, or is the fresh volume
   pub survives : devices_tell → IsSurvived run.state mounted run.state_after run.trace run.acks outcome
   -- whoever has been given the line of an acknowledgement knows so many commits durable: whatever a crash leaves from then on has them

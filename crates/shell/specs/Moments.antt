@@ -4,6 +4,7 @@ use Rattle.dev_model.specs.Devices.{DevicesState, now}
 use Rattle.dev_model.specs.Disk.{Image, IsCrashImage}
 use Rattle.replay.specs.Mending.{IsVolumeUntorn}
 use Rattle.text_io.specs.Streams.{GainsTextBy, GivesPrefix}
+use Rattle.forest_ops.specs.Acknowledged.{acknowledged}
 use Rattle.forest_ops.specs.History.{History}
 use Rattle.forest_ops.specs.declared.acks.Ack.{Ack}
 use Rattle.forest_ops.specs.declared.operation.Reply.TheVariants.{Synced}
@@ -53,10 +54,11 @@ pub record TellsDurable {K : Type 0} (held given_at : K → List ℕ) (first las
   pub says : one.reply ≡ Synced count
   pub given : GainsTextBy held given_at first last (reply_lines before ++ reply_line one) moment
 
--- The image is what the run leaves at this moment, and it has as many commits as the lines tell to be durable that the sink was given by then.
+-- The image is what the run leaves at this moment, and the lines that the sink was given by then tell no more commits to be durable than were acknowledged by then: the image has all of
+-- these, and so has what is left of it on each metadata device alone.
 pub record HasAllTold {K : Type 0} (held given_at : K → List ℕ) (first last : K) (answered : List Answered) (f : Found) (old new : DevicesState) (trace : History) (acks : List Ack) (moment : ℕ) (image : Image) : Type 0 where
   pub left : IsLeftOfRun f old new trace acks moment image
-  pub told : (count : ℕ) → TellsDurable held given_at first last answered moment count → count ≤ left.count
+  pub told : (count : ℕ) → TellsDurable held given_at first last answered moment count → count ≤ acknowledged acks moment
 
 -- So is whatever a crash has left at a moment of a run of lines over a volume that may be run.
 abbrev pub IsPrintedDurable : {K : Type 0} → (K → List ℕ) → (K → List ℕ) → K → K → DevicesState → DevicesState → DevicesState → History → List Ack → Outcome → Type 0

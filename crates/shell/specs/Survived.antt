@@ -47,7 +47,7 @@ pub record HoldsFresh (layout : Layout) (state : DevicesState) : Type 0 where
   pub room : LeavesRoom (fresh_found layout)
 
 -- A crash at each moment leaves, of a volume that may be run, one that may be run again: that after a prefix of the history's commits, with all that was acknowledged by then, which stands whole on
--- every metadata device; of devices that are formatted, what they meant, or nothing, or the fresh volume, and that one where they were formatted.
+-- every metadata device, so that each of them alone has it; of devices that are formatted, what they meant, or nothing, or the fresh volume, and that one where they were formatted.
 abbrev pub IsSurvived : DevicesState → DevicesState → DevicesState → History → List Ack → Outcome → Type 0
 IsSurvived old mounted new trace acks (EndedEarly end) = (f : Found) → MayRun f (now old) → RunSurvives f old new trace acks
 IsSurvived old mounted new trace acks (Ran script answered last) = (f : Found) → MayRun f (now old) → RunSurvives f old new trace acks

@@ -51,7 +51,7 @@ module _ (laws : CoreLaws) (begun : Found) (start : DevicesState) (old new : Dev
   durable_kept safe moment from to image may untorn =
       let begins = kept.safe.stands.begun in
       let means : MeansOneOf kept.bases kept.durable moment image =
-      safe.each moment (omega (arith, begins, from)) to image may (subst (λ (layout : Layout). IsUntorn layout start.moment moment new image) (sym kept.known.layout) untorn) in
+      (safe.each moment (omega (arith, begins, from)) to image may (subst (λ (layout : Layout). IsUntorn layout start.moment moment new image) (sym kept.known.layout) untorn)).itself in
       let behind : length kept.durable ≤ means.index = all_below kept.durable means.index (λ k m there. means.none_before k m there (let past = kept.past k m there in omega (arith, past, from))) in
       let later : IsNoEarlier kept.f means.base =
       led_on kept.bases kept.chain (length kept.durable) means.index kept.f means.base (last_durable kept.f kept.writing kept.bases kept.durable kept.safe.bases_are) means.at behind in (

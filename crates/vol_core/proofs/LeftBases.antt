@@ -1,6 +1,6 @@
 -- What an image is that a crash leaves at a moment of an event: it is found in order in the layout and the session that began, and it is what the last durable
 -- entry leads to, or the one in flight; and each entry that the last durable one needs stands whole on every metadata device.
-use Rattle.std.proofs.Common.{◌≡◌, ◌≤◌, ◌⊎◌, inl, inr, ⊎_elim, ℕ, zero, suc, Bool, true, false, List, [], ◌∷◌, ◌++◌, drop, length, Option, Some, None, refl, sym, ap, subst, ◌∙◌, arith}
+use Rattle.std.proofs.Common.{◌≡◌, ◌≤◌, ◌<◌, ◌⊎◌, inl, inr, ⊎_elim, ℕ, zero, suc, Bool, true, false, List, [], ◌∷◌, ◌++◌, drop, length, Option, Some, None, refl, sym, ap, subst, ◌∙◌, arith}
 use Rattle.std.proofs.lemmas.Bool.{and_parts, eqb-true}
 use Rattle.std.proofs.lemmas.List.Elements.{All-append, All-cons, All-drop, All-nil, All-weaker}
 use Rattle.std.proofs.lemmas.Option.{none-some, same_Some}
@@ -18,9 +18,10 @@ use Rattle.journal_writer.specs.declared.writer.Flight.{Flight}
 use Rattle.image_view.specs.Found.{Found, node_places}
 use Rattle.image_view.specs.UpdatedTrees.{IsOfLeaf}
 use Rattle.journal_ring.specs.declared.found.FoundEntry.{FoundEntry}
-use Rattle.crash_safety.specs.Safety.{AreBases, IsSafe, MeansOneOf}
+use Rattle.crash_safety.specs.Safety.{AreBases, IsSafe, MeansOnEach, MeansOneOf}
 use Rattle.crash_safety.specs.Writings.{IsWriting, Writing, after, meant_by}
 use Rattle.key_meaning.specs.Checks.{AreNodesPlaced, is_in_bucket}
+use Rattle.mirror_laws.specs.Degraded.{IsDegradedTo}
 use Rattle.record_codec.specs.declared.entries.EntryRecord.{EntryRecord}
 use Rattle.replay.specs.Mending.{IsUntorn, StandsOnAll}
 use Rattle.replay.specs.NodeUpdates.{EachUpdate}
@@ -31,7 +32,7 @@ use Rattle.vol_types.specs.declared.layout.Layout.{Layout}
 use Rattle.vol_types.specs.declared.pointers.Place.{Place}
 use Rattle.vol_core.specs.Entries.{FliesAs, IsInFlight}
 use Rattle.vol_core.specs.KeptFiles.{AreInUse}
-use Rattle.vol_core.specs.Left.{HoldsFiles, IsDurableBase, IsFlightBase, IsSoundFound, IsWholeOnAll, KeepsLeft, LieApartFromFiles}
+use Rattle.vol_core.specs.Left.{HoldsFiles, IsDurableBase, IsFlightBase, IsLeft, IsSoundFound, IsWholeOnAll, KeepsLeft, LieApartFromFiles}
 use Rattle.vol_core.specs.Rested.{DoCommitsRise, KeepsRing}
 use Rattle.vol_core.specs.Room.{KeepsRoom, LeavesRoom}
 use Rattle.vol_core.specs.Safety.{AreLed, IsCoreSafe, IsLed, MayBegin}
@@ -200,15 +201,10 @@ module _ (begun : Found) (start old new : DevicesState) (volume : Volume) (kept 
     pub same_layout : begun.layout ≡ volume.layout
     same_layout = sym (of_begun (length kept.durable) kept.f (last_durable kept.f kept.writing kept.bases kept.durable kept.safe.bases_are)).layout ∙ kept.known.layout
 
-    -- Whatever a crash leaves at a moment of an event is what is told of it, where it means one of the bases from before, and holds the blocks of files, and each entry that the
-    -- last durable one needs.
-    pub left_kept : KeepsRing volume → (LeavesRoom begun → KeepsRoom volume) → IsSafe kept.f.layout kept.bases kept.durable start.moment new → (IsSoundFound begun → AreInUse begun volume.space)
-        → (IsSoundFound begun → (moment : ℕ) → old.moment ≤ moment → moment ≤ new.moment → (image : Image) → IsCrashImage (new.disks moment) image → HoldsFiles begun start image)
-        → ((moment : ℕ) → old.moment ≤ moment → moment ≤ new.moment → (image : Image) → IsCrashImage (new.disks moment) image → HoldsNeeded kept.f image) → KeepsLeft begun start old new volume
-    left_kept ring room safe in_use files needed moment from to image may untorn =
-        let first = kept.safe.stands.begun in
-        let means : MeansOneOf kept.bases kept.durable moment image =
-        safe.each moment (omega (arith, first, from)) to image may (subst (λ (layout : Layout). IsUntorn layout start.moment moment new image) (sym kept.known.layout) untorn) in
+    -- Where an image means one of the bases from before, and holds the blocks of files, it is what is told of what a crash leaves.
+    left_by : KeepsRing volume → (LeavesRoom begun → KeepsRoom volume) → (IsSoundFound begun → AreInUse begun volume.space) → (moment : ℕ) → old.moment ≤ moment → (image : Image) → MeansOneOf kept.bases kept.durable moment image
+        → (IsSoundFound begun → HoldsFiles begun start image) → IsLeft begun start volume image
+    left_by ring room in_use moment from image means files =
         let behind : length kept.durable ≤ means.index = all_below kept.durable means.index (λ k m there. means.none_before k m there (let past = kept.past k m there in omega (arith, past, from))) in
         let same : IsOfBegun begun means.base = of_begun means.index means.base means.at in
         let live : IsLiveBase volume means.base = live_base ring means.index means.base means.at behind in
@@ -223,6 +219,24 @@ module _ (begun : Found) (start old new : DevicesState) (volume : Volume) (kept 
           placed = live.placed;
           room = λ leaves. live.room (room leaves);
           apart = λ sound. lie_apart begun volume.space means.base live.sequence (in_use sound) live.held;
-          files = λ sound. files sound moment from to image may;
+          files = files;
+        }
+
+    -- Whatever a crash leaves at a moment of an event is what is told of it, on each metadata device alone too, where it means one of the bases from before, and holds the blocks of
+    -- files, and each entry that the last durable one needs.
+    pub left_kept : KeepsRing volume → (LeavesRoom begun → KeepsRoom volume) → IsSafe kept.f.layout kept.bases kept.durable start.moment new → (IsSoundFound begun → AreInUse begun volume.space)
+        → (IsSoundFound begun → (moment : ℕ) → old.moment ≤ moment → moment ≤ new.moment → (image : Image) → IsCrashImage (new.disks moment) image → HoldsFiles begun start image)
+        → ((moment : ℕ) → old.moment ≤ moment → moment ≤ new.moment → (image : Image) → IsCrashImage (new.disks moment) image → HoldsNeeded kept.f image) → KeepsLeft begun start old new volume
+    left_kept ring room safe in_use files needed moment from to image may untorn =
+        let first = kept.safe.stands.begun in
+        let means : MeansOnEach kept.f.layout kept.bases kept.durable moment image =
+        safe.each moment (omega (arith, first, from)) to image may (subst (λ (layout : Layout). IsUntorn layout start.moment moment new image) (sym kept.known.layout) untorn) in
+        let layout_is : begun.layout ≡ kept.f.layout = same_layout ∙ sym kept.known.layout in
+        record {
+          itself = left_by ring room in_use moment from image means.itself (λ sound. files sound moment from to image may);
+          alone = λ mirror alone is.
+              left_by ring room in_use moment from alone
+              (means.alone mirror (subst (λ (layout : Layout). mirror < layout.metadata_replicas) layout_is is.on_mirror) alone (subst (λ (layout : Layout). IsDegradedTo layout mirror image alone) layout_is is.degraded))
+              (λ sound dev block has. sym (is.files dev block has) ∙ files sound moment from to image may dev block has);
           whole = whole_left image (needed moment from to image may);
         }

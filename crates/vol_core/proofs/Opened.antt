@@ -88,7 +88,7 @@ module _ (laws : CoreLaws) (of_found : FoundLaws) (loaded : Loaded) (newest : Fo
     written = 0;
     bases = f ∷ [];
     durable = [];
-    safe = laws.journal.begins f start begins.ready.mended (begins.ready.unwritten f.last.end) disks;
+    safe = laws.journal.begins f start begins.ready.mended (laws.entries.alike f start begins.ready.mended begins.ready.roots begins.roots begins.updates) (begins.ready.unwritten f.last.end) disks;
     begins = refl;
     chain = tt;
     past = λ k m there. absurd cc;

@@ -4,7 +4,7 @@ use Rattle.std.specs.Prelude.{◌≢◌}
 use Rattle.std.proofs.lemmas.List.{get_or-set_other}
 use Rattle.core_actors.specs.Actors.{idle_actor}
 use Rattle.core_volume.specs.Checkpoints.{after_refused}
-use Rattle.core_state.specs.Events.{EventGives, Waits}
+use Rattle.core_state.specs.Events.{EventGives, FlushGives, Waits, WriteGives, WriteSetGives, failed_by}
 use Rattle.core_state.specs.States.{State, mine, other_holder, with_mine}
 use Rattle.core_volume.specs.Volumes.{Volume}
 use Rattle.core_actors.specs.declared.actor.Actor.{Actor}
@@ -15,6 +15,7 @@ use Rattle.core_actors.specs.declared.answer.Refusal.TheVariants as refusals
 use Rattle.core_actors.specs.declared.event.Event.{Event}
 use Rattle.core_actors.specs.declared.event.Event.TheVariants as events
 use Rattle.dev_model.specs.Devices.{DevicesState}
+use Rattle.journal_writer.specs.Writers.{Writer}
 use Rattle.vol_types.specs.declared.layout.Layout.{Layout}
 use Rattle.vol_core.specs.Cores.{CoreState, StepGives}
 
@@ -119,6 +120,46 @@ module _ (old : State) (actor : ℕ) (new : State) where
   event_stays events.CommitNodes (answers.Ids tree) set flush write gives = absurd gives
   event_stays events.CommitNodes (answers.Wait holder) set flush write gives = absurd gives
   event_stays events.CommitNodes (answers.DeviceFault dev) set flush write gives = absurd gives
+
+-- ---- events that call devices
+
+module _ (old : State) (actor : ℕ) (new : State) where
+  -- A device that failed is noted, and the actor's answer with it.
+  failed_stays : (dev tick : ℕ) (writer : Writer) → new ≡ failed_by dev tick actor writer old → StaysBut actor old new
+  failed_stays dev tick writer same = to_new actor old new _ same (record { layout = refl; others = λ other apart. get_or-set_other old.actors actor other _ idle_actor apart })
+
+  -- So it is where a part of an entry is written, or not,
+  pub entry_stays : (tick : ℕ) (answer : Answer) → WriteGives tick old actor answer new → StaysBut actor old new
+  entry_stays tick answers.Done gives = volume_is old actor new _ gives.1 refl
+  entry_stays tick (answers.At stage durable) gives = noted_stays old actor new _ gives.1.1
+  entry_stays tick (answers.Refused refusal) gives = noted_stays old actor new _ gives.1
+  entry_stays tick (answers.DeviceFault dev) gives = failed_stays dev tick _ gives.1
+  entry_stays tick answers.NoMemory gives = absurd gives
+  entry_stays tick (answers.Found keys) gives = absurd gives
+  entry_stays tick (answers.Ids tree) gives = absurd gives
+  entry_stays tick (answers.Wait holder) gives = absurd gives
+
+  -- where a device is flushed, or not,
+  pub flush_stays : (dev tick : ℕ) (answer : Answer) → FlushGives dev tick old actor answer new → StaysBut actor old new
+  flush_stays dev tick answers.Done gives = volume_is old actor new _ gives.1 refl
+  flush_stays dev tick (answers.Refused refusal) gives = noted_stays old actor new _ gives.1
+  flush_stays dev tick (answers.DeviceFault failed) gives = failed_stays dev tick _ gives.2
+  flush_stays dev tick (answers.At stage durable) gives = absurd gives
+  flush_stays dev tick answers.NoMemory gives = absurd gives
+  flush_stays dev tick (answers.Found keys) gives = absurd gives
+  flush_stays dev tick (answers.Ids tree) gives = absurd gives
+  flush_stays dev tick (answers.Wait holder) gives = absurd gives
+
+  -- and where a block of a node is.
+  pub set_stays : (node tick : ℕ) (answer : Answer) → WriteSetGives node tick old actor answer new → StaysBut actor old new
+  set_stays node tick answers.Done gives = volume_is old actor new _ gives.1 refl
+  set_stays node tick (answers.At stage durable) gives = noted_stays old actor new _ gives.1.1
+  set_stays node tick (answers.Refused refusal) gives = noted_stays old actor new _ gives.1
+  set_stays node tick (answers.DeviceFault dev) gives = failed_stays dev tick _ gives.1
+  set_stays node tick answers.NoMemory gives = absurd gives
+  set_stays node tick (answers.Found keys) gives = absurd gives
+  set_stays node tick (answers.Ids tree) gives = absurd gives
+  set_stays node tick (answers.Wait holder) gives = absurd gives
 
 -- An event of memory is a step that calls no device.
 pub step_gives : {D : Type 0} (tells : Type 0) (state : D → DevicesState) (old : CoreState D) (actor : ℕ) (new : State) (event : Event) (answer : Answer) → ((node : ℕ) → event ≢ events.WriteSet node) → ((dev : ℕ) → event ≢ events.Flush dev) → event ≢ events.WriteEntry

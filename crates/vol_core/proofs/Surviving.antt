@@ -4,7 +4,7 @@ use Rattle.core_volume.specs.Volumes.{Volume}
 use Rattle.dev_model.specs.Devices.{DevicesState, now}
 use Rattle.dev_model.specs.Disk.{Image, IsCrashImage}
 use Rattle.image_view.specs.Found.{Found}
-use Rattle.crash_safety.specs.Safety.{IsJournalSafe}
+use Rattle.crash_safety.specs.Safety.{IsJournalSafe, MeansOnEach}
 use Rattle.crash_safety.specs.Writings.{Writing}
 use Rattle.replay.specs.Mending.{IsUntorn, StandsOnAll}
 use Rattle.vol_types.specs.declared.layout.Layout.{Layout}
@@ -27,7 +27,8 @@ survives stands begun start state volume kept = record {
   durable = kept.durable;
   begins = kept.begins;
   chain = kept.chain;
-  each = λ moment from to image may untorn. kept.safe.safe.each moment from to image may (subst (λ (layout : Layout). IsUntorn layout start.moment moment state image) (sym kept.known.layout) untorn);
+  each = λ moment from to image may untorn. subst (λ (layout : Layout). MeansOnEach layout kept.bases kept.durable moment image) kept.known.layout
+      (kept.safe.safe.each moment from to image may (subst (λ (layout : Layout). IsUntorn layout start.moment moment state image) (sym kept.known.layout) untorn));
   past = kept.past;
   last = kept.f;
   last_is = last_durable kept.f kept.writing kept.bases kept.durable kept.safe.bases_are;

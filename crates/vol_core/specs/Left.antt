@@ -10,9 +10,11 @@ use Rattle.dev_model.specs.Disk.{Image, IsCrashImage, as_read, block_at}
 use Rattle.journal_writer.specs.Changes.{LeadTo}
 use Rattle.journal_writer.specs.Queues.{waiting}
 use Rattle.journal_writer.specs.declared.writer.Flight.{Flight}
+use Rattle.image_view.specs.Bases.{AgreeAt}
 use Rattle.image_view.specs.Found.{Found, IsInOrder, found, node_places}
 use Rattle.image_view.specs.UpdatedTrees.{IsOfLeaf}
 use Rattle.key_meaning.specs.Checks.{AreNodesPlaced, IsSound, count_in_bucket, live_blocks}
+use Rattle.mirror_laws.specs.Degraded.{IsDegradedTo}
 use Rattle.replay.specs.Mending.{IsUntorn, StandsOnAll}
 use Rattle.replay.specs.NodeUpdates.{EachUpdate}
 use Rattle.vol_types.specs.Limits.{bucket_blocks}
@@ -65,9 +67,15 @@ pub record IsWholeOnAll (volume : Volume) (image : Image) : Type 0 where
   pub is : IsDurableBase volume durable
   pub whole : (index : ℕ) → index < length durable.needed → StandsOnAll volume.layout image (slice_index_or durable.needed index durable.last)
 
+-- The second image is what is left of the first one on this metadata device alone: of the others any blocks of the journal and of nodes are lost, and no block of a file.
+pub record IsLeftAlone (begun : Found) (mirror : ℕ) (image alone : Image) : Type 0 where
+  pub on_mirror : mirror < begun.layout.metadata_replicas
+  pub degraded : IsDegradedTo begun.layout mirror image alone
+  pub files : (dev block : ℕ) → HasFiles begun dev (block / bucket_blocks) → AgreeAt image alone dev block
+
 -- What a crash leaves is found in order, in the layout and the session that began: it is what the last durable entry leads to, or the one in flight. Each btree is
--- one leaf, and nodes lie where they may; where what was found at the opening was sound, no node lies among blocks of files, and these are as they were; where it left room in the
--- ring, this does; and each entry that the last durable one needs stands whole on every metadata device.
+-- one leaf, and nodes lie where they may; where what was found at the opening was sound, no node lies among blocks of files, and these are as they were; and where it left room in
+-- the ring, this does.
 pub record IsLeft (begun : Found) (start : DevicesState) (volume : Volume) (image : Image) : Type 0 where
   pub base : Found
   pub finds : found image ≡ Ok base
@@ -80,13 +88,18 @@ pub record IsLeft (begun : Found) (start : DevicesState) (volume : Volume) (imag
   pub room : LeavesRoom begun → LeavesRoom base
   pub apart : IsSoundFound begun → LieApartFromFiles begun base
   pub files : IsSoundFound begun → HoldsFiles begun start image
+
+-- The image is so, and so is what is left of it on each metadata device alone; and each entry that the last durable one needs stands whole on every metadata device.
+pub record IsLeftOnEach (begun : Found) (start : DevicesState) (volume : Volume) (image : Image) : Type 0 where
+  pub itself : IsLeft begun start volume image
+  pub alone : (mirror : ℕ) (alone : Image) → IsLeftAlone begun mirror image alone → IsLeft begun start volume alone
   pub whole : IsWholeOnAll volume image
 
 -- Whatever a crash leaves at a moment of an event is so by what was in memory when the event began, where no torn block of the journal areas opens by chance.
 abbrev pub KeepsLeft : Found → DevicesState → DevicesState → DevicesState → Volume → Type 0
 KeepsLeft begun start old new volume =
     (moment : ℕ) → old.moment ≤ moment → moment ≤ new.moment → (image : Image) → IsCrashImage (new.disks moment) image → IsUntorn volume.layout start.moment moment new image
-    → IsLeft begun start volume image
+    → IsLeftOnEach begun start volume image
 
 -- the device that an answer names as failed, if it names one
 abbrev pub failed_by : Answer → Option ℕ

@@ -12,7 +12,7 @@ use Rattle.journal_writer.specs.Queues.{waiting}
 use Rattle.image_view.specs.Found.{Found, found}
 use Rattle.image_view.specs.UpdatedTrees.{IsOfLeaf}
 use Rattle.crash_safety.specs.Flushes.{AreFlushed}
-use Rattle.crash_safety.specs.Safety.{IsJournalSafe, MeansOneOf}
+use Rattle.crash_safety.specs.Safety.{IsJournalSafe, MeansOnEach}
 use Rattle.crash_safety.specs.Writings.{Writing, after}
 use Rattle.image_reader.specs.Volumes.{no_entry}
 use Rattle.vol_types.specs.KeyMaps.{key_map, with_updates}
@@ -91,7 +91,8 @@ abbrev pub KeepsSafe : Type 0 → Found → DevicesState → DevicesState → Vo
 KeepsSafe tells begun start state volume = tells → MayBegin begun (now start) → IsCoreSafe begun start state volume
 
 -- What a crash leaves: at each moment since the session began it means one of the bases, the first of which is what was found then, and none
--- before those that were durable by that moment, where no torn block of the journal areas opens by chance. An entry led from each base to the
+-- before those that were durable by that moment, where no torn block of the journal areas opens by chance; and so does what is left of it on each
+-- metadata device alone. An entry led from each base to the
 -- next one. The last durable one, which was durable by now, has the sequence and as many commits as are told to be durable, and from its keys the
 -- changes that aren't durable lead to those in memory; and whatever a crash leaves now, each entry that it needs stands whole on every metadata
 -- device.
@@ -100,7 +101,7 @@ pub record Survives (begun : Found) (start state : DevicesState) (volume : Volum
   pub durable : List ℕ
   pub begins : slice_get bases 0 ≡ Some begun
   pub chain : AreLed bases
-  pub each : (moment : ℕ) → start.moment ≤ moment → moment ≤ state.moment → (image : Image) → IsCrashImage (state.disks moment) image → IsUntorn volume.layout start.moment moment state image → MeansOneOf bases durable moment image
+  pub each : (moment : ℕ) → start.moment ≤ moment → moment ≤ state.moment → (image : Image) → IsCrashImage (state.disks moment) image → IsUntorn volume.layout start.moment moment state image → MeansOnEach volume.layout bases durable moment image
   pub past : AreUpTo state.moment durable
   pub last : Found
   pub last_is : slice_get bases (length durable) ≡ Some last

@@ -94,7 +94,8 @@ impl<D: Devices, O: Opening> Core<D, O> {
 
     /// The devices on which it lies. Where they tell what they hold, and the volume was found in order with its journal mended and each btree
     /// one leaf, whatever a crash has left of them since then means what some entry led to, and none before the last that was durable
-    /// by that moment, as far as no torn block opens by chance. What a crash leaves now is what the last durable entry led to, by whose keys and the
+    /// by that moment, as far as no torn block opens by chance; and so does what is left of that on each metadata device alone, whatever blocks of the
+    /// journal and of nodes the others lose. What a crash leaves now is what the last durable entry led to, by whose keys and the
     /// changes that aren't durable the keys in memory come, or what the entry in flight leads to; each btree of it is one leaf, and each entry that the
     /// last durable one needs stands whole on every metadata device. Where what was found left room in the ring, so does what a crash leaves. Where what was
     /// found is sound, no node lies among the blocks of its files, and these are as they were.

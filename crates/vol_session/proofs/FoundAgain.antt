@@ -41,17 +41,20 @@ module _ (f : Found) (first : DevicesState) (may : MayRun f (now first)) (image 
   pub left_unacknowledged : (state : DevicesState) (trace : History) (acks : List Ack) (moment : ℕ) → (AreSessionsUntorn f.layout first.moment moment state image → (session : ℕ) → session_in f.layout image ≡ Some session → session ≤ f.session + 1)
       → acknowledged acks moment ≡ 0 → IsLeftOfRun f first state trace acks moment image
   left_unacknowledged state trace acks moment next none = record {
-    left = found_again;
-    again = record { finds = means.finds; in_order = means.in_order may.on.order; leaves = record { roots = may.leaves.roots; updates = may.leaves.updates }; sound = may.sound; tidy = may.tidy };
-    mounts = record { f = found_again; finds = means.finds; sound = may.sound; volume_is = refl };
-    layout = refl;
+    prefix = record {
+      left = found_again;
+      again = record { finds = means.finds; in_order = means.in_order may.on.order; leaves = record { roots = may.leaves.roots; updates = may.leaves.updates }; sound = may.sound; tidy = may.tidy };
+      mounts = record { f = found_again; finds = means.finds; sound = may.sound; volume_is = refl };
+      layout = refl;
+      count = 0;
+      commits = omega arith;
+      least = omega (arith, none);
+      most = omega arith;
+      none_later = none_at_all moment acks;
+      forest = forest_again;
+      room = λ leaves. leaves;
+    };
     session = λ untorn. next untorn means.session (found-session image found_again means.finds);
-    count = 0;
-    commits = omega arith;
-    least = omega (arith, none);
-    most = omega arith;
-    none_later = none_at_all moment acks;
-    forest = forest_again;
     whole = λ some. absurd (some none);
-    room = λ leaves. leaves;
+    alone = λ some. absurd (some none);
   }

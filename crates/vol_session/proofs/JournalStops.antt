@@ -1,5 +1,5 @@
 -- The work on the journal isn't refused for lack of buckets, nor for a leaf that is too large.
-use Rattle.std.proofs.Common.{◌≡◌, ℕ, Bool, true, false, cond, Option, Some, None, sym, subst, ◌∙◌}
+use Rattle.std.proofs.Common.{◌≡◌, ℕ, Bool, true, false, cond, Option, Some, None, sym, subst}
 use Rattle.std.proofs.lemmas.Option.{same_Some, none-some as none_some}
 use Rattle.std.specs.Prelude.{IfErr, ⊤, ◌==◌, length, take}
 use Rattle.core_state.specs.Events.{FlushGives, IsHalted, SealGives, SettleGives, WriteGives}

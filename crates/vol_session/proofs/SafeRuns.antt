@@ -14,30 +14,43 @@ use Rattle.replay.proofs.NextSession.{sessions_before}
 use Rattle.forest_ops.specs.Acknowledged.{AreAcks}
 use Rattle.forest_ops.specs.declared.acks.Ack.{Ack}
 use Rattle.vol_session.specs.Marks.{forest_found}
-use Rattle.vol_session.specs.Survivors.{HasSurvived, Survive}
+use Rattle.vol_session.specs.Survivors.{HasSurvived, HasSurvivedOnEach, Survive}
 use Rattle.vol_session.specs.RunLaws.{OpeningIsSafe, RunsAreSafe, in_next}
-use Rattle.vol_session.specs.Runs.{IsLeftOfRun, MayRun, RunSurvives}
+use Rattle.vol_session.specs.Runs.{IsLeftOfRun, IsOfNextSession, MayRun, RunSurvives}
 use Rattle.vol_session.proofs.FoundAgain.{forest_again, left_unacknowledged}
 use Rattle.vol_session.proofs.Unacknowledged.{none_before}
 
--- What has survived a session is left of the run that it is of, where the session found the forest that the run did.
-survived : (f : Found) (first start state : DevicesState) (trace : History) (acks : List Ack) (moment : ℕ) (image : Image) → forest_found (in_next f) start ≡ forest_found f first
-    → HasSurvived (in_next f) start trace acks moment image → IsLeftOfRun f first state trace acks moment image
-survived f first start state trace acks moment image same survives = record {
-  left = survives.base;
-  again = record { finds = survives.finds; in_order = survives.in_order; leaves = survives.leaves; sound = survives.sound; tidy = survives.tidy };
-  mounts = record { f = survives.base; finds = survives.finds; sound = survives.sound; volume_is = refl };
-  layout = survives.layout;
-  session = λ untorn. (let is : survives.base.session ≡ f.session + 1 = survives.session in let e : survives.base.session ≤ f.session + 1 = omega (arith, is) in e);
-  count = survives.count;
-  commits = survives.commits;
-  least = survives.least;
-  most = subst (λ (forest : Forest). survives.count ≤ commit_count forest trace) same survives.most;
-  none_later = survives.none_later;
-  forest = survives.forest ∙ ap (λ (forest : Forest). after_commits forest trace survives.count) same;
-  whole = λ some. record { read = survives.whole.read; durable = survives.whole.durable; finds = survives.whole.finds; had = survives.whole.had; whole = survives.whole.whole };
-  room = survives.room;
+-- What has survived a session is the volume after a prefix of the run that it is of, where the session found the forest that the run did.
+prefix_of_run : (f : Found) (first start : DevicesState) (trace : History) (acks : List Ack) (moment : ℕ) (image : Image) → forest_found (in_next f) start ≡ forest_found f first
+    → HasSurvived (in_next f) start trace acks moment image → IsOfNextSession f first trace acks moment image
+prefix_of_run f first start trace acks moment image same survives = record {
+  prefix = record {
+    left = survives.base;
+    again = record { finds = survives.finds; in_order = survives.in_order; leaves = survives.leaves; sound = survives.sound; tidy = survives.tidy };
+    mounts = record { f = survives.base; finds = survives.finds; sound = survives.sound; volume_is = refl };
+    layout = survives.layout;
+    count = survives.count;
+    commits = survives.commits;
+    least = survives.least;
+    most = subst (λ (forest : Forest). survives.count ≤ commit_count forest trace) same survives.most;
+    none_later = survives.none_later;
+    forest = survives.forest ∙ ap (λ (forest : Forest). after_commits forest trace survives.count) same;
+    room = survives.room;
+  };
+  session = (let is : survives.base.session ≡ f.session + 1 = survives.session in let e : survives.base.session ≤ f.session + 1 = omega (arith, is) in e);
 }
+
+-- So it is left of the run, on each metadata device alone too.
+survived : (f : Found) (first start state : DevicesState) (trace : History) (acks : List Ack) (moment : ℕ) (image : Image) → forest_found (in_next f) start ≡ forest_found f first
+    → HasSurvivedOnEach (in_next f) start trace acks moment image → IsLeftOfRun f first state trace acks moment image
+survived f first start state trace acks moment image same survives =
+    let it : IsOfNextSession f first trace acks moment image = prefix_of_run f first start trace acks moment image same survives.itself in
+    record {
+      prefix = it.prefix;
+      session = λ untorn. it.session;
+      whole = λ some. record { read = survives.whole.read; durable = survives.whole.durable; finds = survives.whole.finds; had = survives.whole.had; whole = survives.whole.whole };
+      alone = λ some mirror alone is. prefix_of_run f first start trace acks moment alone same (survives.alone mirror alone (record { on_mirror = is.on_mirror; degraded = is.degraded; files = is.files }));
+    }
 
 module _ (f : Found) (first start state : DevicesState) (trace : History) (acks : List Ack) (may : MayRun f (now first)) (disks : All IsDisk (now start)) (keeps : KeepsMeaning f first start) (begins : first.moment ≤ start.moment)
     (past : KeepsPast start state) where

@@ -22,7 +22,7 @@ use Rattle.replay.specs.Untorn.{untorn_before}
 use Rattle.replay.specs.Volumes.{trees_read}
 use Rattle.forest_ops.specs.Acknowledged.{acknowledged}
 use Rattle.forest_ops.specs.declared.acks.Ack.{Ack}
-use Rattle.vol_core.specs.Left.{IsLeft, KeepsLeft}
+use Rattle.vol_core.specs.Left.{IsLeft, IsLeftAlone, IsLeftOnEach, IsWholeOnAll, KeepsLeft}
 use Rattle.vol_types.specs.KeyMaps.{IsKeyMap, KeyMap}
 use Rattle.vol_types.specs.declared.layout.Layout.{Layout}
 use Rattle.vol_session.proofs.SurvivingAcks.{acknowledged_before, acknowledged_durable, none_after, past_all}
@@ -30,7 +30,7 @@ use Rattle.vol_session.proofs.SurvivingBases.{base_enough, base_marked}
 use Rattle.vol_session.proofs.SurvivingFiles.{same_forest, same_sound}
 use Rattle.vol_session.specs.Marks.{AreGoodMarks, IsAtMarks, IsGoodMark, IsMarkAt, commits_found, forest_found}
 use Rattle.vol_session.specs.Sessions.{IsCounted}
-use Rattle.vol_session.specs.Survivors.{BeginsWell, HasSurvived, Survive}
+use Rattle.vol_session.specs.Survivors.{BeginsWell, HasSurvived, HasSurvivedOnEach, IsAcknowledgedOnAll, Survive}
 
 -- The btrees of what is found are those of a key map: the clauses `trees` and `keys` of `found_btrees_are_a_key_map`.
 pub record FoundKeys : Type 0 where
@@ -66,7 +66,6 @@ left_survives laws begun start state volume trace acks others commits marks begi
     let marks_are = at.count in
     let commits_are = counted.commits_are in
     let counted_are = counted.counted in
-    let durable_is = left.whole.is.commits in
     let most : count ≤ commit_count (forest_found begun start) trace = omega (arith, within, marks_are, commits_are, counted_are) in
     let commits_is : base.last.entry.commits ≡ commits_found begun + count = omega (arith, from) in
     record {
@@ -86,23 +85,34 @@ left_survives laws begun start state volume trace acks others commits marks begi
       most = most;
       none_later = none_later base count left.finds commits_is most;
       forest = same_forest begun start image begins.sound (left.files begins.sound) base.trees.keys mark.extents ∙ mark.forest;
-      whole = record {
-        read = left.whole.read;
-        durable = left.whole.durable;
-        finds = left.whole.finds;
-        had = omega (arith, durable, durable_is);
-        whole = λ index lt. subst (λ (layout : Layout). StandsOnAll layout image (slice_index_or left.whole.durable.needed index left.whole.durable.last)) counted.layout (left.whole.whole index lt);
-      };
+    }
+
+-- And what is acknowledged stands whole on every metadata device, with any acknowledgements of commits that are durable.
+whole_on_all : (begun : Found) (start state : DevicesState) (volume : Volume) (trace : History) (acks others : List Ack) (commits : ℕ) (marks : List KeyMap) → IsAtMarks begun marks volume → IsCounted begun start state volume trace acks commits → AreDurable begun volume others
+    → (moment : ℕ) (image : Image) → IsWholeOnAll volume image → IsAcknowledgedOnAll begun others moment image
+whole_on_all begun start state volume trace acks others commits marks at counted are_durable moment image whole =
+    let durable : commits_found begun + acknowledged others moment ≤ volume.writer.durable.commits = acknowledged_durable (commits_found begun) volume.writer.durable.commits others moment at.at.from are_durable in
+    let durable_is = whole.is.commits in
+    record {
+      read = whole.read;
+      durable = whole.durable;
+      finds = whole.finds;
+      had = omega (arith, durable, durable_is);
+      whole = λ index lt. subst (λ (layout : Layout). StandsOnAll layout image (slice_index_or whole.durable.needed index whole.durable.last)) counted.layout (whole.whole index lt);
     }
 
 -- So it is of whatever a crash leaves at a moment of an event.
 module _ (laws : FoundKeys) (begun : Found) (start old new : DevicesState) (volume : Volume) (trace : History) (acks : List Ack) (commits : ℕ) (marks : List KeyMap) (begins : BeginsWell begun start) (at : IsAtMarks begun marks volume)
     (good : AreGoodMarks begun start trace marks) (counted : IsCounted begun start old volume trace acks commits) (left : KeepsLeft begun start old new volume) (others : List Ack) (are_durable : AreDurable begun volume others) where
   survive_here : (moment : ℕ) → old.moment ≤ moment → moment ≤ new.moment → (image : Image) → IsCrashImage (new.disks moment) image → IsUntorn begun.layout start.moment moment new image → HasNoneLater begun start trace others moment image
-      → HasSurvived begun start trace others moment image
-  survive_here moment from to image may untorn none_later =
-      left_survives laws begun start old volume trace acks others commits marks begins at good counted are_durable moment image none_later
-      (left moment from to image may (subst (λ (layout : Layout). IsUntorn layout start.moment moment new image) (sym counted.layout) untorn))
+      → ((mirror : ℕ) (alone : Image) → IsLeftAlone begun mirror image alone → HasNoneLater begun start trace others moment alone) → HasSurvivedOnEach begun start trace others moment image
+  survive_here moment from to image may untorn none_later none_alone =
+      let there : IsLeftOnEach begun start volume image = left moment from to image may (subst (λ (layout : Layout). IsUntorn layout start.moment moment new image) (sym counted.layout) untorn) in
+      record {
+        itself = left_survives laws begun start old volume trace acks others commits marks begins at good counted are_durable moment image none_later there.itself;
+        alone = λ mirror alone is. left_survives laws begun start old volume trace acks others commits marks begins at good counted are_durable moment alone (none_alone mirror alone is) (there.alone mirror alone is);
+        whole = whole_on_all begun start old volume trace acks others commits marks at counted are_durable moment image there.whole;
+      }
 
 -- At the opening whatever a crash leaves has survived.
 pub survive_begun : FoundKeys → (begun : Found) (start : DevicesState) (volume : Volume) (commits : ℕ) (marks : List KeyMap)
@@ -111,6 +121,7 @@ pub survive_begun : FoundKeys → (begun : Found) (start : DevicesState) (volume
 survive_begun laws begun start volume commits marks begins at good counted left moment from to image may untorn =
     survive_here laws begun start start start volume [] [] commits marks begins at good counted left [] counted.durable moment from to image may untorn
     (λ base count finds commits_are most. All-nil (λ (ack : Ack). moment ≤ ack.moment → count ≤ ack.commits))
+    (λ mirror alone is base count finds commits_are most. All-nil (λ (ack : Ack). moment ≤ ack.moment → count ≤ ack.commits))
 
 -- Whatever an event of the core does: all is told by what was in memory when it began.
 pub survive_stepped : FoundKeys → (begun : Found) (start old new : DevicesState) (volume : Volume) (trace : History) (acks : List Ack) (commits : ℕ) (marks : List KeyMap)
@@ -120,15 +131,15 @@ survive_stepped laws begun start old new volume trace acks commits marks begins 
     ⊎_elim
     (λ (since : old.moment < moment).
     survive_here laws begun start old new volume trace acks commits marks begins at good counted left acks counted.durable moment (omega (arith, since)) to image may untorn
-    (λ base count finds commits_are most. past_all count old.moment moment acks since (none_after start.moment old.moment acks counted.acks_are.moments)))
+    (λ base count finds commits_are most. past_all count old.moment moment acks since (none_after start.moment old.moment acks counted.acks_are.moments))
+    (λ mirror alone is base count finds commits_are most. past_all count old.moment moment acks since (none_after start.moment old.moment acks counted.acks_are.moments)))
     (λ (by_then : moment ≤ old.moment).
     survive moment from by_then image (subst (λ (disks : List Disk). IsCrashImage disks image) (past moment by_then) may) (untorn_before begun.layout start.moment moment old new image past by_then untorn))
     (cases_lt old.moment moment)
 
 -- One more entry of the history leaves what survived.
-pub survive_told : (begun : Found) (start state : DevicesState) (trace : History) (acks : List Ack) (entry : Entry) → Survive begun start state trace acks → Survive begun start state (trace ++ entry ∷ []) acks
-survive_told begun start state trace acks entry survive moment from to image may untorn =
-    let survived = survive moment from to image may untorn in
+has_told : (begun : Found) (start : DevicesState) (trace : History) (acks : List Ack) (entry : Entry) (moment : ℕ) (image : Image) → HasSurvived begun start trace acks moment image → HasSurvived begun start (trace ++ entry ∷ []) acks moment image
+has_told begun start trace acks entry moment image survived =
     let opening : Forest = forest_found begun start in
     let more : History = cond (is_commit (after_all opening trace) entry) (entry ∷ []) [] in
     let pushed : commits_of opening (trace ++ entry ∷ []) ≡ commits_of opening trace ++ more = commits_of-push opening trace entry in
@@ -150,6 +161,14 @@ survive_told begun start state trace acks entry survive moment from to image may
       most = omega (arith, most, long);
       none_later = survived.none_later;
       forest = survived.forest ∙ ap (after_all opening) (sym (ap (take survived.count) pushed ∙ take-append-le survived.count (commits_of opening trace) more most));
+    }
+
+pub survive_told : (begun : Found) (start state : DevicesState) (trace : History) (acks : List Ack) (entry : Entry) → Survive begun start state trace acks → Survive begun start state (trace ++ entry ∷ []) acks
+survive_told begun start state trace acks entry survive moment from to image may untorn =
+    let survived = survive moment from to image may untorn in
+    record {
+      itself = has_told begun start trace acks entry moment image survived.itself;
+      alone = λ mirror alone is. has_told begun start trace acks entry moment alone (survived.alone mirror alone is);
       whole = survived.whole;
     }
 
@@ -188,13 +207,15 @@ same_acknowledged begun start trace acks ack moment image same all survived = re
   most = survived.most;
   none_later = one_later (forest_found begun start) trace acks ack moment survived.count all survived.most survived.none_later;
   forest = survived.forest;
-  whole = record {
-    read = survived.whole.read;
-    durable = survived.whole.durable;
-    finds = survived.whole.finds;
-    had = subst (λ (n : ℕ). commits_found begun + n ≤ survived.whole.durable.last.entry.commits) (sym same) survived.whole.had;
-    whole = survived.whole.whole;
-  };
+}
+
+same_whole : (begun : Found) (acks more : List Ack) (moment : ℕ) (image : Image) → acknowledged more moment ≡ acknowledged acks moment → IsAcknowledgedOnAll begun acks moment image → IsAcknowledgedOnAll begun more moment image
+same_whole begun acks more moment image same whole = record {
+  read = whole.read;
+  durable = whole.durable;
+  finds = whole.finds;
+  had = subst (λ (n : ℕ). commits_found begun + n ≤ whole.durable.last.entry.commits) (sym same) whole.had;
+  whole = whole.whole;
 }
 
 -- One more acknowledgement, at the present moment, of commits that are durable by now.
@@ -206,9 +227,16 @@ survive_acknowledged laws begun start state volume trace acks commits marks ack 
     let survived = survive moment from to image may untorn in
     let all : ack.commits ≡ commit_count (forest_found begun start) trace = every ∙ counted.counted in
     ⊎_elim
-    (λ (before : moment < state.moment). same_acknowledged begun start trace acks ack moment image (acknowledged_before acks ack moment (omega (arith, before, now))) all survived)
+    (λ (before : moment < state.moment).
+    let same : acknowledged (acks ++ ack ∷ []) moment ≡ acknowledged acks moment = acknowledged_before acks ack moment (omega (arith, before, now)) in
+    record {
+      itself = same_acknowledged begun start trace acks ack moment image same all survived.itself;
+      alone = λ mirror alone is. same_acknowledged begun start trace acks ack moment alone same all (survived.alone mirror alone is);
+      whole = same_whole begun acks (acks ++ ack ∷ []) moment image same survived.whole;
+    })
     (λ (since : state.moment ≤ moment).
     survive_here laws begun start state state volume trace acks commits marks begins at good counted left (acks ++ ack ∷ [])
     (All-push (λ (a : Ack). commits_found begun + a.commits ≤ volume.writer.durable.commits) acks ack counted.durable durable) moment since to image may untorn
-    (λ base count finds commits_are most. one_later (forest_found begun start) trace acks ack moment count all most (none_again begun start trace acks moment image survived base count finds commits_are)))
+    (λ base count finds commits_are most. one_later (forest_found begun start) trace acks ack moment count all most (none_again begun start trace acks moment image survived.itself base count finds commits_are))
+    (λ mirror alone is base count finds commits_are most. one_later (forest_found begun start) trace acks ack moment count all most (none_again begun start trace acks moment alone (survived.alone mirror alone is) base count finds commits_are)))
     (cases_lt moment state.moment)

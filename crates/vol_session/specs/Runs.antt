@@ -8,7 +8,7 @@ use Rattle.key_meaning.specs.Tidy.{IsTidy}
 use Rattle.replay.specs.Mending.{AreSessionsUntorn, IsInOrderOn, IsVolumeUntorn}
 use Rattle.forest_ops.specs.Acknowledged.{acknowledged}
 use Rattle.forest_ops.specs.declared.acks.Ack.{Ack}
-use Rattle.vol_core.specs.Left.{AreLeaves, IsSoundFound}
+use Rattle.vol_core.specs.Left.{AreLeaves, IsLeftAlone, IsSoundFound}
 use Rattle.vol_core.specs.Room.{LeavesRoom}
 use Rattle.vol_session.specs.Marks.{commits_found, forest_found}
 use Rattle.vol_session.specs.Survivors.{IsAcknowledgedOnAll}
@@ -29,22 +29,33 @@ pub record MayRunAgain (f : Found) (image : Image) : Type 0 where
   pub tidy : IsTidy f.trees.keys
 
 -- The image mounts as the volume after a prefix of the commits of the history, with all that was acknowledged by this moment, and may be run again. Up to the moment of an acknowledgement it
--- has none of the commits that were made after it. What was acknowledged stands whole on every metadata device; at most one session more was begun than what was found had, where no torn block of a session opens by chance; and where what was found left room in the ring of the
--- journal, so does the image.
-pub record IsLeftOfRun (f : Found) (first state : DevicesState) (trace : History) (acks : List Ack) (moment : ℕ) (image : Image) : Type 0 where
+-- has none of the commits that were made after it. Where what was found left room in the ring of the journal, so does the image.
+pub record IsPrefixOfRun (f : Found) (first : DevicesState) (trace : History) (acks : List Ack) (moment : ℕ) (image : Image) : Type 0 where
   pub left : Found
   pub again : MayRunAgain left image
   pub mounts : MountsAs image (volume_of image left)
   pub layout : left.layout ≡ f.layout
-  pub session : AreSessionsUntorn f.layout first.moment moment state image → left.session ≤ f.session + 1
   pub count : ℕ
   pub commits : commits_found left ≡ commits_found f + count
   pub least : acknowledged acks moment ≤ count
   pub most : count ≤ commit_count (forest_found f first) trace
   pub none_later : All (λ (ack : Ack). moment ≤ ack.moment → count ≤ ack.commits) acks
   pub forest : (volume_of image left).forest ≡ after_commits (forest_found f first) trace count
-  pub whole : acknowledged acks moment ≢ 0 → IsAcknowledgedOnAll f acks moment image
   pub room : LeavesRoom f → LeavesRoom left
+
+-- It is one of at most one session more than was found.
+pub record IsOfNextSession (f : Found) (first : DevicesState) (trace : History) (acks : List Ack) (moment : ℕ) (image : Image) : Type 0 where
+  pub prefix : IsPrefixOfRun f first trace acks moment image
+  pub session : prefix.left.session ≤ f.session + 1
+
+-- The image is the volume after such a prefix, and of at most one session more than was found, where no torn block of a session opens by chance. Once something was acknowledged, it stands whole
+-- on every metadata device; and what is left of the image on each metadata device alone, whatever blocks of the journal and of nodes the others lose, is such a volume too, with all that was
+-- acknowledged by this moment.
+pub record IsLeftOfRun (f : Found) (first state : DevicesState) (trace : History) (acks : List Ack) (moment : ℕ) (image : Image) : Type 0 where
+  pub prefix : IsPrefixOfRun f first trace acks moment image
+  pub session : AreSessionsUntorn f.layout first.moment moment state image → prefix.left.session ≤ f.session + 1
+  pub whole : acknowledged acks moment ≢ 0 → IsAcknowledgedOnAll f acks moment image
+  pub alone : acknowledged acks moment ≢ 0 → (mirror : ℕ) (alone : Image) → IsLeftAlone f mirror image alone → IsOfNextSession f first trace acks moment alone
 
 -- Whatever a crash has left at a moment since the run began is such an image, where no torn block of the journal areas or of the roots that were found opens by chance.
 abbrev pub RunSurvives : Found → DevicesState → DevicesState → History → List Ack → Type 0

@@ -9,7 +9,7 @@ use Rattle.key_meaning.specs.Tidy.{IsTidy}
 use Rattle.replay.specs.Mending.{IsUntorn, StandsOnAll}
 use Rattle.forest_ops.specs.Acknowledged.{acknowledged}
 use Rattle.forest_ops.specs.declared.acks.Ack.{Ack}
-use Rattle.vol_core.specs.Left.{AreLeaves, IsSoundFound}
+use Rattle.vol_core.specs.Left.{AreLeaves, IsLeftAlone, IsSoundFound}
 use Rattle.vol_core.specs.Room.{LeavesRoom}
 use Rattle.vol_core.specs.Safety.{MayBegin}
 use Rattle.vol_session.specs.Marks.{commits_found, forest_found}
@@ -30,7 +30,7 @@ pub record IsAcknowledgedOnAll (begun : Found) (acks : List Ack) (moment : ℕ) 
 
 -- The image mounts as the volume after a prefix of the commits of the history, in the layout and the session that began, with all that was acknowledged by this
 -- moment, and up to the moment of an acknowledgement none of the commits that were made after it: it is in order, sound and tidy, and each of its btrees is one leaf, so that it can be opened
--- again; it leaves room in the ring where what was found did; and what was acknowledged stands whole on every metadata device.
+-- again; and it leaves room in the ring where what was found did.
 pub record HasSurvived (begun : Found) (start : DevicesState) (trace : History) (acks : List Ack) (moment : ℕ) (image : Image) : Type 0 where
   pub base : Found
   pub finds : found image ≡ Ok base
@@ -47,10 +47,15 @@ pub record HasSurvived (begun : Found) (start : DevicesState) (trace : History) 
   pub most : count ≤ commit_count (forest_found begun start) trace
   pub none_later : All (λ (ack : Ack). moment ≤ ack.moment → count ≤ ack.commits) acks
   pub forest : forest_in base.trees.keys (read_in image) ≡ after_commits (forest_found begun start) trace count
+
+-- The image has survived so, and so has what is left of it on each metadata device alone; and what was acknowledged stands whole on every metadata device.
+pub record HasSurvivedOnEach (begun : Found) (start : DevicesState) (trace : History) (acks : List Ack) (moment : ℕ) (image : Image) : Type 0 where
+  pub itself : HasSurvived begun start trace acks moment image
+  pub alone : (mirror : ℕ) (alone : Image) → IsLeftAlone begun mirror image alone → HasSurvived begun start trace acks moment alone
   pub whole : IsAcknowledgedOnAll begun acks moment image
 
 -- Whatever a crash has left at a moment since the session began is such an image, where no torn block of the journal areas opens by chance.
 abbrev pub Survive : Found → DevicesState → DevicesState → History → List Ack → Type 0
 Survive begun start state trace acks =
     (moment : ℕ) → start.moment ≤ moment → moment ≤ state.moment → (image : Image) → IsCrashImage (state.disks moment) image → IsUntorn begun.layout start.moment moment state image
-    → HasSurvived begun start trace acks moment image
+    → HasSurvivedOnEach begun start trace acks moment image

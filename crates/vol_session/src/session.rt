@@ -282,7 +282,8 @@ impl<D: Devices, O: Opening> Session<D, O> {
 
     /// What the type keeps of the history. Where the devices tell what they hold, and the session began with a sound and tidy volume, its
     /// history is legal from the forest that was found, and whatever a crash has left at a moment since then has survived: it mounts as the volume after a
-    /// prefix of its commits, with all that was acknowledged by that moment.
+    /// prefix of its commits, with all that was acknowledged by that moment; and so does what is left of it on each metadata device alone, whatever
+    /// blocks of the journal and of nodes the others lose.
     pub fn see_history(&self)
         ensures counted { IsCounted O.found O.start (D.state self.now.core.devices)
             self.now.core.memory.volume self.now.trace self.now.acks self.now.commits }

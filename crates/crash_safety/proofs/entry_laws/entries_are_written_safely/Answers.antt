@@ -23,6 +23,21 @@ returns c =
           let whole = c.mending_changes_nothing.ensures.whole image f finds index low in
           let made = c.whole_entries_are_made_of_blocks.ensures f.layout (area_of image) whole.0 entry whole.1 in
           made.1.end ∙ ap (λ n. entry.number + n) (c.mended_entries_stay_whole.ensures.sealed f.layout (area_of image) entry made.0 made.1).count;
+      flight = record {
+        parts = record {
+          entries = record {
+            again = c.leading_entries_are_needed.ensures.again;
+            sealed = c.mended_entries_stay_whole.ensures.sealed;
+            one = c.mended_entries_stay_whole.ensures.one;
+          };
+          opens = record { head = c.sealed_blocks_open.ensures.head; payload = c.sealed_blocks_open.ensures.payload };
+          exact = c.entries_are_exact.ensures;
+          so_long = c.entry_lengths.ensures;
+          own_places = c.parts_have_own_places.ensures;
+        };
+        whole = c.leading_entries_are_needed.ensures.whole;
+        crashed = c.crashes_leave_new_nodes.ensures.in_order;
+      };
       own_places = c.parts_have_own_places.ensures;
     } in
     record {

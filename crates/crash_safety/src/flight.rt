@@ -3,7 +3,7 @@ ghost use Rattle.dev_model.specs.Disk.{Image};
 ghost use Rattle.image_view.specs.Found.{Found};
 ghost use Rattle.crash_safety.specs.Writings.{Writing, after};
 ghost use Rattle.mirror_laws.specs.Degraded.{IsDegradedTo};
-ghost use Rattle.mirror_laws.specs.Flight.{AreJournalsLost, IsFoundIn, IsLeftWriting, PartsStand, PartsStandOn, StandsWriting};
+ghost use Rattle.crash_safety.specs.Flight.{AreJournalsLost, IsFoundIn, IsLeftWriting, PartsStand, PartsStandOn, StandsWriting};
 
 use image_view::crashes_leave_new_nodes;
 use journal_ring::{leading_entries_are_needed, mended_entries_stay_whole, parts_have_own_places};

@@ -28,12 +28,12 @@ use Rattle.sealed_block.specs.Opening.{opened}
 use Rattle.sealed_block.specs.declared.heads.Head.{Head}
 use Rattle.crash_safety.specs.Writings.{Writing, after}
 use Rattle.mirror_laws.specs.Degraded.{IsDegradedTo}
-use Rattle.mirror_laws.specs.Flight.{AreJournalsLost, IsFoundIn, IsLeftWriting, PartsStand, PartsStandOn, StandsWriting}
+use Rattle.crash_safety.specs.Flight.{AreJournalsLost, IsFoundIn, IsLeftWriting, PartsStand, PartsStandOn, StandsWriting}
 use Rattle.mirror_laws.proofs.DegradedJournal.{some_places, stood}
 use Rattle.mirror_laws.proofs.DegradedMeaning.{found_still, order_still}
 use Rattle.mirror_laws.proofs.DegradedNodes.{nodes_agree_still, own_block, trees_still}
 use Rattle.mirror_laws.proofs.MergedImages.{merged, merged_degraded, merged_same}
-use Rattle.mirror_laws.proofs.PartsMade.{PartLaws, parts_made}
+use Rattle.crash_safety.proofs.PartsMade.{PartLaws, parts_made}
 
 -- What is said of images that a crash leaves while an entry is written, and that needed entries are whole.
 pub record FlightLaws : Type 0 where

@@ -1,5 +1,5 @@
 -- An entry of the journal that is written: which of its parts stand, and what stands whole on one metadata device meanwhile.
-use Rattle.std.specs.Prelude.{◌≡◌, ◌≢◌, ℕ, ◌+◌, ◌<◌, List, [], length, All, Option, IfSome, Some, Ok, slice_index_or}
+use Rattle.std.specs.Prelude.{◌≡◌, ◌≢◌, ℕ, ◌+◌, ◌<◌, List, [], length, All, Some, Ok, slice_index_or}
 use Rattle.dev_model.specs.Disk.{Image}
 use Rattle.image_view.specs.Bases.{AgreeOnBase, AgreeOnNodes}
 use Rattle.image_view.specs.Found.{Found, IsInOrder, found}
@@ -37,11 +37,6 @@ pub record IsLeftWriting (f : Found) (w : Writing) (image other : Image) : Type 
   pub base : AgreeOnBase f image other
   pub nodes : AgreeOnNodes (after w f) image other
   pub blocks : AreOldOrNext f.layout w.next w.blocks image other
-
--- The nodes that were found stand whole on this metadata device, and so do those of the entry that is written, if one is.
-pub record NodesStandOn (f : Found) (writing : Option Writing) (mirror : ℕ) (image : Image) : Type 0 where
-  pub found : All (NodeStandsOn f mirror image) (nodes_of f.trees.nodes)
-  pub next : IfSome writing (λ w. All (NodeStandsOn (after w f) mirror image) (nodes_of w.trees.nodes))
 
 -- What was found stands whole on this metadata device, and so do the nodes of the entry that is written.
 pub record StandsWriting (f : Found) (w : Writing) (mirror : ℕ) (image : Image) : Type 0 where

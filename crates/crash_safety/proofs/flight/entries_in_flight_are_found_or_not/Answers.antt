@@ -1,5 +1,5 @@
-use Rattle.mirror_laws.proofs.InFlight.{FlightLaws, either, own_parts, parts_own, with_it, without_it}
-use Rattle.mirror_laws.proofs.flight.entries_in_flight_are_found_or_not.Goals as goal
+use Rattle.crash_safety.proofs.InFlight.{FlightLaws, either, own_parts, parts_own, with_it, without_it}
+use Rattle.crash_safety.proofs.flight.entries_in_flight_are_found_or_not.Goals as goal
 
 pub returns : goal.returns
 returns c =
