@@ -7,8 +7,9 @@ use Rattle.std.proofs.lemmas.Option.{same_Some}
 use Rattle.vol_types.specs.declared.keys.Update.{Update}
 use Rattle.vol_types.specs.declared.layout.Layout.{Layout}
 use Rattle.core_actors.specs.Actors.{committed, holds, idle_actor}
-use Rattle.core_volume.specs.Commits.{AreIntended}
-use Rattle.core_volume.specs.Rulings.{IsRefused}
+use Rattle.core_actors.specs.declared.answer.Answer.TheVariants.{Done}
+use Rattle.core_volume.specs.Commits.{AreIntended, IsCommitted}
+use Rattle.core_volume.specs.Rulings.{IsAllowed, IsRefused}
 use Rattle.core_state.specs.States.{IsActor, IsState, State, actor_count, mine, other_holder, with_mine}
 use Rattle.core_state.specs.Events.{CommitGives, intended_by}
 use Rattle.core_volume.specs.Uncommitted.{IsCommitFault}
@@ -18,7 +19,7 @@ use Rattle.core_volume.specs.declared.commit.VolumeFault.{VolumeFault}
 use Rattle.core_volume.specs.declared.commit.VolumeFault.TheVariants.{NoMemory, Refused}
 use Rattle.core_volume.specs.Volumes.{IsVolume, Volume}
 use Rattle.core_actors.specs.declared.actor.Actor.{Actor}
-use Rattle.core_state.proofs.Kept.{free-no_looks, holder-given_back, no_looks-given}
+use Rattle.core_state.proofs.Kept.{free-no_looks, holder-given_back, kept, no_looks-given, noted-kept}
 
 -- What an actor has under way that has no transaction goes with any keys.
 free-actor : (volume : Volume) (turn : Option ℕ) (number : ℕ) (actor : Actor) → holds actor ≡ false → IfSome actor.intended (AreIntended volume.layout.metadata_replicas) → IsActor volume turn number actor
@@ -99,6 +100,38 @@ module _ (volume : Volume) (actors : List Actor) (turn : Option ℕ) (is : IsSta
   mine_was =
       get_or_default actors actor idle_actor mine_now (subst (λ (n : ℕ). actor < n) (sym is.count) there) ∙ ap (λ (n : ℕ). slice_index_or actors n mine_now) (sym at) ∙ sym value
 
+  intended_is : intended_by (record { volume = volume; actors = actors; turn = turn }) actor ≡ updates
+  intended_is = ap (λ (a : Actor). unwrap_or a.intended []) mine_was ∙ ap (λ (o : Option (List Update)). unwrap_or o []) intends
+
+  -- Updates that were made are the actor's no longer, and its turn is given back.
+  pub made-gives : (counted : Bool) (new : Volume) → IsAllowed volume updates counted → IsCommitted updates counted volume new
+      → (rest : Option (List Update)) (after : Actor) → after ≡ committed counted (record mine_now { intended = rest }) → (left : Option ℕ) → left ≡ other_holder actor turn
+      → CommitGives (record { volume = volume; actors = actors; turn = turn }) actor counted Done (record { volume = new; actors = slice_set actors index after; turn = left })
+  made-gives counted new allowed made rest after same left given = record {
+    allowed = subst (λ (us : List Update). IsAllowed volume us counted) (sym intended_is) allowed;
+    made = subst (λ (us : List Update). IsCommitted us counted volume new) (sym intended_is) made;
+    state = λ i. record { volume = new; actors = slice_set actors (at i) ((same ∙ by counted ∙ ap (committed counted) (sym mine_was)) i); turn = given i };
+  }
+    where
+      by : (c : Bool) → committed c (record mine_now { intended = rest }) ≡ committed c mine_now
+      by true = refl
+      by false = refl
+
+  -- What the actor intends may be intended.
+  pub intended-are : AreIntended volume.layout.metadata_replicas updates
+  intended-are = subst (λ (o : Option (List Update)). IfSome o (AreIntended volume.layout.metadata_replicas)) (ap (λ (a : Actor). a.intended) mine_was ∙ intends) (is.each actor).intended
+
+  -- What is kept stays so where updates are given back, and why is noted.
+  pub refused-state : (why : VolumeFault) (new : Volume) → new ≡ volume → (back : List Update) → back ≡ updates
+      → (after : Actor) → after ≡ noted_fault why (record mine_now { intended = Some back }) → IsState (record { volume = new; actors = slice_set actors index after; turn = turn })
+  refused-state why new same back kept_back after noted =
+      let old : State = record { volume = volume; actors = actors; turn = turn } in
+      let mine_back : record mine_now { intended = Some back } ≡ mine old actor =
+      ap (λ (us : List Update). record mine_now { intended = Some us }) kept_back ∙ ap (λ (o : Option (List Update)). record mine_now { intended = o }) (sym intends) ∙ sym mine_was in
+      let after_is : after ≡ noted_fault why (mine old actor) = noted ∙ ap (noted_fault why) mine_back in
+      subst IsState (sym (λ i. record { volume = same i; actors = slice_set actors (at i) (after_is i); turn = turn }))
+      (kept old is actor there (noted_fault why (mine old actor)) turn (noted-kept volume turn actor (mine old actor) (is.each actor) why) (λ number other has. has) is.holder)
+
   -- Updates that weren't committed are given back, and why is noted.
   pub refused-gives : (counted : Bool) (why : VolumeFault) → IsCommitFault volume updates counted why → (new : Volume) → new ≡ volume → (back : List Update) → back ≡ updates
       → (after : Actor) → after ≡ noted_fault why (record mine_now { intended = Some back }) → (answer : Answer) → answer ≡ answer_of_fault why
@@ -115,10 +148,7 @@ module _ (volume : Volume) (actors : List Actor) (turn : Option ℕ) (is : IsSta
           ≡ with_mine actor (noted_fault why (mine (record { volume = volume; actors = actors; turn = turn }) actor)) (record { volume = volume; actors = actors; turn = turn })
       new_is = λ i. record { volume = same i; actors = slice_set actors (at i) ((noted ∙ ap (noted_fault why) mine_back) i); turn = turn }
 
-      intends_old : intended_by (record { volume = volume; actors = actors; turn = turn }) actor ≡ updates
-      intends_old = ap (λ (a : Actor). unwrap_or a.intended []) mine_was ∙ ap (λ (o : Option (List Update)). unwrap_or o []) intends
-
       by : (w : VolumeFault) → IsCommitFault volume updates counted w
           → CommitGives (record { volume = volume; actors = actors; turn = turn }) actor counted (answer_of_fault w) (with_mine actor (noted_fault w (mine (record { volume = volume; actors = actors; turn = turn }) actor)) (record { volume = volume; actors = actors; turn = turn }))
-      by (Refused refusal) why_is = (subst (λ (us : List Update). IsRefused volume us counted refusal) (sym intends_old) why_is, refl)
+      by (Refused refusal) why_is = (subst (λ (us : List Update). IsRefused volume us counted refusal) (sym intended_is) why_is, refl)
       by NoMemory why_is = λ i. record { volume = volume; actors = set-get_or actors actor idle_actor i; turn = turn }

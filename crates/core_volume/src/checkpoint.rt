@@ -108,7 +108,7 @@ impl Volume {
         commits_are_undone();
         let _ = self.dirty.pin_of(0);
         let durable = self.writer.durable().sequence;
-        freeze_leaf(
+        if let Err(fault) = freeze_leaf(
             alloc,
             &self.layout,
             self.session,
@@ -120,7 +120,9 @@ impl Volume {
             &mut self.dirty,
             &mut self.pool,
             &mut self.nodes,
-        )?;
+        ) {
+            return Err(fault);
+        }
         Ok(())
     }
 

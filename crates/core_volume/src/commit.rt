@@ -151,9 +151,9 @@ fn join(
     let _ = keys.map().height(Btree::Extents);
     commits_are_undone();
     let seq = entry_of(queue, updates.as_slice(), size, counted);
-    if reserve(queue, dirty, updates.as_slice(), size, paths).is_err() {
+    let Ok(()) = reserve(queue, dirty, updates.as_slice(), size, paths) else {
         return Err(unmade(updates));
-    }
+    };
     match keys.apply(alloc, &updates) {
         Err(_) => Err(unmade(updates)),
         Ok(before) => {

@@ -51,3 +51,7 @@ pub prefix_grows : (old held new bytes : List ℕ) (given n : ℕ) → held ≡ 
 prefix_grows old held new bytes given n so_far more =
     let next : List ℕ = take n (take (length bytes - given) (drop given bytes)) in
     more ∙ ap (λ list. list ++ next) so_far ∙ append_assoc old (take given bytes) next ∙ ap (λ list. old ++ (take given bytes ++ take n list)) (take_rest bytes given) ∙ ap (λ list. old ++ list) (sym (take-add given n bytes))
+
+-- what is left where so many bytes were copied to the start of a piece
+pub taken_to : (n most : ℕ) (piece old rest : List ℕ) → n ≤ length piece → n ≤ most → old ≡ take n piece ++ rest → TakesUpTo most old rest
+taken_to n most piece old rest fits few is = (n, few, rest_after n (record { whole = is }) (length-take-le n piece fits))

@@ -94,7 +94,9 @@ impl Source for MemSource {
             (min (length into.old) (length self.old.left))) }
         ensures call { CountsCall result self.old.calls self.new.calls }
     {
-        self.calls.begin()?;
+        let Ok(()) = self.calls.begin() else {
+            return Err(Failed);
+        };
         let left = &self.bytes[self.taken..];
         let n = self.calls.most().min(into.len().min(left.len()));
         into[..n].copy_from_slice(&left[..n]);
@@ -232,9 +234,13 @@ impl<D: Devices> Sink<D> for MemSink {
             (λ _. self.old.room ≤ self.new.room) }
         ensures call { CountsCall result self.old.calls self.new.calls }
     {
-        self.calls.begin()?;
+        let Ok(()) = self.calls.begin() else {
+            return Err(Failed);
+        };
         let n = self.calls.most().min(from.len());
-        self.make_room(n)?;
+        let Ok(()) = self.make_room(n) else {
+            return Err(Failed);
+        };
         if self.bytes.extend_from_slice(&from[..n]).is_err() {
             unreachable!()
         }

@@ -121,7 +121,11 @@ fn take_piece<S: Source>(
 {
     let asked = most.min(piece.len());
     let prefix = &mut piece[..asked];
-    let n = source.take(prefix)?;
-    bytes.extend_from_slice(&prefix[..n])?;
+    let Ok(n) = source.take(prefix) else {
+        return Err(TakeFault::ReadFault);
+    };
+    let Ok(()) = bytes.extend_from_slice(&prefix[..n]) else {
+        return Err(TakeFault::NoMemory);
+    };
     Ok(n)
 }

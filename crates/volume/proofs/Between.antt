@@ -1,5 +1,5 @@
 -- What is kept between operations is kept by a call.
-use Rattle.std.proofs.Common.{◌≡◌, ℕ, ◌≤◌, ◌<◌, ◌^◌, length, Result, Ok, Err, sym, ap, subst}
+use Rattle.std.proofs.Common.{◌≡◌, ◌∙◌, ℕ, ◌≤◌, ◌<◌, ◌^◌, length, Result, Ok, Err, sym, ap, subst}
 use Rattle.std.specs.Prelude.{IfOk, OnErr}
 use Rattle.std.specs.declared.alloc.AllocError.{AllocError}
 use Rattle.dev_model.specs.Devices.{AreFaultCounts, DevicesState}
@@ -10,9 +10,10 @@ use Rattle.forest_ops.specs.declared.operation.Reply.{Reply}
 use Rattle.image_view.specs.Found.{Found}
 use Rattle.vol_core.specs.Room.{HasRoomForNext, LeavesRoom, MayKeepRoom}
 use Rattle.vol_session.specs.Sessions.{SessionState}
+use Rattle.vol_session.specs.Shortages.{IsHelped, ShortageState}
 use Rattle.vol_session.specs.Survivors.{BeginsWell}
 use Rattle.volume.specs.Serving.{IsHelpedStill, IsServed, IsUnserved}
-use Rattle.volume.specs.States.{AreUnspent, IsBetween, KeepsFailures}
+use Rattle.volume.specs.States.{AreUnspent, IsBetween, KeepsFailures, VolumeState}
 use Rattle.volume.proofs.Unspent.{unspent_later, unspent_served}
 use Rattle.vol_session.specs.Numbers.{HasNumbersLeft, IsFarFromSpent}
 use Rattle.volume.proofs.Failing.{failures_later, failures_served}
@@ -75,3 +76,46 @@ module _ {D : Type 0} (tells : Type 0) (begun : Found) (start : DevicesState) (s
       → IfOk result (λ reply. IsServed begun state client op reply mid new) → OnErr result (IsUnserved state mid new) → Keeps new
   keeps_call result client op old mid new same left may room counting helped keeps served unserved =
       keeps_result mid new left may room (subst (λ (s : SessionState D). AreCounting s.core.devices) (sym same) counting) helped (subst Keeps (sym same) keeps) result client op served unserved
+
+-- Where nothing is left to be done about commits that were refused, it is the same twice.
+helped_alike : (one other : ShortageState) → IsHelped one → IsHelped other → one ≡ other
+helped_alike one other first second = λ i. record { unmet = (first.met ∙ sym second.met) i; untried = (first.tried ∙ sym second.tried) i }
+
+-- the volume of a session that was called so often
+abbrev pub volume_of : {D : Type 0} → ℕ → SessionState D → VolumeState D
+volume_of calls session = record { core = session.core; trace = session.trace; acks = session.acks; commits = session.commits; spare = session.spare; shortages = session.shortages; calls = calls }
+
+module _ {D : Type 0} (state : D → DevicesState) (result : Result Reply AllocError) (client : ℕ) (op : Op) (begun : Found) (old mid new : SessionState D) (same : mid ≡ record old { spare = mid.spare }) where
+  -- A call that wasn't served leaves the session but for what is in memory,
+  pub unserved_call : (calls : ℕ) → IsHelped old.shortages → IsHelpedStill mid new → OnErr result (IsUnserved state mid new)
+      → OnErr result (volume_of calls new ≡ record (volume_of calls old) { core = new.core; spare = new.spare })
+  unserved_call calls before helped unserved = by result unserved
+    where
+      after : IsHelped new.shortages
+      after = helped (subst (λ (s : SessionState D). IsHelped s.shortages) (sym same) before)
+
+      left : IsUnserved state mid new → new ≡ record old { core = new.core; spare = new.spare }
+      left is =
+          is.same ∙ ap (λ (s : SessionState D). record s { core = new.core; spare = new.spare; shortages = new.shortages }) same
+          ∙ ap (λ (s : ShortageState). record old { core = new.core; spare = new.spare; shortages = s }) (helped_alike new.shortages old.shortages after before)
+
+      by : (r : Result Reply AllocError) → OnErr r (IsUnserved state mid new)
+          → OnErr r (volume_of calls new ≡ record (volume_of calls old) { core = new.core; spare = new.spare })
+      by (Ok reply) is = tt
+      by (Err error) is = ap (λ (s : SessionState D). volume_of calls s) (left is)
+
+  -- and no call of a device failed.
+  pub unserved_faults : OnErr result (IsUnserved state mid new) → OnErr result ((state new.core.devices).faults ≡ (state old.core.devices).faults)
+  unserved_faults unserved = by result unserved
+    where
+      by : (r : Result Reply AllocError) → OnErr r (IsUnserved state mid new) → OnErr r ((state new.core.devices).faults ≡ (state old.core.devices).faults)
+      by (Ok reply) is = tt
+      by (Err error) is = is.unfailed ∙ ap (λ (s : SessionState D). (state s.core.devices).faults) same
+
+  -- The devices go on in any case.
+  pub call_goes_on : IfOk result (λ reply. IsServed begun state client op reply mid new) → OnErr result (IsUnserved state mid new) → GoOn (state old.core.devices) (state new.core.devices)
+  call_goes_on served unserved = subst (λ (s : SessionState D). GoOn (state s.core.devices) (state new.core.devices)) same (by result served unserved)
+    where
+      by : (r : Result Reply AllocError) → IfOk r (λ reply. IsServed begun state client op reply mid new) → OnErr r (IsUnserved state mid new) → GoOn (state mid.core.devices) (state new.core.devices)
+      by (Ok reply) served unserved = served.goes_on
+      by (Err error) served unserved = unserved.goes_on

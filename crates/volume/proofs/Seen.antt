@@ -25,7 +25,10 @@ use Rattle.vol_types.specs.declared.layout.Layout.{Layout}
 use Rattle.vol_types.specs.declared.pointers.Place.{Place}
 use Rattle.vol_types.specs.declared.positions.Btree.TheVariants.{Snapshots}
 use Rattle.vol_types.specs.declared.positions.Pos.{Pos}
-use Rattle.volume.specs.Planning.{ids_told}
+use Rattle.core_volume.specs.Volumes.{Volume}
+use Rattle.dev_model.specs.Devices.{DevicesState}
+use Rattle.volume.specs.Planning.{ids_told, standing_in}
+use Rattle.volume.specs.Serving.{IsStepped}
 
 -- Changes made in turn leave a key map one.
 made_map : (changes : List KeyChanges) (keys : KeyMap) → IsKeyMap keys → IsKeyMap (all_made changes keys)
@@ -81,3 +84,10 @@ plan_shown {D} kept session view asking client plan asks same is shown holds =
     subst (λ (s : SessionState D). IsPlanNow s.core.memory client plan) (sym shown)
     (plan_now view.core.memory (subst (λ (s : SessionState D). IsState s.core.memory) shown (subst IsState same is)) client plan
     (λ keys nodes layout given sound tidy. subst (λ (n : ℕ). IsPlanOf keys nodes layout n plan) asks (holds keys nodes layout given sound tidy)))
+
+-- What stays while an operation is planned stays where only what a client has under way has changed.
+pub stands_still : {D : Type 0} (state : D → DevicesState) (old new : SessionState D) → IsStepped old new → standing_in state new ≡ standing_in state old
+stands_still {D} state old new stepped =
+    ap (λ (s : SessionState D). standing_in state s) stepped.rest
+    ∙ ap (λ (volume : Volume). record (standing_in state old) { keys = keys_in volume.trees; halted = volume.halted; devices = state new.core.devices }) stepped.volume
+    ∙ ap (λ (devices : D). record (standing_in state old) { devices = state devices }) stepped.devices

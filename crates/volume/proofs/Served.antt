@@ -157,6 +157,17 @@ module _ {D : Type 0} (begun : Found) (state : D → DevicesState) (client : ℕ
         rest = rest;
       }
 
+  -- An entry that was told with nothing under way joined the history.
+  pub told_entered : (op : Op) (reply : Reply) (old new : SessionState D) → IsAtRest old.core.memory → new ≡ record old { trace = old.trace ++ entry_of client op reply ∷ []; spare = new.spare } → IsEntered client op reply old new
+  told_entered op reply old new rest told =
+      let core : new.core ≡ old.core = ap (λ (s : SessionState D). s.core) told in
+      record {
+        entry = told ∙ ap (λ (c : CoreState D). record old { core = c; trace = old.trace ++ entry_of client op reply ∷ []; spare = new.spare }) (sym core);
+        volume = ap (λ (c : CoreState D). c.memory.volume) core;
+        devices = ap (λ (c : CoreState D). c.devices) core;
+        rest = subst (λ (c : CoreState D). IsAtRest c.memory) (sym core) rest;
+      }
+
   -- An entry that shows no failure of a device answers an operation, where its cause and its halt are the volume's.
   pub entered_served : (op : Op) (reply : Reply) (old new : SessionState D) → IsEntered client op reply old new → synced_count reply ≡ None
       → HasCause begun client op reply old.core.memory.volume (state old.core.devices).faults (state old.core.devices).faults
@@ -365,6 +376,11 @@ module _ {D : Type 0} (begun : Found) (state : D → DevicesState) (client : ℕ
       → IfOk result (λ reply. IsServed begun state client op reply old new)
   lack_result (Ok reply) op short old new lacks entered is = lack_served op reply short old new is lacks entered
   lack_result (Err error) op short old new lacks entered is = tt
+
+  -- Where there was no memory to tell that, the session is unserved.
+  pub unlacked_result : (result : Result Reply AllocError) (old new : SessionState D) → OnErr result (IsStepped old new) → OnErr result (IsAtRest new.core.memory) → OnErr result (IsUnserved state old new)
+  unlacked_result (Ok reply) old new stepped rest = tt
+  unlacked_result (Err error) old new stepped rest = moved_unserved old new (stepped_moves old new stepped) rest
 
   -- What was answered after the session was moved is answered,
   pub served_later : (result : Result Reply AllocError) (op other : Op) (old mid new : SessionState D) → IsMoved state old mid → other ≡ op → IfOk result (λ reply. IsServed begun state client other reply mid new) → IfOk result (λ reply. IsServed begun state client op reply old new)

@@ -9,8 +9,6 @@ use Rattle.core_volume.specs.Volumes.{Volume}
 use Rattle.core_actors.specs.declared.answer.Answer.{Answer}
 use Rattle.core_actors.specs.declared.answer.Answer.TheVariants as answers
 use Rattle.vol_types.specs.declared.failure.Halt.{Halt}
-use Rattle.core_actors.specs.declared.answer.Refusal.{Refusal}
-use Rattle.core_actors.specs.declared.answer.Refusal.TheVariants as refusals
 use Rattle.dev_model.specs.Devices.{DevicesState}
 use Rattle.dev_model.specs.Frames.{GoOn}
 use Rattle.forest_ops.specs.Acknowledged.{synced_count}

@@ -3,7 +3,7 @@ use Rattle.volume.proofs.Acting.{done_still, plan_intended}
 use Rattle.volume.proofs.Helped.{failure_keeps, same_helped, step_keeps}
 use Rattle.volume.proofs.Lacking.{entry_is_full}
 use Rattle.volume.proofs.Replying.{change_changes, change_is_done, plan_changes, plan_is_done}
-use Rattle.volume.proofs.Served.{lack_result, served_later, stepped_moves}
+use Rattle.volume.proofs.Served.{lack_result, served_later, stepped_moves, unlacked_result, unserved_later}
 use Rattle.volume.proofs.committing.make.Goals as goal
 
 pub lack-requires-clause-changes : goal.lack-requires-clause-changes
@@ -40,3 +40,29 @@ returns-then-not-intend-clause-helped g c =
 
 pub returns-clause-helped : goal.returns-clause-helped
 returns-clause-helped g c = λ helped. c.commit.ensures.helped (same_helped c.args.session.now c.intend.new.session (step_keeps c.args.session.now c.intend.new.session c.intend.ensures.stepped) helped)
+
+pub returns-then-not-intend-clause-unserved : goal.returns-then-not-intend-clause-unserved
+returns-then-not-intend-clause-unserved g c =
+    let found = g.O.Opening.found in
+    let state = g.D.Devices.state in
+    let client = c.args.client in
+    let mid = c.intend.new.session in
+    unserved_later found state client c.lack.result c.args.session.now mid c.lack.new.session (stepped_moves found state client c.args.session.now mid c.intend.ensures.stepped)
+    (unlacked_result found state client c.lack.result mid c.lack.new.session c.lack.ensures.stepped c.lack.ensures.rest)
+
+pub returns-clause-served : goal.returns-clause-served
+returns-clause-served g c =
+    let found = g.O.Opening.found in
+    let state = g.D.Devices.state in
+    let client = c.args.client in
+    let op = c.args.plan.op in
+    let mid = c.intend.new.session in
+    served_later found state client c.commit.result op op c.args.session.now mid c.commit.new.session (stepped_moves found state client c.args.session.now mid c.intend.ensures.stepped) refl c.commit.ensures.served
+
+pub returns-clause-unserved : goal.returns-clause-unserved
+returns-clause-unserved g c =
+    let found = g.O.Opening.found in
+    let state = g.D.Devices.state in
+    let client = c.args.client in
+    let mid = c.intend.new.session in
+    unserved_later found state client c.commit.result c.args.session.now mid c.commit.new.session (stepped_moves found state client c.args.session.now mid c.intend.ensures.stepped) c.commit.ensures.unserved

@@ -7,7 +7,7 @@ use Rattle.volume.specs.Serving.{IsHelpless}
 use Rattle.volume.proofs.Helped.{entry_keeps, failure_keeps}
 use Rattle.volume.proofs.Lacking.{buckets_are_full, commit_is_spent, leaf_is_full, ring_is_full}
 use Rattle.volume.proofs.Replying.{change_changes, intended_is_done}
-use Rattle.volume.proofs.Served.{lack_result, spent_served}
+use Rattle.volume.proofs.Served.{halted_served, lack_result, spent_served, unlacked_result}
 use Rattle.volume.proofs.committing.refuse.Goals as goal
 
 pub fail_halted-requires-clause-changes : goal.fail_halted-requires-clause-changes
@@ -83,3 +83,48 @@ returns-in-RingFull-clause-shortages g c = failure_keeps c.args.session.now c.la
 
 pub returns-in-NoSpace-clause-shortages : goal.returns-in-NoSpace-clause-shortages
 returns-in-NoSpace-clause-shortages g c = failure_keeps c.args.session.now c.lack-in-NoSpace.new.session c.args.client c.args.op c.lack-in-NoSpace.result c.lack-in-NoSpace.ensures.entered c.lack-in-NoSpace.ensures.stepped
+
+pub returns-in-Halted-clause-served : goal.returns-in-Halted-clause-served
+returns-in-Halted-clause-served g c =
+    let memory = c.args.session.now.core.memory in
+    let refused = subst (λ (refusal : Refusal). IsRefused memory.volume (intended_by memory c.args.client) true refusal) c.in-Halted.is c.requires.refused in
+    halted_served g.O.Opening.found g.D.Devices.state c.args.client c.args.op c.fail_halted.result c.in-Halted.halt c.args.session.now c.fail_halted.new.session c.fail_halted.ensures.reply refused c.fail_halted.ensures.entered
+
+pub returns-in-NeedSplit-clause-unserved : goal.returns-in-NeedSplit-clause-unserved
+returns-in-NeedSplit-clause-unserved g c = unlacked_result g.O.Opening.found g.D.Devices.state c.args.client c.lack.result c.args.session.now c.lack.new.session c.lack.ensures.stepped c.lack.ensures.rest
+
+pub returns-in-RingFull-clause-unserved : goal.returns-in-RingFull-clause-unserved
+returns-in-RingFull-clause-unserved g c = unlacked_result g.O.Opening.found g.D.Devices.state c.args.client c.lack-in-RingFull.result c.args.session.now c.lack-in-RingFull.new.session c.lack-in-RingFull.ensures.stepped c.lack-in-RingFull.ensures.rest
+
+pub returns-in-NoSpace-clause-unserved : goal.returns-in-NoSpace-clause-unserved
+returns-in-NoSpace-clause-unserved g c = unlacked_result g.O.Opening.found g.D.Devices.state c.args.client c.lack-in-NoSpace.result c.args.session.now c.lack-in-NoSpace.new.session c.lack-in-NoSpace.ensures.stepped c.lack-in-NoSpace.ensures.rest
+
+pub fail_halted-requires-clause-under : goal.fail_halted-requires-clause-under
+fail_halted-requires-clause-under g c = c.requires.intended.intended.under
+
+pub fail_halted-requires-clause-planned : goal.fail_halted-requires-clause-planned
+fail_halted-requires-clause-planned g c = c.requires.intended.intended.change.planned
+
+pub fail_spent-requires-clause-under : goal.fail_spent-requires-clause-under
+fail_spent-requires-clause-under g c = c.requires.intended.intended.under
+
+pub fail_spent-requires-clause-planned : goal.fail_spent-requires-clause-planned
+fail_spent-requires-clause-planned g c = c.requires.intended.intended.change.planned
+
+pub lack-requires-clause-under : goal.lack-requires-clause-under
+lack-requires-clause-under g c = c.requires.intended.intended.under
+
+pub lack-requires-clause-planned : goal.lack-requires-clause-planned
+lack-requires-clause-planned g c = c.requires.intended.intended.change.planned
+
+pub lack-requires-in-RingFull-clause-under : goal.lack-requires-in-RingFull-clause-under
+lack-requires-in-RingFull-clause-under g c = c.requires.intended.intended.under
+
+pub lack-requires-in-RingFull-clause-planned : goal.lack-requires-in-RingFull-clause-planned
+lack-requires-in-RingFull-clause-planned g c = c.requires.intended.intended.change.planned
+
+pub lack-requires-in-NoSpace-clause-under : goal.lack-requires-in-NoSpace-clause-under
+lack-requires-in-NoSpace-clause-under g c = c.requires.intended.intended.under
+
+pub lack-requires-in-NoSpace-clause-planned : goal.lack-requires-in-NoSpace-clause-planned
+lack-requires-in-NoSpace-clause-planned g c = c.requires.intended.intended.change.planned
