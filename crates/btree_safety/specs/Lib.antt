@@ -1,0 +1,10 @@
+pub mod CheckpointBtrees
+pub mod CheckpointLaws
+pub mod FreshNodes
+pub mod KeptBtrees
+pub mod KeptKeys
+pub mod LeafVolumes
+pub mod NextBtrees
+pub mod NodeLaws
+pub mod StandingNodes
+pub mod StayingNodes
