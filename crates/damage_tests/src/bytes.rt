@@ -31,7 +31,7 @@ pub struct SetOf<'a> {
     pub keys: &'a [Change],
 }
 
-/// An entry, whose roots are those of a format but for the level of the last one. A long one sets 130 counters besides, and so takes two
+/// An entry, whose roots are those of a format but for the last one. A long one sets 130 counters besides, and so takes two
 /// blocks.
 #[derive(Clone, Copy)]
 pub struct EntryOf<'a> {
@@ -39,8 +39,9 @@ pub struct EntryOf<'a> {
     pub oldest: u64,
     pub session: u64,
     pub commits: u64,
-    /// The level of the root of Counters.
+    /// The level of the root of Counters, and its count and the first block of its bucket.
     pub level: u8,
+    pub root: (u64, u32),
     pub is_long: bool,
     /// The updates of Counters, each with its level.
     pub updates: &'a [(u8, Change)],
@@ -132,11 +133,11 @@ pub fn set_payload(
 }
 
 // The roots that a format makes, in the buckets behind a journal area of 256 blocks.
-fn put_roots(into: &mut Bytes, level: u8, devices: u8) -> Result<(), AllocError> {
+fn put_roots(into: &mut Bytes, entry: &EntryOf<'_>, devices: u8) -> Result<(), AllocError> {
     for count in 0..8 {
         put_node(into, count, 0, 272 + 16 * count as u32, devices)?;
     }
-    put_node(into, 8, level, 400, devices)
+    put_node(into, entry.root.0, entry.level, entry.root.1, devices)
 }
 
 // The updates that a long entry has besides: the counters from offset 100 on are set to its sequence.
@@ -157,7 +158,7 @@ fn put_numbers(into: &mut Bytes, entry: &EntryOf<'_>) -> Result<(), AllocError> 
 
 fn put_entry(into: &mut Bytes, entry: &EntryOf<'_>, devices: u8) -> Result<(), AllocError> {
     put_numbers(into, entry)?;
-    put_roots(into, entry.level, devices)?;
+    put_roots(into, entry, devices)?;
     let more = if entry.is_long { 130 } else { 0 };
     put_count(into, entry.updates.len().saturating_add(more))?;
     for (level, change) in entry.updates {

@@ -273,6 +273,7 @@ pub const FIRST: EntryOf<'static> = EntryOf {
     session: 1,
     commits: 0,
     level: 0,
+    root: (8, 400),
     is_long: false,
     updates: &[],
 };

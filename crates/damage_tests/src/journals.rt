@@ -423,6 +423,7 @@ fn put(alloc: Global, devices: &mut MemDevices, written: &Written) -> Result<(),
         session: written.session,
         commits: written.commits,
         level: 0,
+        root: (8, 400),
         is_long: written.is_long,
         updates: &updates,
     };

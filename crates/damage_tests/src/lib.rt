@@ -1,5 +1,5 @@
 //! Images of volumes that are made by hand, block by block, and what `read_plain` and `load` find in them or refuse: entries that are
-//! torn, that stand on one mirror alone or that wrap around the ring, nodes of one and of two levels, and 300 images of which random blocks
+//! torn, that stand on one mirror alone or that wrap around the ring, nodes of one, of two and of three levels, and 300 images of which random blocks
 //! are spoiled. Lists of what is found, of which some are no key map. And what a format writes, in its steps, and what a crash between
 //! them leaves. The crate holds tests alone.
 #![tactic(auto)]
@@ -18,6 +18,8 @@ mod images;
 mod journals;
 #[cfg(test)]
 mod key_maps;
+#[cfg(test)]
+mod levels;
 #[cfg(test)]
 mod losses;
 #[cfg(test)]

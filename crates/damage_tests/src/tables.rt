@@ -100,6 +100,7 @@ const SHORT: EntryOf<'static> = EntryOf {
     session: 1,
     commits: 0,
     level: 1,
+    root: (8, 400),
     is_long: false,
     updates: &[],
 };
