@@ -43,8 +43,8 @@ fn a_sink_that_fails_stops_no_run(rt: HostRuntime) -> Result<(), Fail> {
     Ok(())
 }
 
-// The calls before the first line: superblocks, sessions, the journal from call 4 on, nine roots from call 260 on, the next session, and
-// the entry. All 16 blocks of a root are read before it is judged.
+// The calls before the first line, but for the block of each root that is read once more: superblocks, sessions, the journal from call 4 on,
+// nine roots from call 260 on, the next session, and the entry. All 16 blocks of a root are read before it is judged.
 static EARLY: [(u64, u64); 14] = [
     (0, 1),
     (1, 2),
@@ -141,28 +141,28 @@ static SEVERAL: [&[Step]; 5] = [
     ],
     &[
         Step::Fail {
-            call: 408,
+            call: MOUNTING + 1,
             stays: false,
         },
         Step::Run(Trial {
             failing_gives: &[0],
             status: Some(5),
             entries: Some(2),
-            calls: Some(409),
+            calls: Some(MOUNTING + 2),
             printed: Some(b""),
             ..MAKE
         }),
     ],
     &[
         Step::Fail {
-            call: 409,
+            call: MOUNTING + 2,
             stays: false,
         },
         Step::Run(Trial {
             failing_gives: &[1],
             status: Some(5),
             entries: Some(2),
-            calls: Some(410),
+            calls: Some(MOUNTING + 3),
             printed: Some(b"@0 1 ok\n"),
             ..MAKE
         }),
